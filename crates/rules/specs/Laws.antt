@@ -1,1 +1,2 @@
-pub mod Lists
+pub mod Sheet
+pub mod Value

@@ -1,2 +1,5 @@
 pub mod Lists
+pub mod Sheet
+pub mod Columns
+pub mod Value
 pub mod Laws

@@ -1,0 +1,1 @@
+-- Laws of `Sheet`: the lines of a sheet one by one, and a line that is printed is read back.

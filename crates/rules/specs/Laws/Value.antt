@@ -1,0 +1,1 @@
+-- Laws of `Value`: what the substrings test means, and that order and equality agree.
