@@ -2,4 +2,16 @@ pub mod Lists
 pub mod Sheet
 pub mod Columns
 pub mod Value
+pub mod Name
+pub mod Judge
+pub mod Directory
+pub mod Permission
+pub mod Decision
+pub mod Filter
+pub mod Request
+pub mod FilterItem
+pub mod Answer
+pub mod Serve
+pub mod Shown
 pub mod Laws
+pub mod Secrecy

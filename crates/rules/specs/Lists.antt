@@ -27,6 +27,15 @@ module _ {ℓ} {A : Type ℓ} where
   first p [] = none
   first p (x ∷ xs) = firstOr (p x) x (first p xs)
 
+  -- the last element, `z` where there is none
+  abbrev pub lastOr : A → List A → A
+  lastOr z [] = z
+  lastOr z (x ∷ xs) = lastOr x xs
+
+  abbrev pub optional : Option A → List A
+  optional none = []
+  optional (some x) = x ∷ []
+
   abbrev pub isEmpty : List A → Bool
   isEmpty [] = true
   isEmpty (x ∷ xs) = false

@@ -1,0 +1,22 @@
+-- Laws of `Judge`: what a verdict that accepts tells of its tests.
+use Prim.Native.Nat.{ℕ}
+use mathlib.Core.Path.{_≡_, refl, sym, _∙_}
+use mathlib.Core.Bool.{Bool, true, false}
+use native.Mathlib.Omega.{arith}
+use Rattle.rules.specs.Judge.{Verdict, accept, refuse, refuseIf, then}
+
+module _ {A : Type 0} where
+  pub refused-not : (n : ℕ) (a : A) → refuse n ≡ accept a → ⊥
+  refused-not n a e = let z : _≡_ {A = ℕ} 0 1 = cc in omega arith
+
+  pub accepted-is : {a b : A} → accept a ≡ accept b → a ≡ b
+  accepted-is e = cc
+
+  -- a test that was passed over
+  pub not-refused : (b : Bool) (n : ℕ) (v : Verdict A) (a : A) → refuseIf b n v ≡ accept a → (b ≡ false) × (v ≡ accept a)
+  not-refused true n v a e = absurd (refused-not n a e)
+  not-refused false n v a e = (refl, e)
+
+pub then-accepts : {A B : Type 0} (v : Verdict A) (next : A → Verdict B) (b : B) → then v next ≡ accept b → (a : A) × (v ≡ accept a) × (next a ≡ accept b)
+then-accepts (accept a) next b e = (a, refl, e)
+then-accepts (refuse n) next b e = absurd (refused-not n b e)

@@ -1,0 +1,2 @@
+pub mod FromShown
+pub mod Demand3

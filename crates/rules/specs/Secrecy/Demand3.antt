@@ -1,0 +1,94 @@
+-- Demand 3, entire, over sheets of bytes: two accepted directories of one schema that are alike in all that a requester is shown under one
+-- permission sheet give that requester, for every request and buffer length, the same outcome, bytes, incompleteness mark and refusal.
+use mathlib.Core.Path.{_≡_, refl, sym, ap, _∙_, subst}
+use Prim.Native.Nat.{ℕ}
+use mathlib.Core.Bool.{Bool, true, false, _||_}
+use mathlib.Core.List.{List, [], _∷_}
+use lib.Dec.{eqb}
+use borrow.Author.Tests.{eqb-true}
+use Rattle.rules.specs.Lists.{any}
+use Rattle.rules.specs.Sheet.{Bytes, Line, print}
+use Rattle.rules.specs.Name.{Schema, Name}
+use Rattle.rules.specs.Judge.{Verdict, accept, refuse, then}
+use Rattle.rules.specs.Directory.{Directory, Entry, entries, directoryOf}
+use Rattle.rules.specs.Permission.{Item, permissionsOf, Read, Browse, ReturnDN, DiscloseOnError, Compare, FilterMatch}
+use Rattle.rules.specs.Decision.{Setting, Requester, entry, ofType, ofValue, granted}
+use Rattle.rules.specs.Request.{Operation, Request, requestOf}
+use Rattle.rules.specs.Answer.{answer}
+use Rattle.rules.specs.Serve.{settingOf, fitting, respond, serveAt, serve, width}
+use Rattle.rules.specs.Shown.{Sight, shownBy, ofEntries, ofTypes, ofValues, sight, shown, Alike}
+use Rattle.rules.specs.Laws.Tests.{or-right}
+use Rattle.rules.specs.Laws.Directory.{Accepted, accepted-means, once-named}
+use Rattle.rules.specs.Secrecy.FromShown.{Enough, answer-shown}
+
+-- one of the permissions is granted
+pub one-of : (f : ℕ → Bool) (q : ℕ) (qs : List ℕ) → any (eqb q) qs ≡ true → f q ≡ true → any f qs ≡ true
+one-of f q [] m e = m
+one-of f q (r ∷ rs) m e = go (eqb q r) refl m (λ n. one-of f q rs n e)
+  where
+    go : (b : Bool) → eqb q r ≡ b → (b || any (eqb q) rs) ≡ true → (any (eqb q) rs ≡ true → any f rs ≡ true) → (f r || any f rs) ≡ true
+    go true i n ih = rw (ap f (sym (eqb-true q r i)) ∙ e)
+    go false i n ih = or-right (f r) (any f rs) (ih n)
+
+-- what demand 3 names is enough
+sight-enough : (σ : Setting) → Enough σ (sight σ)
+unfolding sight
+sight-enough σ = record {
+  entryRead = λ n. one-of (granted σ n entry) Read ofEntries refl;
+  entryReturned = λ n. one-of (granted σ n entry) ReturnDN ofEntries refl;
+  entryDisclosed = λ n. one-of (granted σ n entry) DiscloseOnError ofEntries refl;
+  typeRead = λ n t. one-of (granted σ n (ofType t)) Read ofTypes refl;
+  typeCompared = λ n t. one-of (granted σ n (ofType t)) Compare ofTypes refl;
+  typeFiltered = λ n t. one-of (granted σ n (ofType t)) FilterMatch ofTypes refl;
+  typeDisclosed = λ n t. one-of (granted σ n (ofType t)) DiscloseOnError ofTypes refl;
+  valueRead = λ n t v. one-of (granted σ n (ofValue t v)) Read ofValues refl;
+  valueCompared = λ n t v. one-of (granted σ n (ofValue t v)) Compare ofValues refl;
+  valueFiltered = λ n t v. one-of (granted σ n (ofValue t v)) FilterMatch ofValues refl;
+}
+
+-- an accepted directory's answer, from what is shown of it
+answer-from-shown : (σ : Setting) (d : Directory) → σ .schema ≡ d .schema → Accepted (d .schema) (d .entries) → (n : Name) (o : Operation)
+    → answer σ (entries d) n o ≡ answer σ (shown σ d) n o
+unfolding shown entries
+answer-from-shown σ d e ok n o =
+    sym (answer-shown σ (sight σ) (sight-enough σ) (entries d) n (once-named (σ .schema) (d .entries) (subst (λ (S : Schema). Accepted S (d .entries)) (sym e) ok) n) o)
+
+-- directories of one schema that show the requester the same answer alike
+pub answers-alike : (d₁ d₂ : Directory) (is : List Item) (u : Requester) → Accepted (d₁ .schema) (d₁ .entries) → Accepted (d₂ .schema) (d₂ .entries) → d₁ .schema ≡ d₂ .schema
+    → shown (settingOf d₁ is u) d₁ ≡ shown (settingOf d₂ is u) d₂ → (n : Name) (o : Operation)
+    → answer (settingOf d₁ is u) (entries d₁) n o ≡ answer (settingOf d₂ is u) (entries d₂) n o
+answers-alike d₁ d₂ is u ok₁ ok₂ e same n o =
+    answer-from-shown (settingOf d₁ is u) d₁ refl ok₁ n o
+    ∙ (λ i. answer (record { schema = e i; items = is; requester = u }) (same i) n o)
+    ∙ sym (answer-from-shown (settingOf d₂ is u) d₂ refl ok₂ n o)
+
+then-cong : {A B : Type 0} (v : Verdict A) (f g : A → Verdict B) → ((a : A) → v ≡ accept a → f a ≡ g a) → then v f ≡ then v g
+then-cong (accept a) f g h = h a refl
+then-cong (refuse n) f g h = refl
+
+-- the theorem: for every permission sheet `p`, request sheet `q` and buffer length `room`
+pub demand-3-at : (w : ℕ) (d₁ d₂ p q : Bytes) (room : ℕ) → Alike w p q d₁ d₂ → serveAt w d₁ p q room ≡ serveAt w d₂ p q room
+unfolding serveAt respond
+demand-3-at w d₁ d₂ p q room k = rw (k .accepted₁, k .accepted₂) inner
+  where
+    D₁ : Directory
+    D₁ = k .first
+
+    D₂ : Directory
+    D₂ = k .second
+
+    same : (is : List Item) → permissionsOf w (D₁ .schema) p ≡ accept is → (r : Request) → requestOf w q ≡ accept r → respond w D₁ is r room ≡ respond w D₂ is r room
+    same is e r h =
+        ap (λ (ls : List Line). fitting room (print w ls))
+        (answers-alike D₁ D₂ is (r .requester) (accepted-means w d₁ D₁ (k .accepted₁)) (accepted-means w d₂ D₂ (k .accepted₂)) (k .schema)
+        (k .same is r e h) (r .base) (r .operation))
+
+    inner : then (permissionsOf w (D₁ .schema) p) (λ is. then (requestOf w q) (λ r. respond w D₁ is r room))
+        ≡ then (permissionsOf w (D₂ .schema) p) (λ is. then (requestOf w q) (λ r. respond w D₂ is r room))
+    inner =
+        then-cong (permissionsOf w (D₁ .schema) p) _ (λ is. then (requestOf w q) (λ r. respond w D₂ is r room))
+        (λ is e. then-cong (requestOf w q) (λ r. respond w D₁ is r room) (λ r. respond w D₂ is r room) (same is e))
+        ∙ ap (λ (S : Schema). then (permissionsOf w S p) (λ is. then (requestOf w q) (λ r. respond w D₂ is r room))) (k .schema)
+
+pub demand-3 : (d₁ d₂ p q : Bytes) (room : ℕ) → Alike width p q d₁ d₂ → serve d₁ p q room ≡ serve d₂ p q room
+demand-3 = demand-3-at width

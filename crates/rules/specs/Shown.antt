@@ -1,0 +1,65 @@
+-- Document 01, "Like directories": what a requester is shown, and when two directory sheets are alike.
+use Prim.Native.Nat.{ℕ}
+use mathlib.Core.Path.{_≡_}
+use mathlib.Core.Bool.{Bool}
+use mathlib.Core.List.{List, [], _∷_}
+use Rattle.rules.specs.Lists.{any, keep, sift}
+use Rattle.rules.specs.Sheet.{Bytes}
+use Rattle.rules.specs.Name.{Name}
+use Rattle.rules.specs.Judge.{accept}
+use Rattle.rules.specs.Directory.{Directory, directoryOf, Held, Entry, entries}
+use Rattle.rules.specs.Permission.{Item, permissionsOf, Read, Browse, ReturnDN, DiscloseOnError, Compare, FilterMatch}
+use Rattle.rules.specs.Decision.{Setting, Requester, entry, ofType, ofValue, granted}
+use Rattle.rules.specs.Request.{Request, requestOf}
+use Rattle.rules.specs.Serve.{settingOf}
+
+-- which entries are shown, which of their types, and which of those types' values
+pub record Sight : Type 0 where
+  pub entries : Name → Bool
+  pub types : Name → ℕ → Bool
+  pub values : Name → ℕ → Bytes → Bool
+
+module _ (g : Sight) where
+  unfoldable pub shownHeld : Name → Held → Held
+  shownHeld n h = record { type = h .type; values = keep (g .values n (h .type)) (h .values) }
+
+  unfoldable pub shownEntry : Entry → Entry
+  shownEntry e = record { name = e .name; held = sift (λ h. g .types (e .name) (h .type)) (shownHeld (e .name)) (e .held) }
+
+  -- "what is shown stands in directory order, types and values in the order of their lines"
+  unfoldable pub shownBy : List Entry → List Entry
+  shownBy es = sift (λ e. g .entries (e .name)) shownEntry es
+
+-- demand 3: "each entry with Read, Browse, ReturnDN or DiscloseOnError"
+abbrev pub ofEntries : List ℕ
+ofEntries = Read ∷ Browse ∷ ReturnDN ∷ DiscloseOnError ∷ []
+
+-- "the types it holds with Read, Compare, FilterMatch or DiscloseOnError"
+abbrev pub ofTypes : List ℕ
+ofTypes = Read ∷ Compare ∷ FilterMatch ∷ DiscloseOnError ∷ []
+
+-- "of those the values with one of these"
+abbrev pub ofValues : List ℕ
+ofValues = Read ∷ Compare ∷ FilterMatch ∷ DiscloseOnError ∷ []
+
+unfoldable pub sight : Setting → Sight
+sight σ = record {
+  entries = λ n. any (granted σ n entry) ofEntries;
+  types = λ n t. any (granted σ n (ofType t)) ofTypes;
+  values = λ n t v. any (granted σ n (ofValue t v)) ofValues;
+}
+
+-- what the requester of the setting is shown of a directory
+unfoldable pub shown : Setting → Directory → List Entry
+shown σ d = shownBy (sight σ) (entries d)
+
+-- two accepted directory sheets of one schema that are alike, under the permission sheet `p`, for the requester of the request sheet `q`;
+-- "where permissions get 11 to 14, or the request 21 to 23", one schema is enough
+pub record Alike (w : ℕ) (p q d₁ d₂ : Bytes) : Type 0 where
+  pub first : Directory
+  pub second : Directory
+  pub accepted₁ : directoryOf w d₁ ≡ accept first
+  pub accepted₂ : directoryOf w d₂ ≡ accept second
+  pub schema : first .schema ≡ second .schema
+  pub same : (is : List Item) (r : Request) → permissionsOf w (first .schema) p ≡ accept is → requestOf w q ≡ accept r
+      → shown (settingOf first is (r .requester)) first ≡ shown (settingOf second is (r .requester)) second
