@@ -95,6 +95,10 @@ module _ (σ : Setting) where
   unfoldable pub listed : Name → Entry → Bool
   listed n e = childOf (σ .schema) n (e .name) && (granted σ (e .name) entry Browse && granted σ (e .name) entry ReturnDN)
 
+  -- "K 32 (A naming type, bytes)": the one part that a child's name has more than the base's
+  unfoldable pub listHit : Name → Entry → List Line
+  listHit n e = map (λ p. line 32 (p .type) 0 0 (p .value)) (drop (length n) (e .name))
+
   -- K 15: "0 base, 1 one level (base excluded), 2 subtree (base included)"
   unfoldable pub inSubset : ℕ → Name → Name → Bool
   inSubset b n m = cond (eqb b 0) (sameName (σ .schema) n m) (cond (eqb b 1) (childOf (σ .schema) n m) (covers (σ .schema) n m))
@@ -110,14 +114,21 @@ module _ (σ : Setting) where
   unfoldable pub found : Name → Search → Entry → Bool
   found n r e = candidate n (r .subset) e && isTrue (evaluate (itemTruth σ e) (r .filter))
 
+  -- "information as in read; none left is no error here"
+  unfoldable pub searchHit : Search → Entry → List Line
+  searchHit r e = entryLines (e .name) ++ information (r .selection) e
+
+  -- the entry has this name, and DiscloseOnError is granted on it
+  unfoldable pub disclosed : Name → Entry → Bool
+  disclosed n e = sameName (σ .schema) n (e .name) && granted σ (e .name) entry DiscloseOnError
+
   -- ---- the answer, from all entries
 
   module _ (es : List Entry) where
     -- the longest beginning of `n`, of at most `k` parts, "that names an entry with DiscloseOnError granted, else empty"
     unfoldable pub matchedName : Name → ℕ → Name
     matchedName n zero = []
-    matchedName n (suc k) =
-        orName (matchedName n k) (first (λ e. sameName (σ .schema) (take (suc k) n) (e .name) && granted σ (e .name) entry DiscloseOnError) es)
+    matchedName n (suc k) = orName (matchedName n k) (first (disclosed (take (suc k) n)) es)
 
     -- "noSuchObject, with the matched name as K 9 lines": a proper beginning of the name asked for
     unfoldable pub noSuchObject : ℕ → Name → List Line
@@ -135,16 +146,15 @@ module _ (σ : Setting) where
     -- "list and search with nothing to return give 1 unless DiscloseOnError is granted on the base"
     unfoldable pub returned : ℕ → Name → ℕ → List (List Line) → List Line
     returned op n limit hits =
-        cond (isEmpty hits && not (any (λ e. sameName (σ .schema) n (e .name) && granted σ (e .name) entry DiscloseOnError) es))
+        cond (isEmpty hits && not (any (disclosed n) es))
         (noSuchObject op n)
         (limited op limit hits)
 
-    -- "K 32 (A naming type, bytes)": the one part that a child's name has more than the base's
     unfoldable pub listHits : Name → List (List Line)
-    listHits n = gather (λ e. given (listed n e) (map (λ p. line 32 (p .type) 0 0 (p .value)) (drop (length n) (e .name)) ∷ [])) es
+    listHits n = gather (λ e. given (listed n e) (listHit n e ∷ [])) es
 
     unfoldable pub searchHits : Name → Search → List (List Line)
-    searchHits n r = gather (λ e. given (found n r e) ((entryLines (e .name) ++ information (r .selection) e) ∷ [])) es
+    searchHits n r = gather (λ e. given (found n r e) (searchHit r e ∷ [])) es
 
     unfoldable pub answer : Name → Operation → List Line
     answer n (read s) = opened 1 n (readEntry s) (named n)

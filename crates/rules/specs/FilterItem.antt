@@ -60,5 +60,8 @@ module _ (σ : Setting) where
 
   -- "undefined if the type is unknown, its value or piece does not fit the syntax, the syntax lacks the rule, or FilterMatch on the
   -- type is refused, held or not"
+  unfoldable pub decidable : Entry → Assertion → Bool
+  decidable e a = defined a && granted σ (e .name) (ofType (assertedType a)) FilterMatch
+
   unfoldable pub itemTruth : Entry → Assertion → Truth
-  itemTruth e a = cond (defined a && granted σ (e .name) (ofType (assertedType a)) FilterMatch) (truth (satisfied e a)) Undefined
+  itemTruth e a = cond (decidable e a) (truth (satisfied e a)) Undefined

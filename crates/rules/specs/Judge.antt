@@ -12,6 +12,11 @@ pub data Verdict (A : Type 0) : Type 0 where
   accept : A → Verdict A
   refuse : ℕ → Verdict A
 
+-- the refusal number; 0 where there is none
+abbrev pub refusalOf : {A : Type 0} → Verdict A → ℕ
+refusalOf (accept a) = 0
+refusalOf (refuse n) = n
+
 abbrev pub refuseIf : {A : Type 0} → Bool → ℕ → Verdict A → Verdict A
 refuseIf true n v = refuse n
 refuseIf false n v = v

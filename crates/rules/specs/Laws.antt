@@ -5,3 +5,6 @@ pub mod Value
 pub mod Name
 pub mod Judge
 pub mod Directory
+pub mod Absent
+pub mod ByNumber
+pub mod Decision

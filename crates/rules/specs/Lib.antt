@@ -13,5 +13,6 @@ pub mod FilterItem
 pub mod Answer
 pub mod Serve
 pub mod Shown
+pub mod Examples
 pub mod Laws
 pub mod Secrecy

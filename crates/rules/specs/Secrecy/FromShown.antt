@@ -15,9 +15,9 @@ use Rattle.rules.specs.Directory.{Held, Entry}
 use Rattle.rules.specs.Permission.{Read, Browse, ReturnDN, DiscloseOnError, Compare, FilterMatch}
 use Rattle.rules.specs.Decision.{Setting, Thing, entry, ofType, ofValue, granted}
 use Rattle.rules.specs.Filter.{Assertion, equality, atLeast, atMost, present, substrings, Filter, truth, isTrue, evaluate}
-use Rattle.rules.specs.FilterItem.{assertedType, holds, someValue, defined, satisfied, itemTruth}
+use Rattle.rules.specs.FilterItem.{assertedType, holds, someValue, defined, satisfied, decidable, itemTruth}
 use Rattle.rules.specs.Request.{Selection, Search, Operation, read, compare, list, search}
-use Rattle.rules.specs.Answer.{bit, outcome, nameLines, entryLines, valueLines, limited, selected, orName, typeLines, information, readEntry, compareEntry, listed, candidate, found, inSubset, matchedName, noSuchObject, named, opened, returned, listHits, searchHits, answer}
+use Rattle.rules.specs.Answer.{bit, outcome, nameLines, entryLines, valueLines, limited, selected, orName, typeLines, information, readEntry, compareEntry, listed, candidate, found, inSubset, disclosed, listHit, searchHit, matchedName, noSuchObject, named, opened, returned, listHits, searchHits, answer}
 use Rattle.rules.specs.Shown.{Sight, shownHeld, shownEntry, shownBy}
 use Rattle.rules.specs.Laws.Tests.{contra, and-left, and-right, and-cong, and-cong-left, cond-cong}
 use Rattle.rules.specs.Laws.Lists.{gather-sift, any-sift, first-sift, once-sift, Once}
@@ -97,9 +97,9 @@ module _ (σ : Setting) (g : Sight) where
       satisfied-shown (substrings t ps) m = someValue-shown e t FilterMatch _ (kt t m) (kv t)
 
       itemTruth-shown : (a : Assertion) → itemTruth σ (shownEntry g e) a ≡ itemTruth σ e a
-      unfolding itemTruth shownEntry
+      unfolding itemTruth decidable shownEntry
       itemTruth-shown a =
-          cond-cong (defined σ a && granted σ (e .name) (ofType (assertedType a)) FilterMatch)
+          cond-cong (decidable σ e a)
           (λ r. ap truth (satisfied-shown a (and-right (defined σ a) _ r))) (λ r. refl)
 
       -- items alone decide a filter
@@ -108,21 +108,21 @@ module _ (σ : Setting) (g : Sight) where
 
   -- ---- the matched name, and the entry that is named
 
-  module _ (disclosed : (n : Name) → granted σ n entry DiscloseOnError ≡ true → g .entries n ≡ true) (es : List Entry) where
+  module _ (shows : (n : Name) → granted σ n entry DiscloseOnError ≡ true → g .entries n ≡ true) (es : List Entry) where
     matchedName-shown : (n : Name) (k : ℕ) → matchedName σ (shownBy g es) n k ≡ matchedName σ es n k
-    unfolding matchedName shownBy shownEntry
+    unfolding matchedName disclosed shownBy shownEntry
     matchedName-shown n zero = refl
     matchedName-shown n (suc k) = step (matchedName-shown n k)
       where
         known : Entry → Bool
-        known e = sameName (σ .schema) (take (suc k) n) (e .name) && granted σ (e .name) entry DiscloseOnError
+        known = disclosed σ (take (suc k) n)
 
         step : matchedName σ (shownBy g es) n k ≡ matchedName σ es n k
             → orName (matchedName σ (shownBy g es) n k) (first known (shownBy g es)) ≡ orName (matchedName σ es n k) (first known es)
         step ih =
             ap (λ (m : Name). orName m (first known (shownBy g es))) ih
             ∙ first-sift (λ e. g .entries (e .name)) (shownEntry g) (orName (matchedName σ es n k)) known
-            (λ e r. disclosed (e .name) (and-right (sameName (σ .schema) (take (suc k) n) (e .name)) _ r)) (λ e r. refl) (λ e r. refl) es
+            (λ e r. shows (e .name) (and-right (sameName (σ .schema) (take (suc k) n) (e .name)) _ r)) (λ e r. refl) (λ e r. refl) es
 
     noSuchObject-shown : (op : ℕ) (n : Name) → noSuchObject σ (shownBy g es) op n ≡ noSuchObject σ es op n
     unfolding noSuchObject
@@ -131,17 +131,14 @@ module _ (σ : Setting) (g : Sight) where
     -- the base of a list or search
     returned-shown : (op : ℕ) (n : Name) (limit : ℕ) {hits hits′ : List (List Line)} → hits ≡ hits′
         → returned σ (shownBy g es) op n limit hits ≡ returned σ es op n limit hits′
-    unfolding returned shownBy shownEntry
+    unfolding returned disclosed shownBy shownEntry
     returned-shown op n limit {hits} {hits′} same =
         λ i. cond (isEmpty (same i) && not (base i)) (noSuchObject-shown op n i) (limited op limit (same i))
       where
-        known : Entry → Bool
-        known e = sameName (σ .schema) n (e .name) && granted σ (e .name) entry DiscloseOnError
-
-        base : any known (shownBy g es) ≡ any known es
+        base : any (disclosed σ n) (shownBy g es) ≡ any (disclosed σ n) es
         base =
-            any-sift (λ e. g .entries (e .name)) (shownEntry g) known
-            (λ e r. disclosed (e .name) (and-right (sameName (σ .schema) n (e .name)) _ r)) (λ e r. refl) es
+            any-sift (λ e. g .entries (e .name)) (shownEntry g) (disclosed σ n)
+            (λ e r. shows (e .name) (and-right (sameName (σ .schema) n (e .name)) _ r)) (λ e r. refl) es
 
     -- the entry of a read or compare
     opened-shown : (op : ℕ) (n : Name) (f : Entry → List Line)
@@ -164,7 +161,7 @@ module _ (σ : Setting) (g : Sight) where
             ap (λ (l : List Line). cond (granted σ (e .name) entry Read) (f e) (cond (granted σ (e .name) entry DiscloseOnError) (outcome op 2) l)) (noSuchObject-shown op n)
 
         hidden : (e : Entry) → g .entries (e .name) ≡ false → respond (some e) ≡ respond none
-        hidden e h = rw (contra (granted σ (e .name) entry Read) _ (readable (e .name)) h, contra (granted σ (e .name) entry DiscloseOnError) _ (disclosed (e .name)) h)
+        hidden e h = rw (contra (granted σ (e .name) entry Read) _ (readable (e .name)) h, contra (granted σ (e .name) entry DiscloseOnError) _ (shows (e .name)) h)
 
         present′ : respond (first wanted (shownBy g es)) ≡ respond (first wanted es)
         present′ =
@@ -254,16 +251,16 @@ module _ (σ : Setting) (g : Sight) where
         refused = and-cong-left _ (granted σ n (ofType t) DiscloseOnError) _ (λ m. holds-shown g e t (k .typeDisclosed n t m))
 
     listHits-shown : (es : List Entry) (n : Name) → listHits σ (shownBy g es) n ≡ listHits σ es n
-    unfolding listHits listed shownBy shownEntry
+    unfolding listHits listed listHit shownBy shownEntry
     listHits-shown es n =
-        gather-sift (λ e. g .entries (e .name)) (shownEntry g) (listed σ n) _
+        gather-sift (λ e. g .entries (e .name)) (shownEntry g) (listed σ n) (λ e. listHit σ n e ∷ [])
         (λ e r. k .entryReturned (e .name) (and-right (granted σ (e .name) entry Browse) _ (and-right (childOf (σ .schema) n (e .name)) _ r)))
         (λ e r. refl) (λ e r. refl) es
 
     searchHits-shown : (es : List Entry) (n : Name) (r : Search) → searchHits σ (shownBy g es) n r ≡ searchHits σ es n r
-    unfolding searchHits found candidate shownBy shownEntry
+    unfolding searchHits searchHit found candidate shownBy shownEntry
     searchHits-shown es n r =
-        gather-sift (λ e. g .entries (e .name)) (shownEntry g) (found σ n r) (λ e. (entryLines (e .name) ++ information σ (r .selection) e) ∷ [])
+        gather-sift (λ e. g .entries (e .name)) (shownEntry g) (found σ n r) (λ e. searchHit σ r e ∷ [])
         (λ e q. k .entryReturned (e .name)
         (and-right (granted σ (e .name) entry Browse || sameName (σ .schema) n (e .name) && granted σ (e .name) entry Read) _
         (and-right (inSubset σ (r .subset) n (e .name)) _ (and-left (candidate σ n (r .subset) e) _ q))))

@@ -1,0 +1,104 @@
+-- "An absent entry gives 1", in list and search too: nothing is at or below a name that names no entry.
+use mathlib.Core.Path.{_≡_, refl, sym, ap, _∙_, subst}
+use mathlib.Core.Logic.{_⊎_, inl, inr}
+use Prim.Native.Nat.{ℕ, zero, suc, _≤_, _<_}
+use native.Mathlib.Nat.{not-suc-le-zero}
+use native.Mathlib.Omega.{arith}
+use mathlib.Core.Bool.{Bool, true, false, _&&_, _||_, not, cond, true≢false, false≢true}
+use mathlib.Core.List.{List, [], _∷_, _++_, map}
+use lib.ListN.{length, getD, length-map, List·getD-map}
+use lib.Dec.{eqb}
+use Rattle.rules.specs.Lists.{any}
+use Rattle.rules.specs.Sheet.{Line}
+use Rattle.rules.specs.Name.{Schema, Name, sameName, covers, childOf}
+use Rattle.rules.specs.Directory.{Stored, blank, nameAt, Directory, Entry, entryOf, entries}
+use Rattle.rules.specs.Decision.{Setting}
+use Rattle.rules.specs.Request.{Search, list, search}
+use Rattle.rules.specs.Answer.{listed, candidate, found, inSubset, disclosed, noSuchObject, returned, listHits, searchHits, answer}
+use Rattle.rules.specs.Laws.Tests.{and-left}
+use Rattle.rules.specs.Laws.Lists.{any-at, any-none, any-weaken, gather-none}
+use Rattle.rules.specs.Laws.Name.{covers-snoc, same-covers}
+use Rattle.rules.specs.Laws.Directory.{Accepted}
+
+-- an entry has the name
+abbrev pub present′ : Schema → List Stored → Name → Bool
+present′ S es n = any (λ e. sameName S n (e .name)) (map entryOf es)
+
+subset-covers : (σ : Setting) (b : ℕ) (n m : Name) → inSubset σ b n m ≡ true → covers (σ .schema) n m ≡ true
+unfolding inSubset childOf
+subset-covers σ b n m e = go (eqb b 0) (eqb b 1) e
+  where
+    go : (x y : Bool) → cond x (sameName (σ .schema) n m) (cond y (childOf (σ .schema) n m) (covers (σ .schema) n m)) ≡ true → covers (σ .schema) n m ≡ true
+    go true y h = same-covers (σ .schema) n m h
+    go false true h = and-left (covers (σ .schema) n m) _ h
+    go false false h = h
+
+module _ (S : Schema) (es : List Stored) (ok : Accepted S es) where
+  numbered : (n : Name) (k : ℕ) → k < length es → sameName S n (getD es k blank .name) ≡ true → present′ S es n ≡ true
+  unfolding entryOf
+  numbered n k l e =
+      any-at (λ e. sameName S n (e .name)) (entryOf blank) (map entryOf es) k
+      (subst (λ (m : ℕ). k < m) (sym (length-map es entryOf)) l)
+      (subst (λ (x : Entry). sameName S n (x .name) ≡ true) (sym (List·getD-map entryOf es k blank)) e)
+
+  -- a name at or above an entry's names an entry, or is the root's
+  above : (f k : ℕ) (n : Name) → k ≤ f → k ≤ length es → covers S n (nameAt es k) ≡ true → (n ≡ []) ⊎ (present′ S es n ≡ true)
+  unfolding nameAt covers
+  above f k [] a l e = inl refl
+  above zero zero (c ∷ cs) a l e = absurd (false≢true e)
+  above zero (suc k) (c ∷ cs) a l e = absurd (not-suc-le-zero a)
+  above (suc f) zero (c ∷ cs) a l e = absurd (false≢true e)
+  above (suc f) (suc k) (c ∷ cs) a l e =
+      let h : getD es k blank .parent ≤ k = ok .parents k l in
+      go (sameName S N (getD es k blank .name)) refl (rw (ok .names k l) at e)
+      (above f (getD es k blank .parent) (c ∷ cs) (omega arith) (omega arith))
+    where
+      N : Name
+      N = c ∷ cs
+
+      go : (b : Bool) → sameName S N (getD es k blank .name) ≡ b → covers S N (nameAt es (getD es k blank .parent) ++ (getD es k blank .naming ∷ [])) ≡ true
+          → (covers S N (nameAt es (getD es k blank .parent)) ≡ true → (N ≡ []) ⊎ (present′ S es N ≡ true)) → (N ≡ []) ⊎ (present′ S es N ≡ true)
+      go true p q ih = inr (numbered N k l p)
+      go false p q ih =
+          ih (sym (ap (λ (b : Bool). b || covers S N (nameAt es (getD es k blank .parent))) (sym (ap (sameName S N) (ok .names k l)) ∙ p))
+          ∙ sym (covers-snoc S N (nameAt es (getD es k blank .parent)) (getD es k blank .naming)) ∙ q)
+
+  pub nothing-below : (n : Name) → (n ≡ [] → ⊥) → present′ S es n ≡ false → any (λ e. covers S n (e .name)) (map entryOf es) ≡ false
+  unfolding entryOf nameAt
+  nothing-below n root absent =
+      any-none (λ e. covers S n (e .name)) (entryOf blank) (map entryOf es)
+      (λ i l e. refuse i (subst (λ (m : ℕ). i < m) (length-map es entryOf) l)
+      (subst (λ (x : Entry). covers S n (x .name) ≡ true) (List·getD-map entryOf es i blank) e))
+    where
+      refuse : (i : ℕ) → i < length es → covers S n (getD es i blank .name) ≡ true → ⊥
+      refuse i l e = go (above (suc i) (suc i) n (omega arith) l e)
+        where
+          go : (n ≡ []) ⊎ (present′ S es n ≡ true) → ⊥
+          go (inl h) = root h
+          go (inr h) = true≢false (sym h ∙ absent)
+
+module _ (σ : Setting) (d : Directory) (e : σ .schema ≡ d .schema) (ok : Accepted (d .schema) (d .entries))
+    (n : Name) (root : n ≡ [] → ⊥) (absent : present′ (σ .schema) (d .entries) n ≡ false) where
+  below-none : any (λ x. covers (σ .schema) n (x .name)) (entries d) ≡ false
+  unfolding entries
+  below-none = nothing-below (σ .schema) (d .entries) (subst (λ (S : Schema). Accepted S (d .entries)) (sym e) ok) n root absent
+
+  nothing-returned : (op limit : ℕ) (hits : List (List Line)) → hits ≡ [] → returned σ (entries d) op n limit hits ≡ noSuchObject σ (entries d) op n
+  unfolding returned disclosed entries
+  nothing-returned op limit hits q =
+      rw (q, any-weaken (disclosed σ n) (λ x. sameName (σ .schema) n (x .name)) (λ x. and-left _ _) (map entryOf (d .entries)) absent)
+
+  pub list-absent : (limit : ℕ) → answer σ (entries d) n (list limit) ≡ noSuchObject σ (entries d) 3 n
+  unfolding answer listHits listed childOf
+  list-absent limit =
+      nothing-returned 3 limit _
+      (gather-none (listed σ n) _ (λ x. covers (σ .schema) n (x .name))
+      (λ x r. and-left (covers (σ .schema) n (x .name)) _ (and-left (childOf (σ .schema) n (x .name)) _ r)) (entries d) below-none)
+
+  pub search-absent : (r : Search) → answer σ (entries d) n (search r) ≡ noSuchObject σ (entries d) 4 n
+  unfolding answer searchHits found candidate
+  search-absent r =
+      nothing-returned 4 (r .limit) _
+      (gather-none (found σ n r) _ (λ x. covers (σ .schema) n (x .name))
+      (λ x q. subset-covers σ (r .subset) n (x .name) (and-left (inSubset σ (r .subset) n (x .name)) _ (and-left (candidate σ n (r .subset) x) _ q)))
+      (entries d) below-none)
