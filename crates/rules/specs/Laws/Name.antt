@@ -10,31 +10,20 @@ use lib.Dec.{eqb, eqb·suc-suc, eqb·suc-zero}
 use borrow.Author.Tests.{eqb-true}
 use Rattle.rules.specs.Lists.{first}
 use Rattle.rules.specs.Sheet.{Bytes}
-use Rattle.rules.specs.Value.{fits, normal, identical, same}
+use Rattle.rules.specs.Value.{fits, normal, same}
 use Rattle.rules.specs.Name.{AttributeType, Schema, bySyntax, ofSyntax, allowed, equal, Part, Name, samePart, sameName, covers, childOf}
 use Rattle.rules.specs.Laws.Tests.{and-left, and-right, both, eqb-same}
-
-identical-eq : (a b : Bytes) → identical a b ≡ true → a ≡ b
-unfolding identical
-identical-eq [] [] e = refl
-identical-eq [] (b ∷ bs) e = absurd (false≢true e)
-identical-eq (a ∷ as′) [] e = absurd (false≢true e)
-identical-eq (a ∷ as′) (b ∷ bs) e = ap₂ (λ (x : ℕ) (xs : Bytes). x ∷ xs) (eqb-true a b (and-left _ _ e)) (identical-eq as′ bs (and-right (eqb a b) _ e))
-
-identical-self : (a : Bytes) → identical a a ≡ true
-unfolding identical
-identical-self [] = refl
-identical-self (a ∷ as′) = both _ _ (eqb-same a) (identical-self as′)
+use Rattle.rules.specs.Laws.Value.{identical-refl, identical-eq}
 
 -- ---- values of a syntax
 
 same-join : (s : ℕ) (v a b : Bytes) → same s v a ≡ true → same s v b ≡ true → same s a b ≡ true
 unfolding same
-same-join s v a b e h = rw (sym (identical-eq (normal s v) (normal s a) e), sym (identical-eq (normal s v) (normal s b) h)) (identical-self (normal s v))
+same-join s v a b e h = rw (sym (identical-eq (normal s v) (normal s a) e), sym (identical-eq (normal s v) (normal s b) h)) (identical-refl (normal s v))
 
 same-self : (s : ℕ) (v : Bytes) → same s v v ≡ true
 unfolding same
-same-self s v = identical-self (normal s v)
+same-self s v = identical-refl (normal s v)
 
 module _ (S : Schema) where
   -- equal to one thing, equal to each other
