@@ -13,6 +13,7 @@ pub mod FilterItem
 pub mod Answer
 pub mod Serve
 pub mod Shown
+pub mod Places
 pub mod Examples
 pub mod Laws
 pub mod Secrecy
