@@ -8,3 +8,6 @@ pub mod Directory
 pub mod Absent
 pub mod ByNumber
 pub mod Decision
+pub mod Held
+pub mod Resolve
+pub mod Filter

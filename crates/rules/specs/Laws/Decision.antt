@@ -341,6 +341,17 @@ granted-in-one-pass σ n x q =
     ap allGrant (by-weight (keep (applies σ n x q) (σ .items)))
     ∙ verdict (keep (applies σ n x q) (σ .items)) (weighAll (applies σ n x q) start (σ .items)) (weighAll-says (applies σ n x q) (σ .items) [] start start-says)
 
+-- items that fail a test are passed over
+pub weighAll-keep : (p q : Item → Bool) (s : Standing) (is : List Item) → weighAll (λ i. p i && q i) s is ≡ weighAll q s (keep p is)
+unfolding weighAll
+weighAll-keep p q s [] = refl
+weighAll-keep p q s (i ∷ is) = go (p i) (λ t. weighAll-keep p q t is)
+  where
+    go : (b : Bool) → ((t : Standing) → weighAll (λ i. p i && q i) t is ≡ weighAll q t (keep p is))
+        → weighAll (λ i. p i && q i) (cond (b && q i) (weigh s i) s) is ≡ weighAll q s (given b (i ∷ []) ++ keep p is)
+    go true ih = ih (cond (q i) (weigh s i) s)
+    go false ih = ih s
+
 -- ---- equal values have equal permissions
 
 module _ (σ : Setting) (t : ℕ) (v w : Bytes) (e : equal (σ .schema) t v w ≡ true) where
