@@ -35,8 +35,8 @@ valuesOf broken = []
 valuesOf (row x rest) = cond (eqb (x .kind) 3) (part (x .a) (x .bytes) ∷ valuesOf rest) []
 
 -- the entry `e` by four numbers: the position of its K 2 line on the sheet `d`, its parent's number, its naming type and the length of its naming value
-pub record EntryAt (w : ℕ) (d : Bytes) (e : Stored) (at parent naming len : ℕ) : Type 0 where
-  pub parent : parent ≡ e .parent
+pub record EntryAt (w : ℕ) (d : Bytes) (e : Stored) (at up naming len : ℕ) : Type 0 where
+  pub parent : up ≡ e .parent
   pub type : naming ≡ e .naming .type
   pub value : valueOf w len (drop at d) ≡ e .naming .value
   pub within : at + (5 * w + 1 + len) ≤ length d
