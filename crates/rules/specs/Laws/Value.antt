@@ -101,7 +101,7 @@ ends-back before p =
     let n : length before ≡ length (before ++ p) - length p = omega arith in
     rw (le-leb (length p) (length (before ++ p)) (omega arith), drop-at before p (length (before ++ p) - length p) n) (identical-refl p)
 
-find-by : (p v : Bytes) (i : ℕ) → begins v p ≡ true → find p v i ≡ At (i + length p)
+pub find-by : (p v : Bytes) (i : ℕ) → begins v p ≡ true → find p v i ≡ At (i + length p)
 unfolding find
 find-by p [] i e = rw e
 find-by p (x ∷ xs) i e = rw e
@@ -283,7 +283,7 @@ number-cond : (t : Bool) (x : Column) (m : ℕ) → cond t x Malformed ≡ Numbe
 number-cond true x m e = (refl, e)
 number-cond false x m e = unlike (cc)
 
-digits-cons : (v b : ℕ) (bs : Bytes) (m : ℕ) → digits v (b ∷ bs) ≡ Number m
+pub digits-cons : (v b : ℕ) (bs : Bytes) (m : ℕ) → digits v (b ∷ bs) ≡ Number m
     → (48 ≤ b) × (b ≤ 57) × (digits (v * 10 + (b - 48)) bs ≡ Number m)
 unfolding digits
 digits-cons v b bs m e =
@@ -315,7 +315,7 @@ digits-more a (y ∷ ys) w m h l p q =
     go true t next = next (leb-true (length a) (length ys) t)
     go false t next = omega (arith, leb-false (length a) (length ys) t, digits-same a (y ∷ ys) 0 w m (omega (arith, leb-false (length a) (length ys) t)) p q .0)
 
-numeral-digits : (b : ℕ) (bs : Bytes) (m : ℕ) → numeral (b ∷ bs) ≡ Number m → (digits 0 (b ∷ bs) ≡ Number m) × (0 < length bs → 48 < b)
+pub numeral-digits : (b : ℕ) (bs : Bytes) (m : ℕ) → numeral (b ∷ bs) ≡ Number m → (digits 0 (b ∷ bs) ≡ Number m) × (0 < length bs → 48 < b)
 unfolding numeral
 numeral-digits b [] m e = (e, λ h. omega arith)
 numeral-digits b (c ∷ cs) m e = go (eqb b 48) refl e
@@ -459,27 +459,3 @@ order-reversed s v w = go (eqb s integer)
         ≡ reversed (cond t (orderIntegers (integerOf v) (integerOf w)) (orderBytes (normal s v) (normal s w)))
     go true = orderIntegers-reversed (integerOf v) (integerOf w)
     go false = orderBytes-reversed (normal s v) (normal s w)
-
--- ---- examples of document 01
-
--- "−10 is below −9"
-pub example-below : order integer (45 ∷ 49 ∷ 48 ∷ []) (45 ∷ 57 ∷ []) ≡ Less
-unfolding order integerOf numeral digits
-example-below = refl
-
-abbrev piece : ℕ → Bytes → Piece
-piece place bytes = record { place = place; bytes = bytes }
-
--- "'ana', 'ana' in 'banana': false"
-pub example-overlap : contains text (piece 1 (97 ∷ 110 ∷ 97 ∷ []) ∷ piece 1 (97 ∷ 110 ∷ 97 ∷ []) ∷ []) (98 ∷ 97 ∷ 110 ∷ 97 ∷ 110 ∷ 97 ∷ []) ≡ false
-unfolding contains matches used find begins normal small
-example-overlap = refl
-
--- "−0 and 9223372036854775808 are no integers"
-pub example-minus-zero : fits integer (45 ∷ 48 ∷ []) ≡ false
-unfolding fits integerOf numeral digits
-example-minus-zero = refl
-
-pub example-too-high : fits integer (57 ∷ 50 ∷ 50 ∷ 51 ∷ 51 ∷ 55 ∷ 50 ∷ 48 ∷ 51 ∷ 54 ∷ 56 ∷ 53 ∷ 52 ∷ 55 ∷ 55 ∷ 53 ∷ 56 ∷ 48 ∷ 56 ∷ []) ≡ false
-unfolding fits integerOf numeral digits
-example-too-high = refl
