@@ -135,9 +135,13 @@ fn fitting<'p>(
             Who::AllUsers => (0, item.covers),
             Who::AtOrBelow(name) => {
                 let name = &permissions.parts[name.clone()];
-                let below =
-                    !planted(Fault::BelowExcludesTheName) || requester.name.len() > name.len();
-                let fits = begins_with(&requester.name, name) && below;
+                let wrong = match () {
+                    _ if planted(Fault::BelowExcludesTheName) => requester.name.len() == name.len(),
+                    _ if planted(Fault::BelowEmptyNameIsNobody) => name.is_empty(),
+                    _ if planted(Fault::UnfitPartSpoilsName) => requester.name.contains(&None),
+                    _ => false,
+                };
+                let fits = begins_with(&requester.name, name) && !wrong;
                 (1, fits.then_some(item.covers)?)
             }
             Who::Named(name) => {

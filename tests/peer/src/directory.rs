@@ -114,6 +114,9 @@ impl<'a> Directory<'a> {
         if planted(Fault::NamingJudgedBeforeParent) {
             self.close_entry()?;
         }
+        if planted(Fault::Entry257ParentUnjudged) && number > MAX_ENTRIES {
+            return Err(Reason::OutOfOrder);
+        }
         if parent >= number {
             return Err(if planted(Fault::ParentOutOfOrder) {
                 Reason::OutOfOrder

@@ -112,6 +112,9 @@ impl Assertion<'_> {
         if planted(Fault::FilterMatchOnlyWhenHeld) && !entry.holds(slot) {
             return Truth::False;
         }
+        if planted(Fault::PresentUnjudged) && matches!(self, Assertion::Present) {
+            return entry.holds(slot).into();
+        }
         if judge.of_type(slot) & FILTER_MATCH == 0 {
             let wrong = planted(Fault::FilterRefusedIsFalse);
             return if wrong { Truth::False } else { Truth::Undefined };
@@ -144,7 +147,11 @@ impl Assertion<'_> {
                 }
             }
             Assertion::AtMost(bound) => {
-                matches!(value.compare(bound), Some(Ordering::Less | Ordering::Equal))
+                let strictly = planted(Fault::AtMostIsBelow);
+                match value.compare(bound) {
+                    Some(Ordering::Equal) => !strictly,
+                    order => order == Some(Ordering::Less),
+                }
             }
             Assertion::Present => true,
             Assertion::Substrings(pieces) => substrings(value, pieces),

@@ -36,9 +36,13 @@ pub fn serve(dir: &[u8], perm: &[u8], req: &[u8], room: usize) -> Result<Vec<u8>
     let permissions = Permissions::decode(perm, &directory).map_err(|reason| 10 + reason as u32)?;
     let request = Request::decode(req, &directory.schema).map_err(|reason| 20 + reason as u32)?;
     let answer = operations::answer(&directory, &permissions, &request);
-    let fits =
-        if planted(Fault::EqualLengthRefused) { answer.len() < room } else { answer.len() <= room };
-    if fits {
+    let needed = match () {
+        _ if planted(Fault::EqualLengthRefused) => answer.len() + 1,
+        _ if planted(Fault::RoomJudgedByDirectory) => answer.len().max(31 * directory.len()),
+        _ if planted(Fault::AnswerCappedAt65536) && answer.len() > 65_536 => usize::MAX,
+        _ => answer.len(),
+    };
+    if needed <= room {
         Ok(answer)
     } else {
         Err(ANSWER_TOO_LONG)

@@ -54,12 +54,14 @@ impl Service<'_, '_> {
     fn no_such_object(&mut self) -> Answer {
         let mut answer = self.answer(Outcome::NoSuchObject);
         let proper = self.asked.len().saturating_sub(1);
-        let proper = if planted(Fault::MatchedNameWhole) { self.path.len() } else { proper };
         for index in (0..self.path.len().min(proper)).rev() {
             let number = self.path[index];
             let disclosed = self.judge.enter(number) & DISCLOSE_ON_ERROR != 0;
             if disclosed || planted(Fault::MatchedNameAsFarAsItExists) {
                 self.matched_name(&mut answer, number);
+                break;
+            }
+            if planted(Fault::MatchedNameGivesUp) {
                 break;
             }
         }
@@ -96,8 +98,12 @@ impl Service<'_, '_> {
         let named = rights & RETURN_DN != 0 || planted(Fault::ReadIgnoresReturnDn);
         self.head(&mut answer, base, named);
         let anything = self.information(&mut answer, base, selection);
-        let empty_list = selection.empty_list && !planted(Fault::EmptyListFails);
-        if anything || empty_list {
+        let succeeds = match () {
+            _ if planted(Fault::EmptyListFails) => false,
+            _ if planted(Fault::AllTypesNeverFail) => selection.empty_list || selection.all,
+            _ => selection.empty_list,
+        };
+        if anything || succeeds {
             return answer;
         }
         let directory = self.directory;
@@ -118,7 +124,8 @@ impl Service<'_, '_> {
 
     fn compare(&mut self, base: Number, purported: &Purported) -> Answer {
         let rights = self.judge.enter(base);
-        if rights & READ == 0 {
+        let unread = planted(Fault::CompareNeedsNoRead) && base != ROOT;
+        if rights & READ == 0 && !unread {
             return self.withheld(rights);
         }
         let entry = self.directory.entry(base);
@@ -130,6 +137,9 @@ impl Service<'_, '_> {
         }
         let rights = self.judge.of_type(slot);
         let held = entry.holds(slot);
+        if planted(Fault::CompareSyntaxWhenHeld) && held && purported.part.is_none() {
+            return self.answer(Outcome::InvalidAttributeSyntax);
+        }
         if rights & COMPARE == 0 {
             let disclosed = rights & DISCLOSE_ON_ERROR != 0 || planted(Fault::CompareTellsHeldType);
             return self.answer(if held && disclosed {
@@ -235,8 +245,13 @@ impl Service<'_, '_> {
             count.answer.mark_cut();
         }
         let unseen = count.taken == 0 && self.judge.enter(base) & DISCLOSE_ON_ERROR == 0;
-        let root_discloses = planted(Fault::RootDiscloses) && base == ROOT;
-        if unseen && !planted(Fault::NothingSucceeds) && !root_discloses {
+        let disclosed = match () {
+            _ if planted(Fault::RootDiscloses) => base == ROOT,
+            _ if planted(Fault::NothingSucceeds) => true,
+            _ if planted(Fault::ChildrenDisclosed) => self.directory.children(base).count() > 0,
+            _ => false,
+        };
+        if unseen && !disclosed {
             return self.no_such_object();
         }
         count.answer

@@ -1,6 +1,6 @@
 //! The permission sheet: items of K 4 to 8.
 
-use crate::directory::{Directory, Number};
+use crate::directory::{Directory, Number, ROOT};
 use crate::fault::{planted, Fault};
 use crate::kinds;
 use crate::name::Part;
@@ -125,7 +125,7 @@ fn covers(directory: &Directory, name: &[Part], subtree: bool) -> Covers {
     let path = directory.walk(name.iter().map(Some));
     match path.last() {
         _ if path.len() < name.len() => Covers::Nothing,
-        None if subtree => Covers::Subtree(0),
+        None if subtree || planted(Fault::EmptyBaseAloneCoversAll) => Covers::Subtree(ROOT),
         None => Covers::Nothing,
         Some(&base) if subtree => Covers::Subtree(base),
         Some(&base) => Covers::Entry(base),

@@ -42,6 +42,8 @@ impl Operation<'_> {
 pub struct Selection {
     /// One bit for each known slot.
     slots: u64,
+    /// All types rather than a list.
+    pub all: bool,
     /// A list of no types, which a read answers with success.
     pub empty_list: bool,
     pub with_values: bool,
@@ -132,11 +134,14 @@ impl<'a> Reader<'a, '_> {
         let mut slots = if line.a == 0 { u64::MAX } else { 0 };
         for _ in 0..line.b {
             if let Some(slot) = self.schema.slot(self.expect(13)?.a) {
-                slots |= 1 << slot;
+                let bit = 1 << slot;
+                slots =
+                    if planted(Fault::RepeatedTypeUnselects) { slots ^ bit } else { slots | bit };
             }
         }
-        let empty_list = line.a == 1 && line.b == 0;
-        Ok(Selection { slots, empty_list, with_values: line.c == 1 })
+        let all = line.a == 0;
+        let empty_list = !all && line.b == 0;
+        Ok(Selection { slots, all, empty_list, with_values: line.c == 1 })
     }
 
     fn purported(&mut self) -> Result<Purported<'a>, Reason> {
@@ -169,8 +174,19 @@ impl<'a> Reader<'a, '_> {
             20 => self.parts(line.a, depth).map(Filter::And),
             21 => self.parts(line.a, depth).map(Filter::Or),
             22 => self.filter(depth + 1).map(|part| Filter::Not(Box::new(part))),
+            27 if planted(Fault::PiecesHaveDepth) && depth == deepest => Err(Reason::OutOfOrder),
             27 => self.substrings(line),
-            _ => Ok(self.item(line).unwrap_or(Filter::Undefined)),
+            _ => Ok(self.item(line).unwrap_or_else(|| self.undefined(line))),
+        }
+    }
+
+    fn undefined(&self, line: Line) -> Filter<'a> {
+        let known = self.schema.slot(line.a).is_some();
+        let wrong = if known { Fault::UnfitValueIsFalse } else { Fault::UnknownTypeIsFalse };
+        if planted(wrong) {
+            Filter::Or(Vec::new())
+        } else {
+            Filter::Undefined
         }
     }
 
@@ -181,7 +197,7 @@ impl<'a> Reader<'a, '_> {
     /// `None` where the item is undefined for every entry.
     fn item(&self, line: Line<'a>) -> Option<Filter<'a>> {
         let slot = self.schema.slot(line.a)?;
-        let ordered = self.schema.syntax(slot) != Syntax::Octets;
+        let ordered = self.schema.syntax(slot) != Syntax::Octets || planted(Fault::OctetsOrdered);
         let value = self.schema.value(slot, line.bytes);
         let assertion = match line.kind {
             23 => Assertion::Equality(value?),
@@ -195,7 +211,11 @@ impl<'a> Reader<'a, '_> {
 
     fn substrings(&mut self, line: Line<'a>) -> Result<Filter<'a>, Reason> {
         let slot = self.schema.slot(line.a);
-        let text = slot.filter(|&slot| self.schema.syntax(slot) == Syntax::Text);
+        let text = slot.filter(|&slot| match self.schema.syntax(slot) {
+            Syntax::Text => true,
+            Syntax::Integer => planted(Fault::IntegersHaveSubstrings),
+            Syntax::Octets => false,
+        });
         let mut pieces = Vec::new();
         let mut all_fit = true;
         for index in 0..line.b {

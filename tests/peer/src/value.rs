@@ -48,7 +48,7 @@ impl<'a> Value<'a> {
     /// The ordering rule; octets have none.
     pub fn compare(&self, other: &Value) -> Option<Ordering> {
         match self.syntax {
-            Syntax::Octets => None,
+            Syntax::Octets => planted(Fault::OctetsOrdered).then(|| self.bytes.cmp(other.bytes)),
             Syntax::Text if planted(Fault::TextOrderByCase) => Some(self.bytes.cmp(other.bytes)),
             Syntax::Text => Some(
                 self.bytes
