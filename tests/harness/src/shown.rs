@@ -168,3 +168,58 @@ fn explicit(item: &ItemLines, thing: &Asked) -> bool {
         (Asked::Type(_), Thing::Type(_)) | (Asked::Value(..), Thing::Value(..))
     )
 }
+
+#[cfg(test)]
+mod tests {
+    use super::*;
+    use crate::random::Random;
+    use crate::requests::request;
+    use crate::world::world;
+    use peer::decide::Judge;
+    use peer::directory::Directory;
+    use peer::permissions::Permissions;
+    use peer::request::Request;
+
+    /// The sum of the permissions granted on a thing.
+    fn sum(view: &View, thing: &Asked) -> u32 {
+        (0..6).map(|bit| 1 << bit).filter(|&permission| view.granted(thing, permission)).sum()
+    }
+
+    #[test]
+    fn the_peer_decides_alike() {
+        let mut random = Random::new(7);
+        for _ in 0..1500 {
+            let world = world(&mut random);
+            let asked = request(&mut random, &world.directory);
+            let (dir, perm) = (world.directory.to_bytes(), world.permissions.to_bytes());
+            let req = asked.to_bytes();
+            let directory = Directory::decode(&dir).unwrap_or_else(|_| panic!("directory"));
+            let permissions =
+                Permissions::decode(&perm, &directory).unwrap_or_else(|_| panic!("permissions"));
+            let request =
+                Request::decode(&req, &directory.schema).unwrap_or_else(|_| panic!("request"));
+            let mut judge = Judge::new(&directory, &permissions, &request.requester);
+            let requester = Requester { level: asked.level, name: asked.requester };
+            for number in 1..=directory.len() {
+                let name = world.directory.name(number - 1);
+                let view = View {
+                    directory: &world.directory,
+                    permissions: &world.permissions,
+                    requester: &requester,
+                    entry: &name,
+                };
+                assert_eq!(u32::from(judge.enter(number)), sum(&view, &Asked::Entry));
+                for &(kind, _) in &world.directory.types {
+                    let slot = directory.schema.slot(kind).unwrap();
+                    assert_eq!(u32::from(judge.of_type(slot)), sum(&view, &Asked::Type(kind)));
+                    let entry = directory.entry(number);
+                    for place in directory.places_of(entry, slot) {
+                        let value = directory.values[place].bytes;
+                        let plain = sum(&view, &Asked::Value(kind, value));
+                        assert_eq!(u32::from(judge.of_value(slot, place)), plain);
+                    }
+                }
+            }
+        }
+    }
+}
