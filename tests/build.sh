@@ -1,7 +1,6 @@
 # Sourced by the test scripts, in the folder tests: builds the test programs and sets `programs`
 # to their folder. With DINGHY_LIB_DIR the server under test is the library there.
 if [ -n "${DINGHY_LIB_DIR:-}" ]; then
-    DINGHY_LIB_DIR=$(realpath "$DINGHY_LIB_DIR")
     export DINGHY_LIB_DIR
     cargo build -q --release -p harness --features library --target-dir ../target/peer/library
     programs=$PWD/../target/peer/library/release
