@@ -115,6 +115,7 @@ faults! {
     #[leak] MatchedNameAsFarAsItExists,
     MatchedNameGivesUp,
     NamePrintedAsAsked,
+    #[leak] WithheldEntriesCounted,
     #[leak] WithheldEntriesCut,
     CutAtExactLimit,
     ListIgnoresReturnDn,

@@ -311,16 +311,18 @@ struct Counter {
     limit: u32,
     taken: u32,
     cut: bool,
+    /// Counted though withheld: none but for a planted fault.
+    withheld: u32,
 }
 
 impl Counter {
     fn new(answer: Answer, limit: u32) -> Self {
-        Counter { answer, limit, taken: 0, cut: false }
+        Counter { answer, limit, taken: 0, cut: false, withheld: 0 }
     }
 
     /// Whether one more may be returned; if not, the answer is cut.
     fn take(&mut self) -> bool {
-        self.cut = self.limit != 0 && self.taken == self.limit;
+        self.cut = self.limit != 0 && self.taken + self.withheld >= self.limit;
         if !self.cut {
             self.taken += 1;
             self.cut = planted(Fault::CutAtExactLimit) && self.taken == self.limit;
@@ -333,5 +335,6 @@ impl Counter {
         if planted(Fault::WithheldEntriesCut) && self.limit != 0 && self.taken == self.limit {
             self.cut = true;
         }
+        self.withheld += u32::from(planted(Fault::WithheldEntriesCounted));
     }
 }

@@ -1,7 +1,8 @@
 //! Compares the server under test with the peer over many cases, and shows by planted faults
 //! that a wrong server is found.
 //!
-//! SEED and CASES (100,000) come from the environment.
+//! SEED and CASES (100,000) come from the environment; KEEP names a folder for the files dir,
+//! perm and request of the first case that differs.
 
 use harness::cases::{Case, Cases};
 use harness::lent::{ask, Outcome};
@@ -10,6 +11,7 @@ use harness::report::Report;
 use harness::server::{subject, Peer, REFUSALS};
 use peer::fault::Fault;
 use std::collections::BTreeMap;
+use std::path::Path;
 use std::process::ExitCode;
 
 /// Each refusal must be met as often.
@@ -34,6 +36,9 @@ fn main() -> ExitCode {
         let expected = ask(&reference, dir, perm, req, room);
         let given = ask(subject.as_ref(), dir, perm, req, room);
         let good = given == expected && expected.is_sound() && given.is_sound();
+        if !good && report.failed() == 0 {
+            keep(&case);
+        }
         report.case(good, || describe(number, &case, room, &expected, &given));
         *met.entry(expected.reply.refusal).or_default() += 1;
         if let Ok(answer) = expected.answer() {
@@ -68,6 +73,17 @@ fn main() -> ExitCode {
         report.check(!hidden.contains(&fault), &format!("planted fault {fault:?} was not found"));
     }
     report.finish()
+}
+
+fn keep(case: &Case) {
+    if let Some(folder) = std::env::var_os("KEEP") {
+        let folder = Path::new(&folder);
+        for (name, sheet) in [("dir", &case.dir), ("perm", &case.perm), ("request", &case.req)] {
+            if let Err(error) = std::fs::write(folder.join(name), sheet) {
+                println!("{name} was not kept: {error}");
+            }
+        }
+    }
 }
 
 fn describe(number: u64, case: &Case, room: usize, expected: &Outcome, given: &Outcome) -> String {
