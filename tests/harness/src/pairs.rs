@@ -14,8 +14,8 @@ pub struct Pair {
     pub other: DirectorySheet,
     pub permissions: PermissionSheet,
     pub requester: Requester,
-    /// Changes that stayed.
-    pub changes: usize,
+    /// Those that stayed.
+    pub changes: Vec<Change>,
 }
 
 const ATTEMPTS: usize = 14;
@@ -30,16 +30,17 @@ pub fn pair(random: &mut Random) -> Option<Pair> {
     let requester = Requester { level: *random.pick(&[0, 1, 2]), name: requester(random, &one) };
     let before = shown(&one, &permissions, &requester);
     let mut other = one.clone();
-    let mut changes = 0;
+    let mut changes = Vec::new();
     for _ in 0..ATTEMPTS {
         let mut changed = other.clone();
-        change(random, &permissions, &mut changed);
+        let change = *random.pick(&Change::ALL);
+        change.apply(random, &permissions, &mut changed);
         if changed != other
             && Directory::decode(&changed.to_bytes()).is_ok()
             && shown(&changed, &permissions, &requester) == before
         {
             other = changed;
-            changes += 1;
+            changes.push(change);
         }
     }
     (other != one).then_some(Pair { one, other, permissions, requester, changes })
@@ -90,52 +91,81 @@ fn hide(random: &mut Random, directory: &DirectorySheet, permissions: &mut Permi
     }
 }
 
-fn change(random: &mut Random, permissions: &PermissionSheet, directory: &mut DirectorySheet) {
-    let count = directory.entries.len();
-    if count == 0 {
-        return insert(random, permissions, directory);
-    }
-    let index = random.below(count);
-    let &(kind, syntax) = random.pick(&directory.types);
-    let entry = &mut directory.entries[index];
-    let held = random.below(entry.values.len());
-    match random.below(13) {
-        0 | 1 => remove(directory, index),
-        2 | 3 => insert(random, permissions, directory),
-        4 => rename(random, directory, index),
-        5 | 6 => {
-            let value = value(random, syntax);
-            add_value(random, entry, kind, syntax, value);
+/// The ways in which a directory is changed.
+#[derive(Clone, Copy, Debug, PartialEq, Eq, PartialOrd, Ord)]
+pub enum Change {
+    RemoveSubtree,
+    AddEntry,
+    Rename,
+    AddValue,
+    RemoveValue,
+    ReplaceValue,
+    OtherLetters,
+    RemoveType,
+    OrderOfValues,
+    OrderOfEntries,
+}
+
+impl Change {
+    pub const ALL: [Change; 10] = [
+        Change::RemoveSubtree,
+        Change::AddEntry,
+        Change::Rename,
+        Change::AddValue,
+        Change::RemoveValue,
+        Change::ReplaceValue,
+        Change::OtherLetters,
+        Change::RemoveType,
+        Change::OrderOfValues,
+        Change::OrderOfEntries,
+    ];
+
+    fn apply(
+        self,
+        random: &mut Random,
+        permissions: &PermissionSheet,
+        directory: &mut DirectorySheet,
+    ) {
+        if self == Change::AddEntry {
+            return insert(random, permissions, directory);
         }
-        7 => {
-            entry.values.remove(held);
+        if directory.entries.is_empty() {
+            return;
         }
-        8 => {
-            let old = entry.values.remove(held);
-            let syntax = directory.types.iter().find(|(kind, _)| *kind == old.0);
-            if let Some(&(kind, syntax)) = syntax {
+        let index = random.below(directory.entries.len());
+        let &(kind, syntax) = random.pick(&directory.types);
+        let syntaxes = directory.types.clone();
+        let entry = &mut directory.entries[index];
+        let place = random.below(entry.values.len());
+        let (held_kind, held) = entry.values[place].clone();
+        let held_syntax =
+            syntaxes.iter().find(|(kind, _)| *kind == held_kind).map_or(0, |&(_, s)| s);
+        match self {
+            Change::RemoveSubtree => remove(directory, index),
+            Change::AddEntry => {}
+            Change::Rename => rename(random, directory, index),
+            Change::AddValue => {
                 let value = value(random, syntax);
-                add_value(random, &mut directory.entries[index], kind, syntax, value);
+                add_value(random, entry, kind, syntax, value);
             }
-        }
-        9 => {
-            let syntax = directory.types.iter().find(|(kind, _)| *kind == entry.values[held].0);
-            if let Some(&(_, syntax)) = syntax {
-                entry.values[held].1 = variant(random, syntax, &entry.values[held].1);
+            Change::RemoveValue => {
+                entry.values.remove(place);
             }
-        }
-        10 => {
-            let kind = entry.values[held].0;
-            entry.values.retain(|(other, _)| *other != kind);
-        }
-        11 => {
-            // Values of one type in another order.
-            let other = random.below(entry.values.len());
-            if entry.values[held].0 == entry.values[other].0 {
-                entry.values.swap(held, other);
+            Change::ReplaceValue => {
+                entry.values.remove(place);
+                let value = value(random, held_syntax);
+                add_value(random, entry, held_kind, held_syntax, value);
             }
+            Change::OtherLetters => entry.values[place].1 = variant(random, held_syntax, &held),
+            Change::RemoveType => entry.values.retain(|(kind, _)| *kind != held_kind),
+            Change::OrderOfValues => {
+                let other = random.below(entry.values.len());
+                if entry.values[other].0 == held_kind {
+                    entry.values.swap(place, other);
+                }
+            }
+            Change::OrderOfEntries => shift(random, directory, index),
         }
-        _ => shift(random, directory, index),
     }
 }
 

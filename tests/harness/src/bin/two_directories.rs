@@ -5,13 +5,14 @@
 
 use harness::damage::{damage, Which};
 use harness::lent::ask;
-use harness::pairs::{pair, Pair};
+use harness::pairs::{pair, Change, Pair};
 use harness::random::{number_from_environment, Random};
 use harness::report::Report;
 use harness::requests::request_of;
 use harness::server::{subject, Peer, Server};
 use harness::shown::shown;
 use peer::fault::Fault;
+use std::collections::BTreeMap;
 use std::process::ExitCode;
 
 const REQUESTS: usize = 25;
@@ -24,14 +25,18 @@ fn main() -> ExitCode {
     let mut report = Report::new("two_directories");
     let mut hidden: Vec<Fault> = Fault::ALL.iter().copied().filter(|fault| fault.leaks()).collect();
     let leaks = hidden.clone();
-    let (mut pairs, mut changes) = (0, 0);
+    let (mut pairs, mut showing) = (0, 0);
+    let mut replies: BTreeMap<(u64, char), u64> = BTreeMap::new();
+    let mut changes: BTreeMap<Change, u64> = BTreeMap::new();
 
     while pairs < total {
         let Some(pair) = pair(&mut random) else {
             continue;
         };
         pairs += 1;
-        changes += pair.changes;
+        for &change in &pair.changes {
+            *changes.entry(change).or_default() += 1;
+        }
         let (one, other) = (pair.one.to_bytes(), pair.other.to_bytes());
         let permissions = pair.permissions.to_bytes();
         for _ in 0..REQUESTS {
@@ -51,6 +56,9 @@ fn main() -> ExitCode {
                     && accepted(second.reply.refusal);
                 (!good).then(|| (first.describe(), second.describe()))
             };
+            let reply = ask(subject.as_ref(), &one, &perm, &req, room);
+            let outcome = reply.answer().ok().and_then(|answer| answer.get(17)).copied();
+            *replies.entry((reply.reply.refusal, outcome.unwrap_or(b'-').into())).or_default() += 1;
             let difference = differs(subject.as_ref());
             report.case(difference.is_none(), || {
                 let text = |sheet: &[u8]| String::from_utf8_lossy(sheet).into_owned();
@@ -66,14 +74,21 @@ fn main() -> ExitCode {
                 !leak
             });
         }
-        let alike = shown(&pair.one, &pair.permissions, &pair.requester)
-            == shown(&pair.other, &pair.permissions, &pair.requester);
+        let seen = shown(&pair.one, &pair.permissions, &pair.requester);
+        showing += u64::from(!seen.is_empty());
+        let alike = seen == shown(&pair.other, &pair.permissions, &pair.requester);
         assert!(alike && pair.one.types == pair.other.types, "the pair is not alike");
     }
 
-    println!("{pairs} pairs, {changes} hidden changes");
+    println!("{pairs} pairs, {showing} of them showing something; hidden changes: {changes:?}");
+    println!("replies by refusal and outcome: {replies:?}");
+    report.check(showing > total / 2, "too few pairs show something");
     let equal = report.failed() == 0;
     report.check(equal, "alike directories gave different answers");
+    for change in Change::ALL {
+        let enough = changes.get(&change).is_some_and(|&count| count >= total / 40);
+        report.check(enough, &format!("hidden change {change:?} was made too seldom"));
+    }
     for fault in leaks {
         report.check(!hidden.contains(&fault), &format!("planted leak {fault:?} was not found"));
     }
