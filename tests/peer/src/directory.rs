@@ -28,7 +28,8 @@ pub struct Held {
 pub struct Entry<'a> {
     pub parent: Number,
     pub naming: Part<'a>,
-    /// The entries from depth 1 down to this one; only the first `depth` count.
+    /// The entries from depth 1 down to this one; only the first `depth` count, and the last place
+    /// serves the planted fault of depth 9 alone.
     lineage: [u16; MAX_DEPTH + 1],
     depth: usize,
     /// Places in `Directory::held`.
