@@ -1,1 +1,294 @@
 -- Laws of `Sheet`: the lines of a sheet one by one, and a line that is printed is read back.
+use Prim.Native.Nat.{ℕ, zero, suc, _+_, _-_, _*_, _/_, _%_, _^_, _≤_, _<_}
+use mathlib.Core.Path.{_≡_, refl, sym, ap, _∙_}
+use mathlib.Core.Bool.{Bool, true, false, cond}
+use mathlib.Core.List.{List, [], _∷_, _++_, append-assoc, append-nil}
+use native.Mathlib.Omega.{arith}
+use native.Mathlib.Nat.{pow-suc}
+use lib.Dec.{leb, ltb, eqb}
+use lib.ListN.{length, getD, take, drop, length-append, length-drop, drop-of-length-le}
+use lib.Seq.{take-at, drop-at, getD-at, drop-drop}
+use borrow.Author.Tests.{eq-eqb, ne-eqb, le-leb, lt-leb, lt-ltb, le-ltb, ltb-true, leb-true, eqb-true, eqb-false}
+use Rattle.rules.specs.Lists.{gather}
+use Rattle.rules.specs.Sheet.{Bytes, Line, line, strip, digits, numeral, columnOf, columnAt, whole, frontOf, valueOf, restOf, Sheet, end, broken, row, byFront, linesWithin, lines, leading, column, numbers, lineBytes, print}
+use Rattle.rules.specs.declared.Column.{Column}
+use Rattle.rules.specs.declared.Column.the-variants.{Number, Malformed}
+use Rattle.rules.specs.declared.Front.{Front}
+use Rattle.rules.specs.declared.Front.the-variants.{Taken, NotInForm, End}
+
+-- ---- a line taken fits the sheet
+
+malformed-taken : {k a b c l : ℕ} → NotInForm ≡ Taken k a b c l → ⊥
+malformed-taken e = let z : _≡_ {A = ℕ} 0 1 = cc in omega arith
+
+end-taken : {k a b c l : ℕ} → End ≡ Taken k a b c l → ⊥
+end-taken e = let z : _≡_ {A = ℕ} 0 1 = cc in omega arith
+
+module _ (w : ℕ) (s : Bytes) {k a b c l : ℕ} where
+  tests-fit : (k′ a′ b′ c′ n : ℕ) (t₁ t₂ t₃ : Bool) → leb n 64 ≡ t₁ → ltb (5 * w + n) (length s) ≡ t₂
+      → cond t₁ (cond t₂ (cond t₃ (Taken k′ a′ b′ c′ n) NotInForm) NotInForm) NotInForm ≡ Taken k a b c l → (l ≤ 64) × (5 * w + l < length s)
+  tests-fit k′ a′ b′ c′ n true true true p q e =
+      let h : n ≡ l = cc in
+      let g : 5 * w + n < length s = ltb-true (5 * w + n) (length s) q in
+      let f : n ≤ 64 = leb-true n 64 p in
+      omega arith
+  tests-fit k′ a′ b′ c′ n true true false p q e = absurd (malformed-taken e)
+  tests-fit k′ a′ b′ c′ n true false t₃ p q e = absurd (malformed-taken e)
+  tests-fit k′ a′ b′ c′ n false t₂ t₃ p q e = absurd (malformed-taken e)
+
+  whole-fits : (f₀ f₁ f₂ f₃ f₄ : Column) → whole w s f₀ f₁ f₂ f₃ f₄ ≡ Taken k a b c l → (l ≤ 64) × (5 * w + l < length s)
+  unfolding whole
+  whole-fits Malformed f₁ f₂ f₃ f₄ e = absurd (malformed-taken e)
+  whole-fits (Number k₁) Malformed f₂ f₃ f₄ e = absurd (malformed-taken e)
+  whole-fits (Number k₁) (Number a₁) Malformed f₃ f₄ e = absurd (malformed-taken e)
+  whole-fits (Number k₁) (Number a₁) (Number b₁) Malformed f₄ e = absurd (malformed-taken e)
+  whole-fits (Number k₁) (Number a₁) (Number b₁) (Number c₁) Malformed e = absurd (malformed-taken e)
+  whole-fits (Number k₁) (Number a₁) (Number b₁) (Number c₁) (Number n) e =
+      tests-fit k₁ a₁ b₁ c₁ n (leb n 64) (ltb (5 * w + n) (length s)) (eqb (getD s (5 * w + n) 0) 10) refl refl e
+
+  front-fits-by : (t₁ t₂ : Bool) (f₀ f₁ f₂ f₃ f₄ : Column) → cond t₁ End (cond t₂ NotInForm (whole w s f₀ f₁ f₂ f₃ f₄)) ≡ Taken k a b c l → (l ≤ 64) × (5 * w + l < length s)
+  front-fits-by true t₂ f₀ f₁ f₂ f₃ f₄ e = absurd (end-taken e)
+  front-fits-by false true f₀ f₁ f₂ f₃ f₄ e = absurd (malformed-taken e)
+  front-fits-by false false f₀ f₁ f₂ f₃ f₄ e = whole-fits f₀ f₁ f₂ f₃ f₄ e
+
+  pub front-fits : frontOf w s ≡ Taken k a b c l → (l ≤ 64) × (5 * w + l < length s)
+  unfolding frontOf
+  front-fits e = front-fits-by (eqb (length s) 0) (ltb (length s) (5 * w)) _ _ _ _ _ e
+
+pub front-end : (w : ℕ) (s : Bytes) → length s ≡ 0 → frontOf w s ≡ End
+unfolding frontOf
+front-end w s e = rw (eq-eqb (length s) 0 e)
+
+pub front-short : (w : ℕ) (s : Bytes) → (length s ≡ 0 → ⊥) → length s < 5 * w → frontOf w s ≡ NotInForm
+unfolding frontOf
+front-short w s e h = rw (ne-eqb (length s) 0 e, lt-ltb (length s) (5 * w) h)
+
+pub front-whole : (w : ℕ) (s : Bytes) → (length s ≡ 0 → ⊥) → 5 * w ≤ length s
+    → frontOf w s ≡ whole w s (columnOf (columnAt w 0 s)) (columnOf (columnAt w 1 s)) (columnOf (columnAt w 2 s)) (columnOf (columnAt w 3 s)) (columnOf (columnAt w 4 s))
+unfolding frontOf
+front-whole w s e h = rw (ne-eqb (length s) 0 e, le-ltb (length s) (5 * w) h)
+
+-- ---- the lines one by one
+
+by-same : (w : ℕ) (s : Bytes) (p q : Bytes → Sheet) (x : Front) → ((l : ℕ) → p (restOf w l s) ≡ q (restOf w l s)) → byFront w s p x ≡ byFront w s q x
+by-same w s p q (Taken k a b c l) h = ap (row (line k a b c (valueOf w l s))) (h l)
+by-same w s p q NotInForm h = refl
+by-same w s p q End h = refl
+
+within-empty : (f w : ℕ) (s : Bytes) → length s ≡ 0 → linesWithin f w s ≡ end
+unfolding linesWithin
+within-empty zero w s e = refl
+within-empty (suc f) w s e = rw (front-end w s e)
+
+rest-shorter : (w l : ℕ) (s : Bytes) (f : ℕ) → length s ≤ suc f → length (restOf w l s) ≤ f
+rest-shorter w l s f h = simp length-drop (omega arith)
+
+-- more lines allowed than bytes there are changes nothing
+enough : (f g w : ℕ) (s : Bytes) → length s ≤ f → length s ≤ g → linesWithin f w s ≡ linesWithin g w s
+unfolding linesWithin
+enough zero g w s p q = sym (within-empty g w s (omega arith))
+enough (suc f) zero w s p q = within-empty (suc f) w s (omega arith)
+enough (suc f) (suc g) w s p q =
+    by-same w s (λ r. linesWithin f w r) (λ r. linesWithin g w r) (frontOf w s) (λ l. enough f g w (restOf w l s) (rest-shorter w l s f p) (rest-shorter w l s g q))
+
+pub lines-step : (w : ℕ) (s : Bytes) → lines w s ≡ byFront w s (lines w) (frontOf w s)
+unfolding lines linesWithin
+lines-step w s =
+    enough (length s) (suc (length s)) w s (omega arith) (omega arith)
+    ∙ by-same w s (λ r. linesWithin (length s) w r) (lines w) (frontOf w s) (λ l. enough (length s) (length (restOf w l s)) w (restOf w l s) (rest-shorter w l s (length s) (omega arith)) (omega arith))
+
+-- at a position: what one step of a loop over the lines needs
+module _ (w : ℕ) (s : Bytes) (i : ℕ) where
+  pub lines-taken : {k a b c l : ℕ} → frontOf w (drop i s) ≡ Taken k a b c l
+      → lines w (drop i s) ≡ row (line k a b c (valueOf w l (drop i s))) (lines w (drop (i + (5 * w + 1 + l)) s))
+  lines-taken {l = l} e = lines-step w (drop i s) ∙ rw (e, drop-drop (5 * w + 1 + l) i s)
+
+  pub lines-broken : frontOf w (drop i s) ≡ NotInForm → lines w (drop i s) ≡ broken
+  lines-broken e = lines-step w (drop i s) ∙ rw e
+
+  pub lines-end : frontOf w (drop i s) ≡ End → lines w (drop i s) ≡ end
+  lines-end e = lines-step w (drop i s) ∙ rw e
+
+  pub front-past : length s ≤ i → frontOf w (drop i s) ≡ End
+  front-past h = front-end w (drop i s) (simp length-drop (omega arith))
+
+  pub taken-fits : {k a b c l : ℕ} → frontOf w (drop i s) ≡ Taken k a b c l → (l ≤ 64) × (i + (5 * w + 1 + l) ≤ length s)
+  taken-fits e = let h = front-fits w (drop i s) e in omega (arith, h .0, simp length-drop at (h .1))
+
+-- ---- lengths
+
+leading-length : (i v : ℕ) → length (leading i v) ≡ i
+unfolding leading
+leading-length zero v = refl
+leading-length (suc i) v = length-append (leading i (v / 10)) _ ∙ rw (leading-length i (v / 10)) (omega arith)
+
+pub column-length : (w n : ℕ) → length (column w n) ≡ w
+unfolding column
+column-length zero n = refl
+column-length (suc w) n = length-append (leading w (n / 10)) _ ∙ rw (leading-length w (n / 10)) (omega arith)
+
+pub numbers-length : (w k a b c l : ℕ) → length (numbers w k a b c l) ≡ 5 * w
+unfolding numbers
+numbers-length w k a b c l = simp (length-append, column-length) (omega arith)
+
+-- ---- a column written is read back
+
+-- nothing left to write: spaces, which are stripped
+leading-none : (i : ℕ) (r : Bytes) → strip (leading i 0 ++ r) ≡ strip r
+unfolding leading
+leading-none zero r = refl
+leading-none (suc i) r = rw (append-assoc (leading i 0) (32 ∷ []) r) (leading-none i (32 ∷ r) ∙ (unfold strip in refl))
+
+-- the digit `d` after the number `v`
+digits-digit : (v d : ℕ) (r : Bytes) → d ≤ 9 → digits v ((48 + d) ∷ r) ≡ digits (v * 10 + d) r
+unfolding digits
+digits-digit v d r h =
+    let e : 48 + d - 48 ≡ d = omega arith in
+    rw (le-leb 48 (48 + d) (omega arith), le-leb (48 + d) 57 (omega arith), e)
+
+strip-digit : (d : ℕ) (r : Bytes) → strip ((48 + d) ∷ r) ≡ (48 + d) ∷ r
+unfolding strip
+strip-digit d r = rw (ne-eqb (48 + d) 32 (λ e. omega arith))
+
+numeral-digit : (d : ℕ) (r : Bytes) → (d ≡ 0 → ⊥) → numeral ((48 + d) ∷ r) ≡ digits 0 ((48 + d) ∷ r)
+unfolding numeral
+numeral-digit d [] h = refl
+numeral-digit d (b ∷ bs) h = rw (ne-eqb (48 + d) 48 (λ e. h (omega arith)))
+
+-- something left to write: its digits are read before what follows
+module _ (i v : ℕ) (r : Bytes) (nz : v ≡ 0 → ⊥) where
+  leading-open : leading (suc i) v ++ r ≡ leading i (v / 10) ++ ((48 + v % 10) ∷ r)
+  unfolding leading
+  leading-open = rw (ne-eqb v 0 nz) (append-assoc (leading i (v / 10)) ((48 + v % 10) ∷ []) r)
+
+  leading-last : v / 10 ≡ 0 → columnOf (leading i (v / 10) ++ ((48 + v % 10) ∷ r)) ≡ digits v r
+  unfolding columnOf
+  leading-last z =
+      let m : 0 * 10 + v % 10 ≡ v = omega arith in
+      rw (z, leading-none i ((48 + v % 10) ∷ r), strip-digit (v % 10) r, numeral-digit (v % 10) r (λ q. nz (omega arith)), digits-digit 0 (v % 10) r (omega arith), m)
+
+  -- by the test of `v / 10`, with what is had of it where it is not 0
+  leading-by : (t : Bool) → eqb (v / 10) 0 ≡ t
+      → ((v / 10 ≡ 0 → ⊥) → columnOf (leading i (v / 10) ++ ((48 + v % 10) ∷ r)) ≡ digits (v / 10) ((48 + v % 10) ∷ r))
+      → columnOf (leading (suc i) v ++ r) ≡ digits v r
+  leading-by true e ih = ap columnOf leading-open ∙ leading-last (eqb-true (v / 10) 0 e)
+  leading-by false e ih =
+      let m : v / 10 * 10 + v % 10 ≡ v = omega arith in
+      ap columnOf leading-open ∙ ih (eqb-false (v / 10) 0 e) ∙ digits-digit (v / 10) (v % 10) r (omega arith) ∙ rw m
+
+leading-some : (i v : ℕ) (r : Bytes) → (v ≡ 0 → ⊥) → v < 10 ^ i → columnOf (leading i v ++ r) ≡ digits v r
+leading-some zero v r nz h = absurd (nz (omega arith))
+leading-some (suc i) v r nz h = leading-by i v r nz (eqb (v / 10) 0) refl (λ q. leading-some i (v / 10) ((48 + v % 10) ∷ r) q (omega (arith, pow-suc 10 i)))
+
+column-by : (w n : ℕ) → n < 10 ^ suc w → (t : Bool) → eqb (n / 10) 0 ≡ t → columnOf (column (suc w) n) ≡ Number n
+unfolding column columnOf numeral digits
+column-by w n h true e =
+    let z : n / 10 ≡ 0 = eqb-true (n / 10) 0 e in
+    let m : 0 * 10 + n % 10 ≡ n = omega arith in
+    rw (z, leading-none w ((48 + n % 10) ∷ []), strip-digit (n % 10) []) (digits-digit 0 (n % 10) [] (omega arith) ∙ rw m)
+column-by w n h false e =
+    let m : n / 10 * 10 + n % 10 ≡ n = omega arith in
+    leading-some w (n / 10) ((48 + n % 10) ∷ []) (eqb-false (n / 10) 0 e) (omega (arith, pow-suc 10 w)) ∙ digits-digit (n / 10) (n % 10) [] (omega arith) ∙ rw m
+
+pub column-read : (w n : ℕ) → n < 10 ^ suc w → columnOf (column (suc w) n) ≡ Number n
+column-read w n h = column-by w n h (eqb (n / 10) 0) refl
+
+-- ---- a line written is read back
+
+-- numbers of at most `w` digits, and at most 64 bytes
+pub record Fits (w : ℕ) (x : Line) : Type 0 where
+  pub kind : x .kind < 10 ^ w
+  pub a : x .a < 10 ^ w
+  pub b : x .b < 10 ^ w
+  pub c : x .c < 10 ^ w
+  pub count : length (x .bytes) < 10 ^ w
+  pub bytes : length (x .bytes) ≤ 64
+
+-- five parts of `w` bytes each are the columns
+module _ (w : ℕ) (x₀ x₁ x₂ x₃ x₄ r : Bytes) (e₀ : length x₀ ≡ w) (e₁ : length x₁ ≡ w) (e₂ : length x₂ ≡ w) (e₃ : length x₃ ≡ w) (e₄ : length x₄ ≡ w) where
+  columns-split : let s = ((((x₀ ++ x₁) ++ x₂) ++ x₃) ++ x₄) ++ r in
+      (columnAt w 0 s ≡ x₀) × (columnAt w 1 s ≡ x₁) × (columnAt w 2 s ≡ x₂) × (columnAt w 3 s ≡ x₃) × (columnAt w 4 s ≡ x₄)
+  columns-split = (
+    part [] x₀ (x₁ ++ (x₂ ++ (x₃ ++ (x₄ ++ r)))) (0 * w) (omega arith) e₀ (simp append-assoc),
+    part x₀ x₁ (x₂ ++ (x₃ ++ (x₄ ++ r))) (1 * w) (omega arith) e₁ (simp append-assoc),
+    part (x₀ ++ x₁) x₂ (x₃ ++ (x₄ ++ r)) (2 * w) (simp length-append (omega arith)) e₂ (simp append-assoc),
+    part ((x₀ ++ x₁) ++ x₂) x₃ (x₄ ++ r) (3 * w) (simp length-append (omega arith)) e₃ (simp append-assoc),
+    part (((x₀ ++ x₁) ++ x₂) ++ x₃) x₄ r (4 * w) (simp length-append (omega arith)) e₄ (simp append-assoc),
+  )
+    where
+      part : (p x q : Bytes) (n : ℕ) → length p ≡ n → length x ≡ w → {s : Bytes} → s ≡ p ++ (x ++ q) → take w (drop n s) ≡ x
+      part p x q n e f g = rw (g, drop-at p (x ++ q) n e) (take-at x q w f)
+
+module _ (w : ℕ) (x : Line) where
+  abbrev numbersOf : Bytes
+  numbersOf = numbers w (x .kind) (x .a) (x .b) (x .c) (length (x .bytes))
+
+  pub line-length : length (lineBytes w x) ≡ 5 * w + 1 + length (x .bytes)
+  unfolding lineBytes
+  line-length = simp (length-append, numbers-length) (omega arith)
+
+  module _ (rest : Bytes) where
+    abbrev parts : Bytes
+    parts = numbersOf ++ (x .bytes ++ (10 ∷ rest))
+
+    printed-parts : lineBytes w x ++ rest ≡ parts
+    unfolding lineBytes
+    printed-parts = append-assoc (numbersOf ++ x .bytes) (10 ∷ []) rest ∙ append-assoc numbersOf (x .bytes) (10 ∷ rest)
+
+    parts-length : length parts ≡ 5 * w + (length (x .bytes) + suc (length rest))
+    parts-length = simp (length-append, numbers-length)
+
+    parts-end : getD parts (5 * w + length (x .bytes)) 0 ≡ 10
+    parts-end =
+        rw (← append-assoc numbersOf (x .bytes) (10 ∷ rest))
+        (getD-at (numbersOf ++ x .bytes) 10 rest 0 (5 * w + length (x .bytes)) (simp (length-append, numbers-length)))
+
+    pub printed-value : valueOf w (length (x .bytes)) (lineBytes w x ++ rest) ≡ x .bytes
+    printed-value =
+        rw (printed-parts, drop-at numbersOf (x .bytes ++ (10 ∷ rest)) (5 * w) (simp numbers-length))
+        (take-at (x .bytes) (10 ∷ rest) (length (x .bytes)) refl)
+
+    pub printed-rest : restOf w (length (x .bytes)) (lineBytes w x ++ rest) ≡ rest
+    printed-rest = drop-at (lineBytes w x) rest (5 * w + 1 + length (x .bytes)) line-length
+
+module _ (w : ℕ) (x : Line) (rest : Bytes) (f : Fits (suc w) x) where
+  pub printed-front : frontOf (suc w) (lineBytes (suc w) x ++ rest) ≡ Taken (x .kind) (x .a) (x .b) (x .c) (length (x .bytes))
+  unfolding numbers whole
+  printed-front =
+      let v = suc w in
+      let l = length (x .bytes) in
+      let s = parts v x rest in
+      let n : length s ≡ 5 * v + (l + suc (length rest)) = parts-length v x rest in
+      let p = columns-split v (column v (x .kind)) (column v (x .a)) (column v (x .b)) (column v (x .c)) (column v l) (x .bytes ++ (10 ∷ rest))
+      (column-length v _) (column-length v _) (column-length v _) (column-length v _) (column-length v _) in
+      ap (frontOf v) (printed-parts v x rest)
+      ∙ front-whole v s (λ z. omega arith) (omega arith)
+      ∙ rw (p .0, p .1, p .2, p .3, p .4, column-read w (x .kind) (f .kind), column-read w (x .a) (f .a), column-read w (x .b) (f .b), column-read w (x .c) (f .c), column-read w l (f .count), le-leb l 64 (f .bytes), lt-ltb (5 * v + l) (length s) (omega arith), eq-eqb (getD s (5 * v + l) 0) 10 (parts-end v x rest))
+
+-- ---- a sheet written is read back
+
+-- all lines fit
+abbrev pub AllFit : ℕ → List Line → Type 0
+AllFit w [] = Unit {0}
+AllFit w (x ∷ ls) = Fits w x × AllFit w ls
+
+-- the lines `ls`, then `t`
+abbrev pub rows : List Line → Sheet → Sheet
+rows [] t = t
+rows (x ∷ ls) t = row x (rows ls t)
+
+-- whatever follows
+pub printed-then : (w : ℕ) (ls : List Line) (rest : Bytes) → AllFit (suc w) ls → lines (suc w) (print (suc w) ls ++ rest) ≡ rows ls (lines (suc w) rest)
+unfolding print
+printed-then w [] rest f = refl
+printed-then w (x ∷ ls) rest f =
+    let more = gather (lineBytes (suc w)) ls ++ rest in
+    ap (lines (suc w)) (append-assoc (lineBytes (suc w) x) (gather (lineBytes (suc w)) ls) rest)
+    ∙ lines-step (suc w) (lineBytes (suc w) x ++ more)
+    ∙ rw (printed-front w x more (f .0), printed-value (suc w) x more, printed-rest (suc w) x more) (ap (row x) (printed-then w ls rest (f .1)))
+
+pub printed : (w : ℕ) (ls : List Line) → AllFit (suc w) ls → lines (suc w) (print (suc w) ls) ≡ rows ls end
+printed w ls f =
+    ap (lines (suc w)) (sym (append-nil (print (suc w) ls)))
+    ∙ printed-then w ls [] f
+    ∙ ap (rows ls) (lines-step (suc w) [] ∙ rw (front-end (suc w) [] refl))
