@@ -1,0 +1,161 @@
+// One line of a sheet: read at the front of the sheet's rest and shown as parts of the sheet, judged by its kind and
+// columns, and written into a lent buffer. The width of a column is a parameter of every function.
+use rules::Column;
+use rules::Front;
+ghost use mathlib.Core.Path.{_≡_};
+ghost use Prim.Native.Nat.{_+_, _*_, _≤_};
+ghost use lib.ListN.{length, take, drop};
+ghost use Rattle.rules.specs.Sheet.{strip, digits, columnOf, whole, frontOf, valueOf, restOf};
+
+// The number of spaces on the left of a column.
+fn spaces(s: &[u8]) -> usize
+    ensures { λ r. ⌜ (r ≤ length (now (s .entry))) × (drop r (now (s .entry)) ≡ strip (now (s .entry))) ⌝ }
+{
+    let mut i = 0;
+    while i < s.len() {
+        if s[i] != 32 {
+            return i;
+        }
+        i += 1;
+    }
+    i
+}
+
+// The decimal number from `from` to the end of a column.
+fn number(s: &[u8], from: usize) -> Column
+    requires { ⌜ (length (now s) ≤ 18) × (from ≤ length (now s)) ⌝ }
+    ensures { λ r. ⌜ r ≡ digits 0 (drop from (now (s .entry))) ⌝ }
+{
+    let mut v: u64 = 0;
+    let mut i = from;
+    while i < s.len() {
+        let b = s[i];
+        if b < 48 {
+            return Column::Malformed;
+        }
+        if 57 < b {
+            return Column::Malformed;
+        }
+        v = v * 10 + ((b - 48) as u64);
+        i += 1;
+    }
+    Column::Number(v)
+}
+
+// A column: spaces, then a number with no leading zero.
+fn numeral(s: &[u8]) -> Column
+    requires { ⌜ length (now s) ≤ 18 ⌝ }
+    ensures { λ r. ⌜ r ≡ columnOf (now (s .entry)) ⌝ }
+{
+    let at = spaces(s);
+    if at == s.len() {
+        return Column::Malformed;
+    }
+    if s[at] == 48 {
+        if at + 1 < s.len() {
+            return Column::Malformed;
+        }
+    }
+    number(s, at)
+}
+
+// The column of width `w` that begins at `from`.
+fn column_at(s: &[u8], from: usize, w: usize) -> Column
+    requires { ⌜ (w ≤ 18) × (from + w ≤ length (now s)) ⌝ }
+    ensures { λ r. ⌜ r ≡ columnOf (take w (drop from (now (s .entry)))) ⌝ }
+{
+    let end = from + w;
+    numeral(&s[from..end])
+}
+
+// What stands after five columns with these numbers: `n` bytes, at most 64, then byte 10.
+fn framed(s: &[u8], w: usize, kind: u64, a: u64, b: u64, c: u64, n: u64) -> Front
+    requires { ⌜ w ≤ 18 ⌝ }
+    ensures { λ r. ⌜ r ≡ whole w (now (s .entry)) (Column.Number kind) (Column.Number a) (Column.Number b) (Column.Number c) (Column.Number n) ⌝ }
+{
+    if 64 < n {
+        return Front::NotInForm;
+    }
+    let length = n as usize;
+    let end = 5 * w + length;
+    if s.len() <= end {
+        return Front::NotInForm;
+    }
+    if s[end] != 10 {
+        return Front::NotInForm;
+    }
+    Front::Taken {
+        kind,
+        a,
+        b,
+        c,
+        length,
+    }
+}
+
+// The line at the front of a sheet's rest.
+pub fn front(s: &[u8], w: usize) -> Front
+    requires { ⌜ w ≤ 18 ⌝ }
+    ensures { λ r. ⌜ r ≡ frontOf w (now (s .entry)) ⌝ }
+{
+    if s.len() == 0 {
+        return Front::End;
+    }
+    if s.len() < 5 * w {
+        return Front::NotInForm;
+    }
+    let Column::Number(kind) = column_at(s, 0, w) else {
+        return Front::NotInForm;
+    };
+    let Column::Number(a) = column_at(s, w, w) else {
+        return Front::NotInForm;
+    };
+    let Column::Number(b) = column_at(s, 2 * w, w) else {
+        return Front::NotInForm;
+    };
+    let Column::Number(c) = column_at(s, 3 * w, w) else {
+        return Front::NotInForm;
+    };
+    let Column::Number(n) = column_at(s, 4 * w, w) else {
+        return Front::NotInForm;
+    };
+    framed(s, w, kind, a, b, c, n)
+}
+
+// The line at the position `at` of a sheet; beyond its last byte, its end.
+pub fn line_at(s: &[u8], at: usize, w: usize) -> Front
+    requires { ⌜ w ≤ 18 ⌝ }
+    ensures { λ r. ⌜ r ≡ frontOf w (drop at (now (s .entry))) ⌝ }
+{
+    if at < s.len() {
+        return front(&s[at..], w);
+    }
+    Front::End
+}
+
+// The bytes of a line of `len` bytes at the front, as a part of the sheet.
+pub fn value(s: &[u8], len: usize, w: usize) -> &[u8]
+    requires { ⌜ 5 * w + len ≤ length (now s) ⌝ }
+    ensures { λ r. ⌜ now r ≡ valueOf w len (now (s .entry)) ⌝ }
+{
+    let from = 5 * w;
+    let end = from + len;
+    &s[from..end]
+}
+
+// The bytes of a line of `len` bytes at the position `at`, as a part of the sheet.
+pub fn value_at(s: &[u8], at: usize, len: usize, w: usize) -> &[u8]
+    requires { ⌜ at + (5 * w + len) ≤ length (now s) ⌝ }
+    ensures { λ r. ⌜ now r ≡ valueOf w len (drop at (now (s .entry))) ⌝ }
+{
+    value(&s[at..], len, w)
+}
+
+// The sheet after a line of `len` bytes at the front.
+pub fn rest(s: &[u8], len: usize, w: usize) -> &[u8]
+    requires { ⌜ 5 * w + 1 + len ≤ length (now s) ⌝ }
+    ensures { λ r. ⌜ now r ≡ restOf w len (now (s .entry)) ⌝ }
+{
+    let next = 5 * w + 1 + len;
+    &s[next..]
+}
