@@ -10,21 +10,15 @@ pub(crate) fn sized(v: &[u8]) -> bool
     (1 <= v.len()) & (v.len() <= 64)
 }
 
-// A byte that text may have.
-fn prints(b: u8) -> bool
-    ensures { λ r. ⌜ r ≡ Value.printable b ⌝ }
-{
-    (32 <= b) & (b <= 126)
-}
-
-// Whether text may have all the bytes. With no way out of the loop it runs many bytes at a time.
+// Whether all bytes are 32 to 126. The loop has no way out, so that it runs over many bytes at a time.
 pub(crate) fn printable(v: &[u8]) -> bool
     ensures { λ r. ⌜ r ≡ all Value.printable (now (v .entry)) ⌝ }
 {
     let mut ok = true;
     let mut i: usize = 0;
     while i < v.len() {
-        ok = ok & prints(v[i]);
+        let b = v[i];
+        ok = ok & ((32 <= b) & (b <= 126));
         i += 1;
     }
     ok

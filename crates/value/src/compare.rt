@@ -49,6 +49,7 @@ fn four(v: &[u8], w: &[u8], i: usize) -> bool
     ((v[i] == w[i]) & (v[i + 1] == w[i + 1])) & ((v[i + 2] == w[i + 2]) & (v[i + 3] == w[i + 3]))
 }
 
+// The lesser number.
 fn least(a: usize, b: usize) -> usize
     ensures { λ r. ⌜ r ≡ min a b ⌝ }
 {

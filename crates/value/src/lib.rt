@@ -86,10 +86,19 @@ pub fn piece_end(v: &[u8], from: usize, place: u64, p: &[u8]) -> Found
     ensures { λ r. ⌜ r ≡ Value.used place (Value.normal Value.text (now (p .entry))) (drop from (Value.normal Value.text (now (v .entry)))) ⌝ }
 {
     if place == 0 {
-        return pieces::initial(v, from, p);
+        if pieces::stands(v, from, p) {
+            return Found::At(p.len());
+        }
+        return Found::Nothing;
     }
     if place == 1 {
         return pieces::any(v, from, p);
     }
-    pieces::last(v, from, p)
+    if v.len() - from < p.len() {
+        return Found::Nothing;
+    }
+    if pieces::stands(v, v.len() - p.len(), p) {
+        return Found::At(v.len() - from);
+    }
+    Found::Nothing
 }

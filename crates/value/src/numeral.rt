@@ -95,6 +95,7 @@ pub(crate) fn positive(c: Column) -> Integer
     }
 }
 
+// Whether there is an integer.
 pub(crate) fn is_integer(x: Integer) -> bool
     ensures { λ r. ⌜ r ≡ Value.isInteger x ⌝ }
 {
@@ -102,18 +103,6 @@ pub(crate) fn is_integer(x: Integer) -> bool
         Integer::Value(_) => true,
         Integer::NotAnInteger => false,
     }
-}
-
-fn compare(a: i64, b: i64) -> Order
-    ensures { λ r. ⌜ r ≡ Value.orderℤ a b ⌝ }
-{
-    if a < b {
-        return Order::Less;
-    }
-    if b < a {
-        return Order::Greater;
-    }
-    Order::Equal
 }
 
 // The numeric order.
@@ -126,5 +115,11 @@ pub(crate) fn order_integers(x: Integer, y: Integer) -> Order
     let Integer::Value(b) = y else {
         return Order::Equal;
     };
-    compare(a, b)
+    if a < b {
+        return Order::Less;
+    }
+    if b < a {
+        return Order::Greater;
+    }
+    Order::Equal
 }

@@ -7,42 +7,17 @@ ghost use mathlib.Core.Bool.{not};
 ghost use Prim.Native.Nat.{_+_, _≤_};
 ghost use lib.Dec.{eqb};
 ghost use lib.ListN.{length, getD, drop};
-ghost use Rattle.rules.specs.Value.{text, normal, begins, find, used};
+ghost use Rattle.rules.specs.Value.{text, normal, begins, find};
 ghost use Rattle.rules.specs.Value as Value;
 ghost use Rattle.value.specs.Normal as Normal;
 ghost use Rattle.value.specs.Pieces as Pieces;
 
 // Whether `p` stands at `at`.
-fn stands(v: &[u8], at: usize, p: &[u8]) -> bool
+pub(crate) fn stands(v: &[u8], at: usize, p: &[u8]) -> bool
     requires { ⌜ at ≤ length (now v) ⌝ }
     ensures { λ r. ⌜ r ≡ begins (drop at (normal text (now (v .entry)))) (normal text (now (p .entry))) ⌝ }
 {
     common(1, &v[at..], p) == p.len()
-}
-
-// An initial piece.
-pub(crate) fn initial(v: &[u8], from: usize, p: &[u8]) -> Found
-    requires { ⌜ from ≤ length (now v) ⌝ }
-    ensures { λ r. ⌜ r ≡ used 0 (normal text (now (p .entry))) (drop from (normal text (now (v .entry)))) ⌝ }
-{
-    if stands(v, from, p) {
-        return Found::At(p.len());
-    }
-    Found::Nothing
-}
-
-// A final piece.
-pub(crate) fn last(v: &[u8], from: usize, p: &[u8]) -> Found
-    requires { ⌜ from ≤ length (now v) ⌝ }
-    ensures { λ r. ⌜ r ≡ used 2 (normal text (now (p .entry))) (drop from (normal text (now (v .entry)))) ⌝ }
-{
-    if v.len() - from < p.len() {
-        return Found::Nothing;
-    }
-    if stands(v, v.len() - p.len(), p) {
-        return Found::At(v.len() - from);
-    }
-    Found::Nothing
 }
 
 // Whether four bytes are all other than the small letter `b`.

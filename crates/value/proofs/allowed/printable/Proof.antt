@@ -1,4 +1,4 @@
--- Of the bytes passed `ok` says whether text may have them all.
+-- The invariant: `ok` says whether text may have the bytes passed.
 use Prim.Native.Nat.{_-_, _≤_}
 use mathlib.Core.Path.{_≡_, refl, sym, _∙_}
 use mathlib.Core.Bool.{_&&_}
@@ -20,11 +20,8 @@ abbrev μ-loop : tie.MeasureT-loop
 loop-holds : tie.Need-loop-holds Inv-loop μ-loop
 loop-holds c = (search needs, refl)
 
-shared-slice-read-prints : tie.Need-shared-slice-read-prints Inv-loop μ-loop
-shared-slice-read-prints c = search needs
-
-prints-requires : tie.Need-prints-requires Inv-loop μ-loop
-prints-requires c κs = search needs
+shared-slice-read-b : tie.Need-shared-slice-read-b Inv-loop μ-loop
+shared-slice-read-b c = search needs
 
 add-i : tie.Need-add-i Inv-loop μ-loop
 add-i c = search needs
@@ -33,21 +30,17 @@ loop-less : tie.Need-loop-less Inv-loop μ-loop
 loop-less c = search needs
 
 loop-again : tie.Need-loop-again Inv-loop μ-loop
-loop-again c = let L = c .before .before .before .loop in (search needs, rw (c .prints .ensures) (all-on (now (c .before .before .before .before .before .args .v)) (L .i) (L .ok) (c .before .before .loop-test .taken) ∙ L .inv .1))
+unfolding printable
+loop-again c =
+    let L = c .before .before .loop in
+    (search needs, all-on (now (c .before .before .before .args .v)) (L .i) (L .ok) (c .before .loop-test .taken) ∙ L .inv .1)
 
 returns : tie.Need-returns Inv-loop μ-loop
-returns c = let L = c .before .loop in sym (all-end (now (c .before .before .before .args .v)) (L .i) (L .ok) (c .loop-test .left)) ∙ L .inv .1
+returns c =
+    let L = c .before .loop in
+    sym (all-end (now (c .before .before .args .v)) (L .i) (L .ok) (c .loop-test .left)) ∙ L .inv .1
 
 pub printable-spec : {M : Type 1} → statement M
 printable-spec =
     tie.close
-    (tie.spec
-    Inv-loop
-    μ-loop
-    loop-holds
-    shared-slice-read-prints
-    prints-requires
-    add-i
-    loop-less
-    loop-again
-    returns)
+    (tie.spec Inv-loop μ-loop loop-holds shared-slice-read-b add-i loop-less loop-again returns)

@@ -1,4 +1,4 @@
--- The two tests are the definition's.
+-- The tests are the definition's.
 use mathlib.Core.Path.{refl}
 use Rattle.rules.specs.Value.{sized}
 use Rattle.value.proofs.allowed.sized.Statement.{statement}

@@ -15,13 +15,17 @@ cast-t5 : tie.Need-cast-t5
 cast-t5 c = search needs
 
 returns : tie.Need-returns
-returns c = rw (c .before .before .c .given .1, toZ-pos w64 (c .if1 .taken), lt-ltb _ _ (c .if1 .taken))
+returns c =
+    let M = c .before .before .c .given in
+    rw (M .1, toZ-pos w64 (c .if1 .taken), lt-ltb _ _ (c .if1 .taken))
 
 enum-told : tie.Need-enum-told
 enum-told c = search needs
 
 returns-2 : tie.Need-returns-2
-returns-2 c = rw (c .before .before .c .given .1, le-ltb _ _ (c .if1 .left))
+returns-2 c =
+    let M = c .before .before .c .given in
+    rw (M .1, le-ltb _ _ (c .if1 .left))
 
 returns-3 : tie.Need-returns-3
 returns-3 c = sym (ap positive (c .enum-told .given .1))
