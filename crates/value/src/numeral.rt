@@ -86,22 +86,12 @@ pub(crate) fn positive(c: Column) -> Integer
 {
     match c {
         Column::Number(m) => {
-            if m < 9223372036854775808 {
+            if m <= 9223372036854775807 {
                 return Integer::Value(m as i64);
             }
             Integer::NotAnInteger
         }
         Column::Malformed => Integer::NotAnInteger,
-    }
-}
-
-// Whether there is an integer.
-pub(crate) fn is_integer(x: Integer) -> bool
-    ensures { λ r. ⌜ r ≡ Value.isInteger x ⌝ }
-{
-    match x {
-        Integer::Value(_) => true,
-        Integer::NotAnInteger => false,
     }
 }
 

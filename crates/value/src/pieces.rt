@@ -74,7 +74,8 @@ pub(crate) fn any(v: &[u8], from: usize, p: &[u8]) -> Found
     let mut i = seek(v, from, b);
     while p.len() <= v.len() - i {
         if stands(v, i, p) {
-            return Found::At(i - from + p.len());
+            let used = i - from + p.len();
+            return Found::At(used);
         }
         i = seek(v, i + 1, b);
     }

@@ -4,7 +4,7 @@ use borrow.Author.Tests.{eq-eqb, ne-eqb}
 use lib.ListN.{length-drop}
 use denote.Ref.{now}
 use Rattle.rules.specs.Value.{text, used}
-use Rattle.value.specs.Normal.{normal-length}
+use Rattle.rules.specs.Laws.Value.{normal-length}
 use Rattle.value.specs.Pieces.{ends-short, ends-stands}
 use borrow.Author.Needs.{needs}
 use Rattle.value.proofs.piece_end.Statement.{statement}

@@ -1,5 +1,7 @@
 -- By the definition's cases.
+use Prim.Native.Nat.{_<_}
 use mathlib.Core.Path.{sym, ap}
+use native.Mathlib.Omega.{arith}
 use borrow.Author.Tests.{lt-ltb, le-ltb}
 use mir.Facts.{toZ-pos}
 use mir.Syntax.{w64}
@@ -17,7 +19,8 @@ cast-t5 c = search needs
 returns : tie.Need-returns
 returns c =
     let M = c .before .before .c .given in
-    rw (M .1, toZ-pos w64 (c .if1 .taken), lt-ltb _ _ (c .if1 .taken))
+    let h : M .0 .0 < 9223372036854775808 = omega (arith, c .if1 .taken) in
+    rw (M .1, toZ-pos w64 h, lt-ltb _ _ h)
 
 enum-told : tie.Need-enum-told
 enum-told c = search needs

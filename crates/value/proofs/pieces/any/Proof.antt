@@ -54,11 +54,11 @@ sub-loop c = search needs
 stands-requires : tie.Need-stands-requires Inv-loop μ-loop
 stands-requires c κs = search needs
 
-sub-t17 : tie.Need-sub-t17 Inv-loop μ-loop
-sub-t17 c = search needs
+sub-used : tie.Need-sub-used Inv-loop μ-loop
+sub-used c = search needs
 
-add-t19 : tie.Need-add-t19 Inv-loop μ-loop
-add-t19 c = search needs
+add-used : tie.Need-add-used Inv-loop μ-loop
+add-used c = search needs
 
 returns-3 : tie.Need-returns-3 Inv-loop μ-loop
 returns-3 c =
@@ -107,8 +107,8 @@ any-spec =
     loop-holds
     sub-loop
     stands-requires
-    sub-t17
-    add-t19
+    sub-used
+    add-used
     returns-3
     add-seek
     seek-requires-2

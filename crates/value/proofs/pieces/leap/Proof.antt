@@ -6,7 +6,7 @@ use borrow.Author.Tests.{not-false}
 use lib.ListN.{length}
 use denote.Ref.{now}
 use Rattle.rules.specs.Value.{text, normal}
-use Rattle.value.specs.Normal.{normal-length}
+use Rattle.rules.specs.Laws.Value.{normal-length}
 use Rattle.value.specs.Pieces.{Sought, sought-start, sought-four}
 use borrow.Author.Needs.{needs}
 use Rattle.value.proofs.pieces.leap.Statement.{statement}

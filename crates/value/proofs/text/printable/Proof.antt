@@ -6,10 +6,10 @@ use lib.ListN.{length, drop}
 use denote.Ref.{now}
 use Rattle.rules.specs.Lists.{all}
 use Rattle.rules.specs.Value.{printable}
-use Rattle.value.specs.Allowed.{all-on, all-end}
+use Rattle.value.specs.Text.{all-on, all-end}
 use borrow.Author.Needs.{needs}
-use Rattle.value.proofs.allowed.printable.Statement.{statement}
-use Rattle.value.proofs.allowed.printable.Tie as tie
+use Rattle.value.proofs.text.printable.Statement.{statement}
+use Rattle.value.proofs.text.printable.Tie as tie
 
 abbrev Inv-loop : tie.InvT-loop
 Inv-loop v ok₀ i₀ ok i = (i ≤ length v) × ((ok && all printable (drop i v)) ≡ all printable v)

@@ -1,14 +1,7 @@
-// What octets and text allow: the number of bytes, and which bytes.
+// The bytes that text may have.
 ghost use mathlib.Core.Path.{_≡_};
 ghost use Rattle.rules.specs.Lists.{all};
 ghost use Rattle.rules.specs.Value as Value;
-
-// 1 to 64 bytes.
-pub(crate) fn sized(v: &[u8]) -> bool
-    ensures { λ r. ⌜ r ≡ Value.sized (now (v .entry)) ⌝ }
-{
-    (1 <= v.len()) & (v.len() <= 64)
-}
 
 // Whether all bytes are 32 to 126. The loop has no way out, so that it runs over many bytes at a time.
 pub(crate) fn printable(v: &[u8]) -> bool
