@@ -1,4 +1,5 @@
 // The pieces of a substrings item, each looked for in what is left of a text from `from` on, without case.
+use crate::TEXT;
 use crate::compare::common;
 use crate::compare::small;
 use rules::Found;
@@ -17,7 +18,7 @@ pub(crate) fn stands(v: &[u8], at: usize, p: &[u8]) -> bool
     requires { ⌜ at ≤ length (now v) ⌝ }
     ensures { λ r. ⌜ r ≡ begins (drop at (normal text (now (v .entry)))) (normal text (now (p .entry))) ⌝ }
 {
-    common(1, &v[at..], p) == p.len()
+    common(TEXT, &v[at..], p) == p.len()
 }
 
 // Whether four bytes are all other than the small letter `b`.
