@@ -1,19 +1,18 @@
 -- The beginning that two values share: its laws, one for each way through a loop, and what it tells of equality and order.
-use Prim.Native.Nat.{ℕ, zero, suc, _+_, _-_, _≤_, _<_, min}
+use Prim.Native.Nat.{ℕ, suc, _+_, _-_, _≤_, _<_, min}
 use mathlib.Core.Path.{_≡_, refl, sym, ap, _∙_}
 use mathlib.Core.Bool.{Bool, true, false, _&&_, cond}
-use mathlib.Core.List.{List, [], _∷_}
+use mathlib.Core.List.{[], _∷_}
 use native.Mathlib.Omega.{arith}
 use native.Mathlib.Nat.{zero-add}
 use borrow.Author.Tests.{eqb-true, eqb-false, eq-eqb, lt-ltb, le-ltb}
 use lib.Dec.{eqb, eqb·zero-suc, eqb·suc-suc}
 use lib.ListN.{length, getD, drop, length-drop, drop-of-length-le}
-use Rattle.rules.specs.Laws.Value.{identical-eq}
+use Rattle.rules.specs.Laws.Value.{identical-eq, normal-length}
 use Rattle.rules.specs.Sheet.{Bytes}
 use Rattle.rules.specs.Value.{normal, identical, same, begins, orderBytes}
-use Rattle.rules.specs.declared.Order.{Order}
 use Rattle.rules.specs.declared.Order.the-variants.{Less, Equal, Greater}
-use Rattle.value.specs.Normal.{fold, normal-length, normal-cons, four, four-steps}
+use Rattle.value.specs.Normal.{fold, normal-cons, four, four-steps}
 
 -- how many bytes two values share at their beginning
 unfoldable pub common : Bytes → Bytes → ℕ
@@ -67,16 +66,16 @@ module _ (s : ℕ) (v w : Bytes) (n : ℕ) (least : n ≡ min (length v) (length
 
 -- ---- what it tells
 
-common-cases : (x y : ℕ) (n m : ℕ) (t : Bool) → eqb x y ≡ t → eqb (cond t (suc n) 0) (suc m) ≡ (t && eqb n m)
-common-cases x y n m true e = eqb·suc-suc n m
-common-cases x y n m false e = eqb·zero-suc m
+eqb-cond : (t : Bool) (n m : ℕ) → eqb (cond t (suc n) 0) (suc m) ≡ (t && eqb n m)
+eqb-cond true n m = eqb·suc-suc n m
+eqb-cond false n m = eqb·zero-suc m
 
 pub identical-common : (a b : Bytes) → length a ≡ length b → identical a b ≡ eqb (common a b) (length a)
 unfolding identical common
 identical-common [] [] e = refl
 identical-common [] (y ∷ ys) e = absurd (omega arith)
 identical-common (x ∷ xs) [] e = absurd (omega arith)
-identical-common (x ∷ xs) (y ∷ ys) e = rw (identical-common xs ys (omega arith), common-cases x y (common xs ys) (length xs) (eqb x y) refl)
+identical-common (x ∷ xs) (y ∷ ys) e = rw (identical-common xs ys (omega arith), eqb-cond (eqb x y) (common xs ys) (length xs))
 
 module _ (s : ℕ) (v w : Bytes) where
   pub same-common : length v ≡ length w → same s v w ≡ eqb (common (normal s v) (normal s w)) (length v)
@@ -96,12 +95,12 @@ unfolding begins common
 begins-common [] [] = refl
 begins-common (x ∷ xs) [] = refl
 begins-common [] (y ∷ ys) = sym (eqb·zero-suc (length ys))
-begins-common (x ∷ xs) (y ∷ ys) = rw (begins-common xs ys, common-cases x y (common xs ys) (length ys) (eqb x y) refl)
+begins-common (x ∷ xs) (y ∷ ys) = rw (begins-common xs ys, eqb-cond (eqb x y) (common xs ys) (length ys))
 
 pub common-bound : (a b : Bytes) → (common a b ≤ length a) × (common a b ≤ length b)
 unfolding common
-common-bound [] b = (omega arith, omega arith)
-common-bound (x ∷ xs) [] = (omega arith, omega arith)
+common-bound [] b = omega arith
+common-bound (x ∷ xs) [] = omega arith
 common-bound (x ∷ xs) (y ∷ ys) = go (eqb x y) (common-bound xs ys)
   where
     go : (t : Bool) → (common xs ys ≤ length xs) × (common xs ys ≤ length ys)

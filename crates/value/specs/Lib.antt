@@ -1,4 +1,4 @@
-pub mod Allowed
+pub mod Text
 pub mod Normal
 pub mod Compare
 pub mod Numeral

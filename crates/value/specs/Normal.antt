@@ -2,7 +2,7 @@
 use Prim.Native.Nat.{ℕ, zero, suc, _+_, _-_, _≤_, _<_}
 use mathlib.Core.Path.{_≡_, refl, sym, ap, _∙_}
 use mathlib.Core.Bool.{Bool, true, false, _&&_, cond, and-eq-true-iff}
-use mathlib.Core.List.{List, [], _∷_, map, map-id}
+use mathlib.Core.List.{[], _∷_, map, map-id}
 use native.Mathlib.Omega.{arith}
 use native.Mathlib.Numerals.{add-one}
 use lib.Dec.{eqb}
@@ -23,9 +23,6 @@ module _ (s : ℕ) (v : Bytes) where
       go : (t : Bool) → cond t (map small v) v ≡ map (λ (b : ℕ). cond t (small b) b) v
       go true = refl
       go false = sym (map-id v)
-
-  pub normal-length : length (normal s v) ≡ length v
-  normal-length = rw normal-map (length-map v (fold s))
 
   pub normal-cons : (i : ℕ) → i < length v → drop i (normal s v) ≡ fold s (getD v i 0) ∷ drop (i + 1) (normal s v)
   normal-cons i h =

@@ -1,14 +1,14 @@
 -- The laws by which decimal digits are read.
 use Prim.Native.Nat.{ℕ, zero, suc, _+_, _-_, _*_, _^_, _≤_, _<_}
-use mathlib.Core.Path.{_≡_, refl, sym, ap, _∙_}
+use mathlib.Core.Path.{_≡_, refl, _∙_}
 use mathlib.Core.Bool.{Bool, true, false, cond}
-use mathlib.Core.List.{List, [], _∷_}
+use mathlib.Core.List.{[], _∷_}
 use native.Mathlib.Omega.{arith}
 use native.Mathlib.Nat.{add-zero, pow-suc, pow-le-pow-right, mul-le-mul-right}
 use native.Mathlib.Numerals.{add-one}
-use borrow.Author.Tests.{ltb-true, leb-true, leb-false, eqb-false, eq-eqb, ne-eqb, le-leb, lt-leb, lt-ltb, le-ltb}
-use lib.Dec.{leb, ltb, eqb, lit<}
-use lib.IntN.{ℤ, pos, negsuc, negℤ, _-ℤ_, +ℤ-idl}
+use borrow.Author.Tests.{ltb-true, leb-true, eq-eqb, ne-eqb, lt-leb, lt-ltb, le-ltb}
+use lib.Dec.{leb, ltb, lit<}
+use lib.IntN.{pos, negℤ, _-ℤ_, +ℤ-idl}
 use lib.ListN.{length, getD, drop, length-drop, drop-of-length-le}
 use lib.Seq.{drop-cons, getD-drop}
 use mir.Facts.{toZ-pos}
@@ -19,8 +19,7 @@ use Rattle.rules.specs.Sheet.{Bytes, digits, numeral}
 use Rattle.rules.specs.Value.{negative, positive, integerOf}
 use Rattle.rules.specs.declared.Column.{Column}
 use Rattle.rules.specs.declared.Column.the-variants.{Number, Malformed}
-use Rattle.rules.specs.declared.Integer.{Integer}
-use Rattle.rules.specs.declared.Integer.the-variants.{Value, NotAnInteger}
+use Rattle.rules.specs.declared.Integer.the-variants.{NotAnInteger}
 
 -- ---- digits
 

@@ -1,21 +1,19 @@
 -- The laws by which a piece is looked for: by its first byte, then by what it begins.
-use Prim.Native.Nat.{ℕ, zero, suc, _+_, _-_, _≤_, _<_}
+use Prim.Native.Nat.{ℕ, suc, _+_, _-_, _≤_, _<_}
 use mathlib.Core.Path.{_≡_, refl, sym, ap, _∙_}
-use mathlib.Core.Bool.{Bool, true, false, _&&_, not, cond}
-use mathlib.Core.List.{List, [], _∷_}
+use mathlib.Core.Bool.{Bool, true, false, not, cond}
+use mathlib.Core.List.{[], _∷_}
 use native.Mathlib.Omega.{arith}
 use native.Mathlib.Nat.{add-zero}
-use native.Mathlib.Numerals.{add-one}
 use borrow.Author.Tests.{not-true, eq-eqb, ne-eqb, le-leb, lt-leb}
-use lib.Dec.{leb, eqb}
+use lib.Dec.{eqb}
 use lib.ListN.{length, getD, take, drop, length-drop, drop-of-length-le}
 use lib.Seq.{drop-drop}
-use Rattle.rules.specs.Laws.Value.{find-by}
+use Rattle.rules.specs.Laws.Value.{find-by, normal-length}
 use Rattle.rules.specs.Sheet.{Bytes}
-use Rattle.rules.specs.Value.{text, small, normal, identical, begins, ends, find, used}
-use Rattle.rules.specs.declared.Found.{Found}
+use Rattle.rules.specs.Value.{text, small, normal, begins, ends, find}
 use Rattle.rules.specs.declared.Found.the-variants.{At, Nothing}
-use Rattle.value.specs.Normal.{fold, normal-length, normal-cons, normal-part, four, four-steps}
+use Rattle.value.specs.Normal.{fold, normal-cons, normal-part, four, four-steps}
 use Rattle.value.specs.Compare.{common, common-bound, identical-common, begins-common}
 
 -- ---- the first byte

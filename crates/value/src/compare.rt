@@ -1,4 +1,5 @@
 // Values compared byte by byte, text without case: the beginning that two of them share, and their order.
+use crate::TEXT;
 use rules::Order;
 ghost use mathlib.Core.Path.{_≡_};
 ghost use Prim.Native.Nat.{_+_, _≤_, min};
@@ -25,7 +26,7 @@ pub(crate) fn small(b: u8) -> u8
 fn folded(syntax: u64, b: u8) -> u8
     ensures { λ r. ⌜ r ≡ Normal.fold syntax b ⌝ }
 {
-    if syntax == 1 {
+    if syntax == TEXT {
         return small(b);
     }
     b
@@ -49,6 +50,7 @@ fn four(v: &[u8], w: &[u8], i: usize) -> bool
     ((v[i] == w[i]) & (v[i + 1] == w[i + 1])) & ((v[i + 2] == w[i + 2]) & (v[i + 3] == w[i + 3]))
 }
 
+// The lesser number.
 fn least(a: usize, b: usize) -> usize
     ensures { λ r. ⌜ r ≡ min a b ⌝ }
 {

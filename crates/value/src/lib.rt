@@ -1,8 +1,8 @@
 // A value by its syntax: what the syntax allows, equality, order and substrings (document 01, "Values").
-mod allowed;
 mod compare;
 mod numeral;
 mod pieces;
+mod text;
 
 use rules::Found;
 use rules::Integer;
@@ -36,13 +36,17 @@ pub fn integer(v: &[u8]) -> Integer
 pub fn fits(syntax: u64, v: &[u8]) -> bool
     ensures { λ r. ⌜ r ≡ Value.fits syntax (now (v .entry)) ⌝ }
 {
+    let sized = (1 <= v.len()) & (v.len() <= 64);
     if syntax == OCTETS {
-        return allowed::sized(v);
+        return sized;
     }
     if syntax == TEXT {
-        return allowed::sized(v) & allowed::printable(v);
+        return sized & text::printable(v);
     }
-    numeral::is_integer(integer(v))
+    let Integer::Value(_) = integer(v) else {
+        return false;
+    };
+    true
 }
 
 // The equality matching rule: whether two values that the syntax allows are equal.
@@ -86,10 +90,19 @@ pub fn piece_end(v: &[u8], from: usize, place: u64, p: &[u8]) -> Found
     ensures { λ r. ⌜ r ≡ Value.used place (Value.normal Value.text (now (p .entry))) (drop from (Value.normal Value.text (now (v .entry)))) ⌝ }
 {
     if place == 0 {
-        return pieces::initial(v, from, p);
+        if pieces::stands(v, from, p) {
+            return Found::At(p.len());
+        }
+        return Found::Nothing;
     }
     if place == 1 {
         return pieces::any(v, from, p);
     }
-    pieces::last(v, from, p)
+    if v.len() - from < p.len() {
+        return Found::Nothing;
+    }
+    if pieces::stands(v, v.len() - p.len(), p) {
+        return Found::At(v.len() - from);
+    }
+    Found::Nothing
 }

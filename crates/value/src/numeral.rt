@@ -86,34 +86,13 @@ pub(crate) fn positive(c: Column) -> Integer
 {
     match c {
         Column::Number(m) => {
-            if m < 9223372036854775808 {
+            if m <= 9223372036854775807 {
                 return Integer::Value(m as i64);
             }
             Integer::NotAnInteger
         }
         Column::Malformed => Integer::NotAnInteger,
     }
-}
-
-pub(crate) fn is_integer(x: Integer) -> bool
-    ensures { λ r. ⌜ r ≡ Value.isInteger x ⌝ }
-{
-    match x {
-        Integer::Value(_) => true,
-        Integer::NotAnInteger => false,
-    }
-}
-
-fn compare(a: i64, b: i64) -> Order
-    ensures { λ r. ⌜ r ≡ Value.orderℤ a b ⌝ }
-{
-    if a < b {
-        return Order::Less;
-    }
-    if b < a {
-        return Order::Greater;
-    }
-    Order::Equal
 }
 
 // The numeric order.
@@ -126,5 +105,11 @@ pub(crate) fn order_integers(x: Integer, y: Integer) -> Order
     let Integer::Value(b) = y else {
         return Order::Equal;
     };
-    compare(a, b)
+    if a < b {
+        return Order::Less;
+    }
+    if b < a {
+        return Order::Greater;
+    }
+    Order::Equal
 }

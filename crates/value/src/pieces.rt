@@ -1,4 +1,5 @@
 // The pieces of a substrings item, each looked for in what is left of a text from `from` on, without case.
+use crate::TEXT;
 use crate::compare::common;
 use crate::compare::small;
 use rules::Found;
@@ -7,42 +8,17 @@ ghost use mathlib.Core.Bool.{not};
 ghost use Prim.Native.Nat.{_+_, _≤_};
 ghost use lib.Dec.{eqb};
 ghost use lib.ListN.{length, getD, drop};
-ghost use Rattle.rules.specs.Value.{text, normal, begins, find, used};
+ghost use Rattle.rules.specs.Value.{text, normal, begins, find};
 ghost use Rattle.rules.specs.Value as Value;
 ghost use Rattle.value.specs.Normal as Normal;
 ghost use Rattle.value.specs.Pieces as Pieces;
 
 // Whether `p` stands at `at`.
-fn stands(v: &[u8], at: usize, p: &[u8]) -> bool
+pub(crate) fn stands(v: &[u8], at: usize, p: &[u8]) -> bool
     requires { ⌜ at ≤ length (now v) ⌝ }
     ensures { λ r. ⌜ r ≡ begins (drop at (normal text (now (v .entry)))) (normal text (now (p .entry))) ⌝ }
 {
-    common(1, &v[at..], p) == p.len()
-}
-
-// An initial piece.
-pub(crate) fn initial(v: &[u8], from: usize, p: &[u8]) -> Found
-    requires { ⌜ from ≤ length (now v) ⌝ }
-    ensures { λ r. ⌜ r ≡ used 0 (normal text (now (p .entry))) (drop from (normal text (now (v .entry)))) ⌝ }
-{
-    if stands(v, from, p) {
-        return Found::At(p.len());
-    }
-    Found::Nothing
-}
-
-// A final piece.
-pub(crate) fn last(v: &[u8], from: usize, p: &[u8]) -> Found
-    requires { ⌜ from ≤ length (now v) ⌝ }
-    ensures { λ r. ⌜ r ≡ used 2 (normal text (now (p .entry))) (drop from (normal text (now (v .entry)))) ⌝ }
-{
-    if v.len() - from < p.len() {
-        return Found::Nothing;
-    }
-    if stands(v, v.len() - p.len(), p) {
-        return Found::At(v.len() - from);
-    }
-    Found::Nothing
+    common(TEXT, &v[at..], p) == p.len()
 }
 
 // Whether four bytes are all other than the small letter `b`.
@@ -99,7 +75,8 @@ pub(crate) fn any(v: &[u8], from: usize, p: &[u8]) -> Found
     let mut i = seek(v, from, b);
     while p.len() <= v.len() - i {
         if stands(v, i, p) {
-            return Found::At(i - from + p.len());
+            let used = i - from + p.len();
+            return Found::At(used);
         }
         i = seek(v, i + 1, b);
     }

@@ -3,13 +3,13 @@ use Prim.Native.Nat.{ℕ, zero, suc, _+_, _-_, _*_, _≤_, _<_}
 use mathlib.Core.Path.{_≡_, refl, sym, ap, subst, _∙_}
 use mathlib.Core.Logic.{_↔_}
 use mathlib.Core.Bool.{Bool, true, false, cond, and-eq-true-iff, false≢true}
-use mathlib.Core.List.{List, [], _∷_, _++_, append-assoc, append-nil}
+use mathlib.Core.List.{List, [], _∷_, _++_, map, append-assoc, append-nil}
 use native.Mathlib.Omega.{arith}
 use native.Mathlib.Nat.{zero-add}
 use borrow.Author.Tests.{ltb-true, ltb-false, leb-true, leb-false, eqb-true, eqb-false, eq-eqb, ne-eqb, le-leb, le-ltb}
 use lib.Dec.{leb, ltb, eqb, eqb·suc-zero}
 use lib.IntN.{ℤ, pos, negsuc}
-use lib.ListN.{length, take, drop, length-append, length-drop, take-append-drop}
+use lib.ListN.{length, take, drop, length-append, length-drop, length-map, take-append-drop}
 use lib.Seq.{drop-length, drop-append-le, drop-at, drop-drop}
 use Rattle.rules.specs.Sheet.{Bytes, digits, numeral}
 use Rattle.rules.specs.Value.{text, integer, negative, positive, integerOf, isInteger, fits, normal, identical, same, orderℕ, orderℤ, orderBytes, orderIntegers, order, Piece, begins, ends, find, used, byFound, matches, contains, small}
@@ -151,7 +151,7 @@ used-parts (suc (suc k)) p v n e = go (ends v p) refl (rw (ne-eqb (suc (suc k)) 
     go false b e = unlike (cc)
 
 -- no more bytes are used than there are
-pub used-within : (place : ℕ) (p v : Bytes) (n : ℕ) → used place p v ≡ At n → n ≤ length v
+used-within : (place : ℕ) (p v : Bytes) (n : ℕ) → used place p v ≡ At n → n ≤ length v
 used-within place p v n e =
     let r = used-parts place p v n e in
     omega (arith, r .1, ap length (r .2), length-append (r .0) (p ++ drop n v), length-append p (drop n v), length-drop n v)
@@ -230,6 +230,22 @@ matches-iff ps v inner = (matches-placed ps v, placed-matches ps v inner)
 
 -- ---- the same test, a piece at a time, from a place in the value
 
+pub normal-length : (s : ℕ) (v : Bytes) → length (normal s v) ≡ length v
+unfolding normal
+normal-length s v = go (eqb s text)
+  where
+    go : (t : Bool) → length (cond t (map small v) v) ≡ length v
+    go true = length-map v small
+    go false = refl
+
+-- the piece as it is compared
+abbrev pub folded : ℕ → Piece → Piece
+folded s p = record { place = p .place; bytes = normal s (p .bytes) }
+
+pub contains-start : (s : ℕ) (ps : List Piece) (v : Bytes) → contains s ps v ≡ matches (map (folded s) ps) (drop 0 (normal s v))
+unfolding contains
+contains-start s ps v = refl
+
 module _ (p : Piece) (ps : List Piece) (v : Bytes) (from : ℕ) where
   pub matches-on : (n : ℕ) → used (p .place) (p .bytes) (drop from v) ≡ At n → matches (p ∷ ps) (drop from v) ≡ matches ps (drop (from + n) v)
   unfolding matches
@@ -238,6 +254,10 @@ module _ (p : Piece) (ps : List Piece) (v : Bytes) (from : ℕ) where
   pub matches-off : used (p .place) (p .bytes) (drop from v) ≡ Nothing → matches (p ∷ ps) (drop from v) ≡ false
   unfolding matches
   matches-off e = rw e
+
+-- what is used is there
+pub used-fits : (place : ℕ) (p : Bytes) (s : ℕ) (v : Bytes) (from n : ℕ) → from ≤ length v → used place p (drop from (normal s v)) ≡ At n → from + n ≤ length v
+used-fits place p s v from n h e = omega (arith, used-within place p (drop from (normal s v)) n e, length-drop from (normal s v), normal-length s v)
 
 -- ---- order and equality agree
 

@@ -8,7 +8,9 @@ use Rattle.value.proofs.integer.Statement.{statement}
 use Rattle.value.proofs.integer.Tie as tie
 
 returns : tie.Need-returns
-returns c = sym (integer-none (now (c .before .before .args .v)) (c .if1 .taken))
+returns c =
+    let A = c .before .before .args in
+    sym (integer-none (now (A .v)) (c .if1 .taken))
 
 shared-slice-read-if2 : tie.Need-shared-slice-read-if2
 shared-slice-read-if2 c = search needs
@@ -20,7 +22,10 @@ negative-requires : tie.Need-negative-requires
 negative-requires c κs = search needs
 
 returns-2 : tie.Need-returns-2
-returns-2 c = c .negative .ensures ∙ ap negative (c .before .number .ensures) ∙ negative-bounded _ ∙ sym (integer-minus (now (c .before .before .before .before .before .before .args .v)) (c .before .before .before .before .if1 .left) (c .before .before .if2 .taken))
+returns-2 c =
+    let A = c .before .before .before .before .before .before .args in
+    c .negative .ensures ∙ ap negative (c .before .number .ensures) ∙ negative-bounded _
+    ∙ sym (integer-minus (now (A .v)) (c .before .before .before .before .if1 .left) (c .before .before .if2 .taken))
 
 number-requires-2 : tie.Need-number-requires-2
 number-requires-2 c κs = search needs
@@ -29,7 +34,10 @@ positive-requires : tie.Need-positive-requires
 positive-requires c κs = search needs
 
 returns-3 : tie.Need-returns-3
-returns-3 c = c .positive .ensures ∙ ap positive (c .before .number2 .ensures) ∙ positive-bounded _ ∙ sym (integer-plain (now (c .before .before .before .before .before .before .args .v)) (c .before .before .before .before .if1 .left) (c .before .before .if2 .left))
+returns-3 c =
+    let A = c .before .before .before .before .before .before .args in
+    c .positive .ensures ∙ ap positive (c .before .number2 .ensures) ∙ positive-bounded _
+    ∙ sym (integer-plain (now (A .v)) (c .before .before .before .before .if1 .left) (c .before .before .if2 .left))
 
 pub integer-spec : {M : Type 1} → statement M
 integer-spec =

@@ -1,5 +1,5 @@
 -- Identical bytes are one; others where their folded bytes are.
-use mathlib.Core.Path.{sym, ap, _∙_}
+use mathlib.Core.Path.{sym, ap}
 use borrow.Author.Tests.{eq-eqb}
 use Rattle.value.specs.Normal.{fold}
 use borrow.Author.Needs.{needs}

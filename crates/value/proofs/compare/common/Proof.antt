@@ -34,7 +34,11 @@ alike-requires : tie.Need-alike-requires Inv-loop μ-loop
 alike-requires c κs = search needs
 
 returns : tie.Need-returns Inv-loop μ-loop
-returns c = let L = c .before .before .before .before .before .loop in shared-off (c .before .before .before .before .before .before .before .before .before .before .args .syntax) (now (c .before .before .before .before .before .before .before .before .before .before .args .v)) (now (c .before .before .before .before .before .before .before .before .before .before .args .w)) (c .before .before .before .before .before .before .before .least .result) (c .before .before .before .before .before .before .before .least .ensures) (L .i) (L .inv) (c .before .before .before .before .loop-test .taken) (sym (c .before .alike .ensures) ∙ not-true _ (c .if1 .taken))
+returns c =
+    let A = c .before .before .before .before .before .before .before .before .before .before .args in
+    let N = c .before .before .before .before .before .before .before .least in
+    let L = c .before .before .before .before .before .loop in
+    shared-off (A .syntax) (now (A .v)) (now (A .w)) (N .result) (N .ensures) (L .i) (L .inv) (c .before .before .before .before .loop-test .taken) (sym (c .before .alike .ensures) ∙ not-true _ (c .if1 .taken))
 
 add-i : tie.Need-add-i Inv-loop μ-loop
 add-i c = search needs
@@ -43,10 +47,18 @@ loop-less : tie.Need-loop-less Inv-loop μ-loop
 loop-less c = search needs
 
 loop-again : tie.Need-loop-again Inv-loop μ-loop
-loop-again c = let L = c .before .before .before .before .before .loop in shared-on (c .before .before .before .before .before .before .before .before .before .before .args .syntax) (now (c .before .before .before .before .before .before .before .before .before .before .args .v)) (now (c .before .before .before .before .before .before .before .before .before .before .args .w)) (c .before .before .before .before .before .before .before .least .result) (c .before .before .before .before .before .before .before .least .ensures) (L .i) (L .inv) (c .before .before .before .before .loop-test .taken) (sym (c .before .alike .ensures) ∙ not-false _ (c .if1 .left))
+loop-again c =
+    let A = c .before .before .before .before .before .before .before .before .before .before .args in
+    let N = c .before .before .before .before .before .before .before .least in
+    let L = c .before .before .before .before .before .loop in
+    shared-on (A .syntax) (now (A .v)) (now (A .w)) (N .result) (N .ensures) (L .i) (L .inv) (c .before .before .before .before .loop-test .taken) (sym (c .before .alike .ensures) ∙ not-false _ (c .if1 .left))
 
 returns-2 : tie.Need-returns-2 Inv-loop μ-loop
-returns-2 c = let L = c .before .loop in shared-end (c .before .before .before .before .before .before .args .syntax) (now (c .before .before .before .before .before .before .args .v)) (now (c .before .before .before .before .before .before .args .w)) (c .before .before .before .least .result) (c .before .before .before .least .ensures) (L .i) (L .inv) (c .loop-test .left)
+returns-2 c =
+    let A = c .before .before .before .before .before .before .args in
+    let N = c .before .before .before .least in
+    let L = c .before .loop in
+    shared-end (A .syntax) (now (A .v)) (now (A .w)) (N .result) (N .ensures) (L .i) (L .inv) (c .loop-test .left)
 
 pub common-spec : {M : Type 1} → statement M
 common-spec =

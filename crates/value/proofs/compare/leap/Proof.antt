@@ -1,4 +1,4 @@
--- The invariant is the contract: each four identical bytes are four shared ones.
+-- The invariant is the contract: four identical bytes are four shared ones.
 use Prim.Native.Nat.{_-_}
 use mathlib.Core.Path.{sym, _∙_}
 use native.Mathlib.Omega.{arith}
@@ -17,7 +17,9 @@ abbrev μ-loop : tie.MeasureT-loop
 μ-loop syntax v w n i₀ i = n - i
 
 loop-holds : tie.Need-loop-holds Inv-loop μ-loop
-loop-holds c = shared-start (c .before .before .args .syntax) (now (c .before .before .args .v)) (now (c .before .before .args .w)) (c .before .before .args .n) (c .before .before .pre)
+loop-holds c =
+    let A = c .before .before .args in
+    shared-start (A .syntax) (now (A .v)) (now (A .w)) (A .n) (c .before .before .pre)
 
 sub-loop : tie.Need-sub-loop Inv-loop μ-loop
 sub-loop c = search needs
@@ -35,7 +37,10 @@ loop-less : tie.Need-loop-less Inv-loop μ-loop
 loop-less c = search needs
 
 loop-again : tie.Need-loop-again Inv-loop μ-loop
-loop-again c = let L = c .before .before .before .loop in shared-four (c .before .before .before .before .before .before .args .syntax) (now (c .before .before .before .before .before .before .args .v)) (now (c .before .before .before .before .before .before .args .w)) (c .before .before .before .before .before .before .args .n) (c .before .before .before .before .before .before .pre) (L .i) (L .inv) (omega arith) (sym (c .before .four .ensures) ∙ not-false _ (c .if1 .left))
+loop-again c =
+    let A = c .before .before .before .before .before .before .args in
+    let L = c .before .before .before .loop in
+    shared-four (A .syntax) (now (A .v)) (now (A .w)) (A .n) (c .before .before .before .before .before .before .pre) (L .i) (L .inv) (omega arith) (sym (c .before .four .ensures) ∙ not-false _ (c .if1 .left))
 
 returns-2 : tie.Need-returns-2 Inv-loop μ-loop
 returns-2 c = c .before .loop .inv

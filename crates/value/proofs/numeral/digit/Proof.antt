@@ -1,4 +1,4 @@
--- By the definition's two tests.
+-- The tests are the definition's.
 use borrow.Author.Tests.{le-leb, lt-leb}
 use Rattle.value.specs.Numeral.{digit}
 use borrow.Author.Needs.{needs}

@@ -1,4 +1,4 @@
--- By the cases of the two values; an i64 that an enum holds fits.
+-- By the cases of the two values, then by the tests; an i64 that an enum holds fits.
 use mir.Facts.{toZ-ofZ}
 use mir.Syntax.{w64}
 use mir.Val.{SFits}
@@ -24,11 +24,29 @@ enum-told-2 c = search needs
 returns-2 : tie.Need-returns-2
 returns-2 c = search needs
 
-compare-requires : tie.Need-compare-requires
-compare-requires c κs = search needs
-
 returns-3 : tie.Need-returns-3
-returns-3 c = let x = c .before .before .before .before .before .x in let y = c .before .before .y in let a : SFits w64 (x .given .0 .0) = search needs in let b : SFits w64 (y .given .0 .0) = search needs in rw (x .given .1, y .given .1) (simp (toZ-ofZ a, toZ-ofZ b) at (c .compare .ensures))
+returns-3 c =
+    let X = c .before .before .before .before .before .x .given in
+    let Y = c .before .before .y .given in
+    let a : SFits w64 (X .0 .0) = search needs in
+    let b : SFits w64 (Y .0 .0) = search needs in
+    rw (X .1, Y .1) (simp (simp (toZ-ofZ a, toZ-ofZ b) at (c .if1 .taken)))
+
+returns-4 : tie.Need-returns-4
+returns-4 c =
+    let X = c .before .before .before .before .before .before .x .given in
+    let Y = c .before .before .before .y .given in
+    let a : SFits w64 (X .0 .0) = search needs in
+    let b : SFits w64 (Y .0 .0) = search needs in
+    rw (X .1, Y .1) (simp (simp (toZ-ofZ a, toZ-ofZ b) at (c .before .if1 .left), simp (toZ-ofZ a, toZ-ofZ b) at (c .if2 .taken)))
+
+returns-5 : tie.Need-returns-5
+returns-5 c =
+    let X = c .before .before .before .before .before .before .x .given in
+    let Y = c .before .before .before .y .given in
+    let a : SFits w64 (X .0 .0) = search needs in
+    let b : SFits w64 (Y .0 .0) = search needs in
+    rw (X .1, Y .1) (simp (simp (toZ-ofZ a, toZ-ofZ b) at (c .before .if1 .left), simp (toZ-ofZ a, toZ-ofZ b) at (c .if2 .left)))
 
 pub order-integers-spec : {M : Type 1} → statement M
 order-integers-spec =
@@ -40,5 +58,6 @@ order-integers-spec =
     enum-known-y
     enum-told-2
     returns-2
-    compare-requires
-    returns-3)
+    returns-3
+    returns-4
+    returns-5)

@@ -6,7 +6,7 @@ use borrow.Author.Tests.{not-false}
 use lib.ListN.{length}
 use denote.Ref.{now}
 use Rattle.rules.specs.Value.{text, normal}
-use Rattle.value.specs.Normal.{normal-length}
+use Rattle.rules.specs.Laws.Value.{normal-length}
 use Rattle.value.specs.Pieces.{Sought, sought-start, sought-four}
 use borrow.Author.Needs.{needs}
 use Rattle.value.proofs.pieces.leap.Statement.{statement}
@@ -19,7 +19,9 @@ abbrev μ-loop : tie.MeasureT-loop
 μ-loop v from b i₀ i = length v - i
 
 loop-holds : tie.Need-loop-holds Inv-loop μ-loop
-loop-holds c = sought-start (c .before .args .b) (now (c .before .args .v)) (c .before .args .from) (c .before .pre)
+loop-holds c =
+    let A = c .before .args in
+    sought-start (A .b) (now (A .v)) (A .from) (c .before .pre)
 
 sub-loop : tie.Need-sub-loop Inv-loop μ-loop
 sub-loop c = omega (arith, c .loop .inv .within, normal-length text (now (c .before .before .args .v)))
@@ -37,7 +39,10 @@ loop-less : tie.Need-loop-less Inv-loop μ-loop
 loop-less c = search needs
 
 loop-again : tie.Need-loop-again Inv-loop μ-loop
-loop-again c = let L = c .before .before .before .loop in sought-four (c .before .before .before .before .before .args .b) (now (c .before .before .before .before .before .args .v)) (c .before .before .before .before .before .args .from) (L .i) (L .inv) (omega arith) (sym (c .before .absent .ensures) ∙ not-false _ (c .if1 .left))
+loop-again c =
+    let A = c .before .before .before .before .before .args in
+    let L = c .before .before .before .loop in
+    sought-four (A .b) (now (A .v)) (A .from) (L .i) (L .inv) (omega arith) (sym (c .before .absent .ensures) ∙ not-false _ (c .if1 .left))
 
 returns-2 : tie.Need-returns-2 Inv-loop μ-loop
 returns-2 c = c .before .loop .inv

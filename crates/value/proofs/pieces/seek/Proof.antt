@@ -1,11 +1,9 @@
 -- The invariant: no such byte has been passed.
 use Prim.Native.Nat.{_-_}
 use mathlib.Core.Path.{sym, _∙_}
-use native.Mathlib.Omega.{arith}
 use lib.ListN.{length}
 use denote.Ref.{now}
 use Rattle.rules.specs.Value.{text, normal}
-use Rattle.value.specs.Normal.{normal-length}
 use Rattle.value.specs.Pieces.{Sought, sought-on, sought-at, sought-end}
 use borrow.Author.Needs.{needs}
 use Rattle.value.proofs.pieces.seek.Statement.{statement}
@@ -30,7 +28,10 @@ small-requires : tie.Need-small-requires Inv-loop μ-loop
 small-requires c κs = search needs
 
 returns : tie.Need-returns Inv-loop μ-loop
-returns c = let L = c .before .before .before .before .loop in sought-at (c .before .before .before .before .before .before .before .args .b) (now (c .before .before .before .before .before .before .before .args .v)) (c .before .before .before .before .before .before .before .args .from) (L .i) (L .inv) (c .before .before .before .loop-test .taken) (sym (c .before .small .ensures) ∙ c .if1 .taken)
+returns c =
+    let A = c .before .before .before .before .before .before .before .args in
+    let L = c .before .before .before .before .loop in
+    sought-at (A .b) (now (A .v)) (A .from) (L .i) (L .inv) (c .before .before .before .loop-test .taken) (sym (c .before .small .ensures) ∙ c .if1 .taken)
 
 add-i : tie.Need-add-i Inv-loop μ-loop
 add-i c = search needs
@@ -39,10 +40,16 @@ loop-less : tie.Need-loop-less Inv-loop μ-loop
 loop-less c = search needs
 
 loop-again : tie.Need-loop-again Inv-loop μ-loop
-loop-again c = let L = c .before .before .before .before .loop in sought-on (c .before .before .before .before .before .before .before .args .b) (now (c .before .before .before .before .before .before .before .args .v)) (c .before .before .before .before .before .before .before .args .from) (L .i) (L .inv) (c .before .before .before .loop-test .taken) (λ e. c .if1 .left (c .before .small .ensures ∙ e))
+loop-again c =
+    let A = c .before .before .before .before .before .before .before .args in
+    let L = c .before .before .before .before .loop in
+    sought-on (A .b) (now (A .v)) (A .from) (L .i) (L .inv) (c .before .before .before .loop-test .taken) (λ e. c .if1 .left (c .before .small .ensures ∙ e))
 
 returns-2 : tie.Need-returns-2 Inv-loop μ-loop
-returns-2 c = let L = c .before .loop in sought-end (c .before .before .before .before .args .b) (now (c .before .before .before .before .args .v)) (c .before .before .before .before .args .from) (L .i) (L .inv) (c .loop-test .left)
+returns-2 c =
+    let A = c .before .before .before .before .args in
+    let L = c .before .loop in
+    sought-end (A .b) (now (A .v)) (A .from) (L .i) (L .inv) (c .loop-test .left)
 
 pub seek-spec : {M : Type 1} → statement M
 seek-spec =

@@ -1,5 +1,4 @@
 -- The beginning that the text from `at` on shares with the piece is all of the piece.
-use mathlib.Core.Path.{_∙_}
 use denote.Ref.{now}
 use Rattle.value.specs.Pieces.{stands-common}
 use borrow.Author.Needs.{needs}
@@ -19,7 +18,9 @@ common-requires : tie.Need-common-requires
 common-requires c κs = search needs
 
 returns : tie.Need-returns
-returns c = rw (c .common .ensures) (stands-common (now (c .before .before .before .before .args .v)) (now (c .before .before .before .before .args .p)) (c .before .before .before .before .args .at))
+returns c =
+    let A = c .before .before .before .before .args in
+    rw (c .common .ensures) (stands-common (now (A .v)) (now (A .p)) (A .at))
 
 pub stands-spec : {M : Type 1} → statement M
 stands-spec =
