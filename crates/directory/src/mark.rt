@@ -1,0 +1,33 @@
+// A mark for each entry line and value line taken: it finds an equal value of the same owner and type without going through all
+// of them. A mark is one number: key, position and length of its line, and the mark before it in its bucket (from 1; 0: none).
+ghost use mathlib.Core.Path.{_≡_};
+ghost use Prim.Native.Nat.{_<_};
+
+// The bucket of a value under a key: letters count without case, so that equal values have one bucket in every syntax.
+pub(crate) fn bucket(key: usize, v: &[u8]) -> usize
+    requires { ⌜ key < 65536 ⌝ }
+{
+    let mut h = key;
+    let mut i: usize = 0;
+    while i < v.len() {
+        h = (h * 33 + (v[i] % 32) as usize) % 65536;
+        i += 1;
+    }
+    h % 2048
+}
+
+// Whether a mark with this key, from `head` on in its bucket, has an equal value.
+pub(crate) fn twin(s: &[u8], w: usize, marks: &[usize], head: usize, key: usize, syntax: u64, v: &[u8]) -> bool {
+    let mut k = head;
+    while k != 0 {
+        let m = marks[k - 1];
+        if m / 137438953472 == key {
+            let u = sheet::value_at(s, m / 2097152 % 65536, m / 16384 % 128, w);
+            if crate::value::same(syntax, u, v) {
+                return true;
+            }
+        }
+        k = m % 16384;
+    }
+    false
+}
