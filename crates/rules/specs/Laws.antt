@@ -11,3 +11,6 @@ pub mod Decision
 pub mod Held
 pub mod Resolve
 pub mod Filter
+pub mod Loops
+pub mod Hits
+pub mod Reach
