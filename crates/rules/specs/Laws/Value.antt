@@ -101,7 +101,7 @@ ends-back before p =
     let n : length before ≡ length (before ++ p) - length p = omega arith in
     rw (le-leb (length p) (length (before ++ p)) (omega arith), drop-at before p (length (before ++ p) - length p) n) (identical-refl p)
 
-find-by : (p v : Bytes) (i : ℕ) → begins v p ≡ true → find p v i ≡ At (i + length p)
+pub find-by : (p v : Bytes) (i : ℕ) → begins v p ≡ true → find p v i ≡ At (i + length p)
 unfolding find
 find-by p [] i e = rw e
 find-by p (x ∷ xs) i e = rw e
@@ -283,7 +283,7 @@ number-cond : (t : Bool) (x : Column) (m : ℕ) → cond t x Malformed ≡ Numbe
 number-cond true x m e = (refl, e)
 number-cond false x m e = unlike (cc)
 
-digits-cons : (v b : ℕ) (bs : Bytes) (m : ℕ) → digits v (b ∷ bs) ≡ Number m
+pub digits-cons : (v b : ℕ) (bs : Bytes) (m : ℕ) → digits v (b ∷ bs) ≡ Number m
     → (48 ≤ b) × (b ≤ 57) × (digits (v * 10 + (b - 48)) bs ≡ Number m)
 unfolding digits
 digits-cons v b bs m e =
@@ -315,7 +315,7 @@ digits-more a (y ∷ ys) w m h l p q =
     go true t next = next (leb-true (length a) (length ys) t)
     go false t next = omega (arith, leb-false (length a) (length ys) t, digits-same a (y ∷ ys) 0 w m (omega (arith, leb-false (length a) (length ys) t)) p q .0)
 
-numeral-digits : (b : ℕ) (bs : Bytes) (m : ℕ) → numeral (b ∷ bs) ≡ Number m → (digits 0 (b ∷ bs) ≡ Number m) × (0 < length bs → 48 < b)
+pub numeral-digits : (b : ℕ) (bs : Bytes) (m : ℕ) → numeral (b ∷ bs) ≡ Number m → (digits 0 (b ∷ bs) ≡ Number m) × (0 < length bs → 48 < b)
 unfolding numeral
 numeral-digits b [] m e = (e, λ h. omega arith)
 numeral-digits b (c ∷ cs) m e = go (eqb b 48) refl e

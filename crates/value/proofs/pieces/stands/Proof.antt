@@ -1,0 +1,26 @@
+-- The beginning that the text from `at` on shares with the piece is all of the piece.
+use mathlib.Core.Path.{_∙_}
+use denote.Ref.{now}
+use Rattle.value.specs.Pieces.{stands-common}
+use borrow.Author.Needs.{needs}
+use Rattle.value.proofs.pieces.stands.Statement.{statement}
+use Rattle.value.proofs.pieces.stands.Tie as tie
+
+sub-common : tie.Need-sub-common
+sub-common c = search needs
+
+part-common-start : tie.Need-part-common-start
+part-common-start c = search needs
+
+part-common-end : tie.Need-part-common-end
+part-common-end c = search needs
+
+common-requires : tie.Need-common-requires
+common-requires c κs = search needs
+
+returns : tie.Need-returns
+returns c = rw (c .common .ensures) (stands-common (now (c .before .before .before .before .args .v)) (now (c .before .before .before .before .args .p)) (c .before .before .before .before .args .at))
+
+pub stands-spec : {M : Type 1} → statement M
+stands-spec =
+    tie.close (tie.spec sub-common part-common-start part-common-end common-requires returns)
