@@ -279,23 +279,33 @@ module _ {w : ℕ} {s : Bytes} {ks : List ℕ} {notes : Notes} {depths marks hea
 
 -- ---- no line stands there
 
-module _ {w : ℕ} {s : Bytes} {ks : List ℕ} {notes : Notes} {depths marks heads : List ℕ} {n : ℕ} {lacks : Bool} {i : ℕ} {front : Front}
-    {complete : List Stored} {current : Option Stored} {ms : List Mark} (st : Standing w s ks notes depths marks heads n lacks i front complete current ms)
-    (r : Notes) where
-  pub standing-broken : front ≡ NotInForm → r .refusal ≡ 2 → Judged w s r
-  standing-broken is q = answer-refused w s (st .ready .sheet) r 2 q (st .judged ∙ judged-broken w s i _ (sym (st .stands) ∙ is))
+-- the refusal there; 0 at the sheet's end, if the last entry does not lack its naming value
+abbrev pub endNumber : Front → Bool → ℕ
+endNumber (Taken k a b c l) lacks = 2
+endNumber NotInForm lacks = 2
+endNumber End lacks = cond lacks 6 0
 
+-- the notes with a refusal number
+abbrev pub refusedWith : Notes → ℕ → Notes
+refusedWith notes n = record {
+  refusal = n;
+  types = notes .types;
+  schema = notes .schema;
+  count = notes .count;
+  at = notes .at;
+  parents = notes .parents;
+  naming = notes .naming;
+  lengths = notes .lengths;
+}
+
+module _ {w : ℕ} {s : Bytes} {ks : List ℕ} {notes : Notes} {depths marks heads : List ℕ} {n : ℕ} {lacks : Bool} {i : ℕ} {front : Front}
+    {complete : List Stored} {current : Option Stored} {ms : List Mark} (st : Standing w s ks notes depths marks heads n lacks i front complete current ms) where
   ends : front ≡ End → fold step finish 2 nothing (lines w s) ≡ refuseIf lacks 6 (accept (record { schema = schemaOf ks; entries = entriesOf (reading ks complete current) }))
   unfolding finish
   ends is = st .judged ∙ judged-end w s i _ (sym (st .stands) ∙ is) ∙ rw (← st .counted .lacking)
 
-  pub standing-lacks : front ≡ End → lacks ≡ true → r .refusal ≡ 6 → Judged w s r
-  standing-lacks is l q = answer-refused w s (st .ready .sheet) r 6 q (ends is ∙ rw l)
-
-  pub standing-end : front ≡ End → lacks ≡ false
-      → r ≡ record { refusal = 0; types = notes .types; schema = notes .schema; count = notes .count; at = notes .at; parents = notes .parents; naming = notes .naming; lengths = notes .lengths }
-      → Judged w s r
-  standing-end is l q = answer-accepted w s (st .ready .sheet) r (record { schema = schemaOf ks; entries = entriesOf (reading ks complete current) }) (ap (λ (y : Notes). y .refusal) q) (ends is ∙ rw l) (rw q (record {
+  all-noted : Noted w s (record { schema = schemaOf ks; entries = entriesOf (reading ks complete current) }) (refusedWith notes 0)
+  all-noted = record {
     types = st .sized .types;
     schema = ap schemaOf (st .sized .list);
     count = st .counted .number;
@@ -306,9 +316,30 @@ module _ {w : ℕ} {s : Bytes} {ks : List ℕ} {notes : Notes} {depths marks hea
     naming-length = st .sized .naming;
     lengths-length = st .sized .lengths;
     entry = st .noted;
-  }))
+  }
+
+  pub standing-ended : ((k a b c l : ℕ) → front ≡ Taken k a b c l → ⊥) → Judged w s (refusedWith notes (endNumber front lacks))
+  standing-ended none-there = go front refl lacks refl
+    where
+      go : (f : Front) → front ≡ f → (b : Bool) → lacks ≡ b → Judged w s (refusedWith notes (endNumber f b))
+      go (Taken k a c o l) is b q = absurd (none-there k a c o l is)
+      go NotInForm is b q = answer-refused w s (st .ready .sheet) (refusedWith notes 2) 2 refl (st .judged ∙ judged-broken w s i _ (sym (st .stands) ∙ is))
+      go End is true q = answer-refused w s (st .ready .sheet) (refusedWith notes 6) 6 refl (ends is ∙ rw q)
+      go End is false q = answer-accepted w s (st .ready .sheet) (refusedWith notes 0) _ refl (ends is ∙ rw q) all-noted
 
 -- ---- before the first entry
+
+abbrev pub nothingNoted : Notes
+nothingNoted = record {
+  refusal = 0;
+  types = 0;
+  schema = replicate 64 0;
+  count = 0;
+  at = replicate 256 0;
+  parents = replicate 256 0;
+  naming = replicate 256 0;
+  lengths = replicate 256 0;
+}
 
 -- the K 1 lines have been read, up to position `i`
 pub record Opened (w : ℕ) (s : Bytes) (ks : List ℕ) (notes : Notes) (i : ℕ) (front : Front) : Type 0 where

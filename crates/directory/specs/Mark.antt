@@ -161,10 +161,10 @@ module _ {w : ℕ} {s : Bytes} {marks heads : List ℕ} {n : ℕ} {ms : List Mar
     buckets = simp length-set (c .buckets);
     chained = (
       ap (λ (k : ℕ). getD (set marks n (packed m (getD heads (bucketOf w s m) 0))) k 0) (c .count)
-      ∙ getD-set-same marks n _ 0 (omega (arith, c .marked))
-      ∙ ap (packed m) (c .newest (bucketOf w s m) (digest-bound (m .key) (bytesOf w s m))),
+          ∙ getD-set-same marks n _ 0 (omega (arith, c .marked))
+          ∙ ap (packed m) (c .newest (bucketOf w s m) (digest-bound (m .key) (bytesOf w s m))),
       within,
-      chained-set w s marks n _ ms (omega (arith, c .count)) (c .chained)
+      chained-set w s marks n _ ms (omega (arith, c .count)) (c .chained),
     );
     newest = marked-newest;
   }
@@ -217,6 +217,13 @@ pub record Walk (w : ℕ) (s : Bytes) (marks : List ℕ) (head bucket : ℕ) (al
   pub room : length all ≤ length marks
   pub sheet : length s ≤ 65536
 
+abbrev pub Walkable : ℕ → Bytes → List ℕ → ℕ → ℕ → Type 0
+Walkable w s marks head bucket = (all : List Mark) × Walk w s marks head bucket all
+
+-- whether one of the marks has this key and an equal value
+abbrev pub Answers : ℕ → Bytes → List ℕ → ℕ → ℕ → ℕ → Bytes → Bool → Type 0
+Answers w s marks head syntax key v found = (all : List Mark) → Walk w s marks head (digest key v) all → found ≡ any (twin w s syntax key v) all
+
 -- the number `x` is that of mark `m`, of which `rest` are older
 pub record Here (w : ℕ) (s : Bytes) (marks : List ℕ) (syntax key : ℕ) (v : Bytes) (k : ℕ) (all : List Mark) (x : ℕ) (m : Mark) (rest : List Mark) : Type 0 where
   pub count : suc (length rest) ≡ k
@@ -234,15 +241,18 @@ module _ {w : ℕ} {s : Bytes} {marks : List ℕ} {syntax key : ℕ} {v : Bytes}
     pub here : (ms : List Mark) → Left w s marks syntax key v k all ms → (k ≡ 0 → ⊥) → (m : Mark) × (rest : List Mark) × Here w s marks syntax key v k all (getD marks (k - 1) 0) m rest
     here [] l z = absurd (z (sym (l .count)))
     here (m ∷ rest) l z =
-        let e : k - 1 ≡ length rest = omega (arith, l .count) in
-        (m, rest, record {
-          count = l .count;
-          below = l .most;
-          chained = l .chained .2;
-          within = l .chained .1;
-          number = ap (λ (i : ℕ). getD marks i 0) e ∙ l .chained .0 ∙ ap (λ (b : ℕ). packed m (lastIn w s b rest)) (l .top);
-          twins = l .twins;
-        })
+        let e : k - 1 ≡ length rest = omega (arith, l .count) in (
+          m,
+          rest,
+          record {
+            count = l .count;
+            below = l .most;
+            chained = l .chained .2;
+            within = l .chained .1;
+            number = ap (λ (i : ℕ). getD marks i 0) e ∙ l .chained .0 ∙ ap (λ (b : ℕ). packed m (lastIn w s b rest)) (l .top);
+            twins = l .twins;
+          },
+        )
 
     pub index : (ms : List Mark) → Left w s marks syntax key v k all ms → (k ≡ 0 → ⊥) → k - 1 < length marks
     index ms l z = omega (arith, l .count, l .most, walk .room)
@@ -289,14 +299,16 @@ module _ {w : ℕ} {s : Bytes} {marks : List ℕ} {syntax key : ℕ} {v : Bytes}
       onward : twin w s syntax key v m ≡ false → (older : List Mark) × Left w s marks syntax key v (x % 16384) all older
       onward t =
           let d = down w s marks syntax key v rest (h .chained) in
-          let l = d .1 in
-          (d .0, record {
-            count = l .count ∙ sym next-is;
-            most = omega (arith, l .most, h .below);
-            chained = l .chained;
-            top = l .top;
-            twins = l .twins ∙ ap (λ (b : Bool). b || any (twin w s syntax key v) rest) (sym t) ∙ h .twins;
-          })
+          let l = d .1 in (
+            d .0,
+            record {
+              count = l .count ∙ sym next-is;
+              most = omega (arith, l .most, h .below);
+              chained = l .chained;
+              top = l .top;
+              twins = l .twins ∙ ap (λ (b : Bool). b || any (twin w s syntax key v) rest) (sym t) ∙ h .twins;
+            },
+          )
 
       pub other-key : (x / 137438953472 ≡ key → ⊥) → (older : List Mark) × Left w s marks syntax key v (x % 16384) all older
       other-key e = onward (ap (λ (b : Bool). b && same syntax (bytesOf w s m) v) (ne-eqb (m .key) key (λ q. e (key-is ∙ q))))

@@ -71,6 +71,16 @@ pub record Ready (w : ℕ) (s : Bytes) (ks marks heads : List ℕ) (ms : List Ma
   pub chain : Chain w s marks heads (length ms) ms
   pub room : length ms < 10923
 
+-- the ruling is what `f` makes of the marks, whatever they are
+abbrev pub Decides : ℕ → Bytes → List ℕ → List ℕ → List ℕ → (List Mark → Ruling) → Ruling → Type 0
+Decides w s ks marks heads f r = (ms : List Mark) → Ready w s ks marks heads ms → r ≡ f ms
+
+-- the line at `at` may be read, and its value looked for among the marks
+pub record Asked (w : ℕ) (s : Bytes) (ks marks heads : List ℕ) (at size : ℕ) : Type 0 where
+  pub all : List Mark
+  pub ready : Ready w s ks marks heads all
+  pub within : Within w s (mark 0 at size)
+
 -- with one mark more
 pub ready-more : {w : ℕ} {s : Bytes} {ks marks heads : List ℕ} {ms : List Mark} → Ready w s ks marks heads ms → (m : Mark) → Within w s m → (n bucket number : ℕ)
     → length ms ≡ n → bucket ≡ bucketOf w s m → number ≡ packed m (getD heads (bucketOf w s m) 0) → n + 1 < 10923
@@ -206,8 +216,10 @@ module _ (w : ℕ) (s : Bytes) (ks : List ℕ) (complete : List Stored) (current
         rest false true true p₄ p₅ p₆ =
             inl (record { not = λ z. omega arith; is = entry-same ∙ rw (p₁, p₂, p₃, level, p₄, p₅, ← known .named .siblings a b v (omega (arith, low, known .most)) p₅, p₆) })
         rest false true false p₄ p₅ p₆ =
-            inr (record { kind = two; form = form; parent = low; room = leb-false 256 count p₃; level = leb-false 8 (getD depths a 0) p₄; fit = p₅; ruling = refl },
-            entry-same ∙ rw (p₁, p₂, p₃, level, p₄, p₅, ← known .named .siblings a b v (omega (arith, low, known .most)) p₅, p₆))
+            inr (
+              record { kind = two; form = form; parent = low; room = leb-false 256 count p₃; level = leb-false 8 (getD depths a 0) p₄; fit = p₅; ruling = refl },
+              entry-same ∙ rw (p₁, p₂, p₃, level, p₄, p₅, ← known .named .siblings a b v (omega (arith, low, known .most)) p₅, p₆),
+            )
 
 -- a line after the entries: refused as the rules refuse it, or taken as they take it
 pub entry-outcome : (w : ℕ) (s : Bytes) (ks depths heads : List ℕ) (count : ℕ) (lacks : Bool) (complete : List Stored) (current : Option Stored) (ms : List Mark)

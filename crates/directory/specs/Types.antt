@@ -51,7 +51,6 @@ types-start w s schema h = record { room = h; most = omega arith; within = omega
 
 module _ {w : ℕ} {s : Bytes} {schema : List ℕ} {n last i : ℕ} (t : TypesRead w s schema n last i)
     {k a b c l : ℕ} (e : frontOf w (drop i s) ≡ Taken k a b c l) (kind : k ≡ 1) where
-
   count-is : length (schemaOf (take n schema)) ≡ n
   unfolding schemaOf
   count-is = length-map (take n schema) attributeOf ∙ length-take-le n schema (omega (arith, t .room, t .most))

@@ -45,6 +45,13 @@ pub record Begun (w : ℕ) (s : Bytes) (ks marks heads : List ℕ) (n : ℕ) (e 
   pub named : Named w s ks (complete ++ (d ∷ [])) ms
   pub valued : Valued w s ks (ownerOf (e .number)) [] ms
 
+pub record ValuesAsked (w : ℕ) (s : Bytes) (ks marks heads : List ℕ) (n : ℕ) (e : Current) : Type 0 where
+  pub complete : List Stored
+  pub entry : Stored
+  pub all : List Mark
+  pub width : w ≤ 18
+  pub begun : Begun w s ks marks heads n e complete entry all
+
 -- the values `vs` have been read, up to position `i`
 pub record Going (w : ℕ) (s : Bytes) (ks marks heads : List ℕ) (n : ℕ) (held : Bool) (last from i : ℕ) (e : Current) (complete : List Stored) (d : Stored) (vs : List Part) (ms : List Mark) : Type 0 where
   pub ready : Ready w s ks marks heads ms
@@ -78,6 +85,11 @@ pub record ValuesJudged (w : ℕ) (s : Bytes) (ks marks heads : List ℕ) (e : C
   pub refused : (r .refusal ≡ 0 → ⊥) → judgedFrom w s (reading ks complete (some (filled d []))) (after w e) ≡ refuse (r .refusal)
   pub stopped : r .refusal ≡ 0 → (ms : List Mark) × ValuesStopped w s ks marks heads e complete d r ms
 
+-- whatever stood before the run
+abbrev pub ValuesAnswered : ℕ → Bytes → List ℕ → List ℕ → List ℕ → ℕ → Current → List ℕ → List ℕ → ValueLines → Type 0
+ValuesAnswered w s ks marks heads n e marks′ heads′ r =
+    (complete : List Stored) (d : Stored) (ms : List Mark) → Begun w s ks marks heads n e complete d ms → ValuesJudged w s ks marks′ heads′ e complete d r
+
 module _ {w : ℕ} {s : Bytes} {ks marks heads : List ℕ} {n : ℕ} {e : Current} {complete : List Stored} {d : Stored} {ms : List Mark} where
   pub going-start : Begun w s ks marks heads n e complete d ms → Going w s ks marks heads n false 0 0 (after w e) e complete d [] ms
   going-start b = record {
@@ -103,18 +115,21 @@ module _ {w : ℕ} {s : Bytes} {ks marks heads : List ℕ} {n : ℕ} {e : Curren
       let all : valuesOf (linesAt w s (after w e)) ≡ vs = g .sofar ∙ ap (λ (x : List Part). vs ++ x) (values-none w s i front is other) ∙ append-nil vs in
       record {
         refused = λ z. absurd (z refl);
-        stopped = λ z. (ms, record {
-          ready = g .ready;
-          count = g .count;
-          space = g .space;
-          start = g .start;
-          within = g .within;
-          front = is;
-          other = other;
-          holds = rw all (g .holds);
-          named = g .named;
-          judged = rw all (g .judged);
-        });
+        stopped = λ z. (
+          ms,
+          record {
+            ready = g .ready;
+            count = g .count;
+            space = g .space;
+            start = g .start;
+            within = g .within;
+            front = is;
+            other = other;
+            holds = rw all (g .holds);
+            named = g .named;
+            judged = rw all (g .judged);
+          },
+        );
       }
 
 -- one value line more

@@ -3,6 +3,13 @@ use crate::columns::directory_columns;
 use crate::mark;
 use crate::schema;
 use rules::Front;
+ghost use mathlib.Core.Path.{_≡_};
+ghost use Prim.Native.Nat.{_≤_};
+ghost use lib.ListN.{length};
+ghost use Rattle.directory.specs.Schema.{rankOf};
+ghost use Rattle.directory.specs.Rulings.{Asked, Decides, ruledOf, entryRuling};
+ghost use Rattle.directory.specs.Rulings as Rulings;
+ghost use Rattle.directory.specs.Entries.{endNumber};
 
 // A line's refusal; where that is 0 its type's rank, and the bucket and mark of its value.
 pub(crate) struct Ruling {
@@ -12,7 +19,10 @@ pub(crate) struct Ruling {
     pub mark: usize,
 }
 
-pub(crate) fn refusing(number: u64) -> Ruling {
+// A line refused.
+pub(crate) fn refusing(number: u64) -> Ruling
+    ensures { λ r. ⌜ r ≡ Rulings.refusing number ⌝ }
+{
     Ruling {
         refusal: number,
         rank: 0,
@@ -21,8 +31,11 @@ pub(crate) fn refusing(number: u64) -> Ruling {
     }
 }
 
-// A value of type `t` at `at`: its owner has none equal to it.
-pub(crate) fn ruled(s: &[u8], w: usize, schema: &[u64], rank: usize, t: u64, owner: usize, marks: &[usize], heads: &[usize], at: usize, len: usize) -> Ruling {
+// A value of type `t` at `at`: 4, or 5 where its owner has one equal to it.
+pub(crate) fn ruled(s: &[u8], w: usize, schema: &[u64], rank: usize, t: u64, owner: usize, marks: &[usize], heads: &[usize], at: usize, len: usize) -> Ruling
+    requires { ⌜ Asked w (now s) (now schema) (now marks) (now heads) at len × (rank ≡ rankOf (now schema) t) × (owner ≤ 513) ⌝ }
+    ensures { λ r. ⌜ Decides w (now (s .entry)) (now (schema .entry)) (now (marks .entry)) (now (heads .entry)) (ruledOf w (now (s .entry)) (now (schema .entry)) (now (heads .entry)) owner t at len) r ⌝ }
+{
     let v = sheet::value_at(s, at, len, w);
     if !schema::allowed(schema, rank, t, v) {
         return refusing(4);
@@ -42,7 +55,10 @@ pub(crate) fn ruled(s: &[u8], w: usize, schema: &[u64], rank: usize, t: u64, own
 }
 
 // A line after `count` entries, of which the last lacks its naming value or not.
-pub(crate) fn entry_line(s: &[u8], w: usize, schema: &[u64], depths: &[usize], marks: &[usize], heads: &[usize], count: usize, lacks: bool, at: usize, kind: u64, a: u64, b: u64, c: u64, len: usize) -> Ruling {
+pub(crate) fn entry_line(s: &[u8], w: usize, schema: &[u64], depths: &[usize], marks: &[usize], heads: &[usize], count: usize, lacks: bool, at: usize, kind: u64, a: u64, b: u64, c: u64, len: usize) -> Ruling
+    requires { ⌜ Asked w (now s) (now schema) (now marks) (now heads) at len × (count ≤ 256) × (length (now depths) ≡ 257) ⌝ }
+    ensures { λ r. ⌜ Decides w (now (s .entry)) (now (schema .entry)) (now (marks .entry)) (now (heads .entry)) (entryRuling w (now (s .entry)) (now (schema .entry)) (now (depths .entry)) (now (heads .entry)) count lacks at kind a b c len) r ⌝ }
+{
     if !directory_columns(kind, a, b, c, len) {
         return refusing(2);
     }
@@ -65,13 +81,17 @@ pub(crate) fn entry_line(s: &[u8], w: usize, schema: &[u64], depths: &[usize], m
     ruled(s, w, schema, schema::rank(schema, 0, b), b, parent, marks, heads, at, len)
 }
 
-// The refusal where no line stands.
-pub(crate) fn ended(front: Front, lacks: bool) -> u64 {
-    let Front::End = front else {
-        return 2;
-    };
-    if lacks {
-        return 6;
+// The refusal where no line stands, or 0.
+pub(crate) fn ended(front: Front, lacks: bool) -> u64
+    ensures { λ r. ⌜ r ≡ endNumber front lacks ⌝ }
+{
+    match front {
+        Front::End => {
+            if lacks {
+                return 6;
+            }
+            0
+        }
+        _ => 2,
     }
-    0
 }

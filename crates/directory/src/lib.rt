@@ -4,12 +4,13 @@ mod columns;
 mod entry;
 mod mark;
 mod schema;
-mod value;
 mod values;
 
 use rules::Front;
 ghost use mathlib.Core.Path.{_≡_};
 ghost use Prim.Native.Nat.{_≤_};
+ghost use Rattle.directory.specs.Judged.{Judged};
+ghost use Rattle.directory.specs.Entries.{Opened, refusedWith, nothingNoted};
 
 pub struct Notes {
     pub refusal: u64,
@@ -23,7 +24,9 @@ pub struct Notes {
 }
 
 // Nothing noted yet.
-fn blank() -> Notes {
+fn blank() -> Notes
+    ensures { λ r. ⌜ r ≡ nothingNoted ⌝ }
+{
     Notes {
         refusal: 0,
         types: 0,
@@ -37,14 +40,19 @@ fn blank() -> Notes {
 }
 
 // The notes with a refusal.
-fn refused(notes: Notes, number: u64) -> Notes {
+fn refused(notes: Notes, number: u64) -> Notes
+    ensures { λ r. ⌜ r ≡ refusedWith notes number ⌝ }
+{
     let mut r = notes;
     r.refusal = number;
     r
 }
 
 // The entries, from the line `first` at `from` on.
-fn entries(s: &[u8], w: usize, schema: &[u64], begun: Notes, from: usize, first: Front) -> Notes {
+fn entries(s: &[u8], w: usize, schema: &[u64], begun: Notes, from: usize, first: Front) -> Notes
+    requires { ⌜ Opened w (now s) (now schema) begun from first ⌝ }
+    ensures { λ r. ⌜ Judged w (now (s .entry)) r ⌝ }
+{
     let mut notes = begun;
     let mut depths: [usize; 257] = [0; 257];
     let mut marks: [usize; 10923] = [0; 10923];
@@ -60,11 +68,27 @@ fn entries(s: &[u8], w: usize, schema: &[u64], begun: Notes, from: usize, first:
             b,
             c,
             length,
-        } = front else {
+        } = front
+        else {
             return refused(notes, entry::ended(front, lacks));
         };
         let count = notes.count;
-        let x = entry::entry_line(s, w, schema, &depths, &marks, &heads, count, lacks, i, kind, a, b, c, length);
+        let x = entry::entry_line(
+            s,
+            w,
+            schema,
+            &depths,
+            &marks,
+            &heads,
+            count,
+            lacks,
+            i,
+            kind,
+            a,
+            b,
+            c,
+            length,
+        );
         if x.refusal != 0 {
             return refused(notes, x.refusal);
         }
@@ -98,6 +122,7 @@ fn entries(s: &[u8], w: usize, schema: &[u64], begun: Notes, from: usize, first:
 // The whole sheet.
 pub fn judge(s: &[u8], w: usize) -> Notes
     requires { ⌜ w ≤ 18 ⌝ }
+    ensures { λ r. ⌜ Judged w (now (s .entry)) r ⌝ }
 {
     let mut notes = blank();
     if 65536 < s.len() {

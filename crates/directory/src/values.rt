@@ -5,6 +5,16 @@ use crate::entry::ruled;
 use crate::entry::Ruling;
 use crate::schema;
 use rules::Front;
+ghost use mathlib.Core.Path.{_≡_};
+ghost use mathlib.Core.Bool.{_&&_, _||_};
+ghost use Prim.Native.Nat.{_+_, _*_, _%_, _≤_, _<_};
+ghost use lib.Dec.{eqb};
+ghost use lib.ListN.{length, getD, drop};
+ghost use Rattle.rules.specs.Sheet.{valueOf};
+ghost use Rattle.rules.specs.Value as Value;
+ghost use Rattle.directory.specs.Schema.{rankOf};
+ghost use Rattle.directory.specs.Rulings.{Asked, Decides, valueRuling};
+ghost use Rattle.directory.specs.Values.{ValuesAsked, ValuesAnswered};
 
 // The last entry: its number, its naming type, and its line's position and length.
 pub(crate) struct Current {
@@ -24,8 +34,11 @@ pub(crate) struct ValueLines {
     pub held: bool,
 }
 
-// A value line of entry `number`, whose last value's type is `last`, of a rank that is at least `from`.
-fn value_line(s: &[u8], w: usize, schema: &[u64], marks: &[usize], heads: &[usize], number: usize, last: u64, from: usize, at: usize, a: u64, b: u64, c: u64, len: usize) -> Ruling {
+// A value line of entry `number`, after a value of type `last`, whose rank is at least `from`.
+fn value_line(s: &[u8], w: usize, schema: &[u64], marks: &[usize], heads: &[usize], number: usize, last: u64, from: usize, at: usize, a: u64, b: u64, c: u64, len: usize) -> Ruling
+    requires { ⌜ Asked w (now s) (now schema) (now marks) (now heads) at len × (number ≤ 256) × (from ≤ rankOf (now schema) last) ⌝ }
+    ensures { λ r. ⌜ Decides w (now (s .entry)) (now (schema .entry)) (now (marks .entry)) (now (heads .entry)) (valueRuling w (now (s .entry)) (now (schema .entry)) (now (heads .entry)) number last at a b c len) r ⌝ }
+{
     if !directory_columns(3, a, b, c, len) {
         return refusing(2);
     }
@@ -35,17 +48,26 @@ fn value_line(s: &[u8], w: usize, schema: &[u64], marks: &[usize], heads: &[usiz
     ruled(s, w, schema, schema::rank(schema, from, a), a, 257 + number, marks, heads, at, len)
 }
 
-// Whether the value of type `t` at `at` is the naming value of `e`.
-fn names(s: &[u8], w: usize, schema: &[u64], rank: usize, e: Current, t: u64, at: usize, len: usize) -> bool {
+// Whether the naming value of `e` is among its values, with the value of type `t` at `at`.
+fn holding(s: &[u8], w: usize, schema: &[u64], rank: usize, e: Current, held: bool, t: u64, at: usize, len: usize) -> bool
+    requires { ⌜ (rank < length (now schema)) × (e .at + (5 * w + e .length) ≤ length (now s)) × (at + (5 * w + len) ≤ length (now s)) ⌝ }
+    ensures { λ r. ⌜ r ≡ (held || (eqb (e .naming) t && Value.same (getD (now (schema .entry)) rank 0 % 4) (valueOf w (e .length) (drop (e .at) (now (s .entry)))) (valueOf w len (drop at (now (s .entry)))))) ⌝ }
+{
+    if held {
+        return true;
+    }
     if e.naming != t {
         return false;
     }
     let k = schema[rank];
-    crate::value::same(k % 4, sheet::value_at(s, e.at, e.length, w), sheet::value_at(s, at, len, w))
+    value::same(k % 4, sheet::value_at(s, e.at, e.length, w), sheet::value_at(s, at, len, w))
 }
 
 // The value lines after the line of `e`.
-pub(crate) fn values(s: &[u8], w: usize, schema: &[u64], e: Current, marked: usize, marks: &mut [usize], heads: &mut [usize]) -> ValueLines {
+pub(crate) fn values(s: &[u8], w: usize, schema: &[u64], e: Current, marked: usize, marks: &mut [usize], heads: &mut [usize]) -> ValueLines
+    requires { ⌜ ValuesAsked w (now s) (now schema) (now marks) (now heads) marked e ⌝ }
+    ensures { λ r. ⌜ ValuesAnswered w (now (s .entry)) (now (schema .entry)) (now (marks .entry)) (now (heads .entry)) marked e (now (marks .exit)) (now (heads .exit)) r ⌝ }
+{
     let mut n = marked;
     let mut held = false;
     let mut last: u64 = 0;
@@ -87,9 +109,7 @@ pub(crate) fn values(s: &[u8], w: usize, schema: &[u64], e: Current, marked: usi
                 held,
             };
         }
-        if !held {
-            held = names(s, w, schema, x.rank, e, a, i, length);
-        }
+        held = holding(s, w, schema, x.rank, e, held, a, i, length);
         let bucket = x.bucket;
         marks[n] = x.mark;
         heads[bucket] = n + 1;

@@ -1,0 +1,110 @@
+use borrow.Author.Needs.{needs}
+use Rattle.directory.proofs.schema.types.Statement.{statement}
+use Rattle.directory.proofs.schema.types.Tie as tie
+use Rattle.directory.proofs.schema.types.Reads as reads
+use Rattle.directory.proofs.schema.types.Lts as lts
+use Rattle.directory.proofs.schema.type_line.Reads as type-line-reads
+use Rattle.sheet.proofs.line_at.Reads as line-at-reads
+
+abbrev Inv-loop : tie.InvT-loop
+Inv-loop s w schema₀ n₀ last₀ i₀ schema n last i = ?
+
+abbrev μ-loop : tie.MeasureT-loop
+μ-loop s w schema₀ n₀ last₀ i₀ schema n last i = ?
+
+-- src/schema.rt:74:5
+loop-holds : tie.Need-loop-holds Inv-loop μ-loop
+loop-holds c = search needs
+
+-- src/schema.rt:75:13
+line-at-requires : tie.Need-line-at-requires Inv-loop μ-loop
+line-at-requires c κs = search needs
+
+-- src/schema.rt:77:13
+enum-known-front : tie.Need-enum-known-front Inv-loop μ-loop
+enum-known-front c = search needs
+
+-- src/schema.rt:84:13
+returns : tie.Need-returns Inv-loop μ-loop
+returns c = search needs
+
+-- src/schema.rt:92:13
+returns-2 : tie.Need-returns-2 Inv-loop μ-loop
+returns-2 c = search needs
+
+-- src/schema.rt:99:13
+type-line-requires : tie.Need-type-line-requires Inv-loop μ-loop
+type-line-requires c κs = search needs
+
+-- src/schema.rt:101:13
+returns-3 : tie.Need-returns-3 Inv-loop μ-loop
+returns-3 c = search needs
+
+-- src/schema.rt:108:21
+mul-schema : tie.Need-mul-schema Inv-loop μ-loop
+mul-schema c = search needs
+
+-- src/schema.rt:108:21
+add-schema : tie.Need-add-schema Inv-loop μ-loop
+add-schema c = search needs
+
+-- src/schema.rt:108:9
+mul-schema-2 : tie.Need-mul-schema-2 Inv-loop μ-loop
+mul-schema-2 c = search needs
+
+-- src/schema.rt:108:9
+element-write-schema : tie.Need-element-write-schema Inv-loop μ-loop
+element-write-schema c = search needs
+
+-- src/schema.rt:109:9
+add-n : tie.Need-add-n Inv-loop μ-loop
+add-n c = search needs
+
+-- src/schema.rt:111:14
+mul-i : tie.Need-mul-i Inv-loop μ-loop
+mul-i c = search needs
+
+-- src/schema.rt:111:14
+add-i : tie.Need-add-i Inv-loop μ-loop
+add-i c = search needs
+
+-- src/schema.rt:111:14
+add-i-2 : tie.Need-add-i-2 Inv-loop μ-loop
+add-i-2 c = search needs
+
+-- src/schema.rt:111:9
+add-i-3 : tie.Need-add-i-3 Inv-loop μ-loop
+add-i-3 c = search needs
+
+-- src/schema.rt:74:5
+loop-less : tie.Need-loop-less Inv-loop μ-loop
+loop-less c = search needs
+
+-- src/schema.rt:74:5
+loop-again : tie.Need-loop-again Inv-loop μ-loop
+loop-again c = search needs
+
+pub types-spec : {M : Type 1} → statement M
+types-spec =
+    tie.close
+    (tie.spec
+    Inv-loop
+    μ-loop
+    loop-holds
+    line-at-requires
+    enum-known-front
+    returns
+    returns-2
+    type-line-requires
+    returns-3
+    mul-schema
+    add-schema
+    mul-schema-2
+    element-write-schema
+    add-n
+    mul-i
+    add-i
+    add-i-2
+    add-i-3
+    loop-less
+    loop-again)
