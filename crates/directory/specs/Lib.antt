@@ -1,4 +1,3 @@
-pub mod Stub
 pub mod Judged
 pub mod Mark
 pub mod Lines

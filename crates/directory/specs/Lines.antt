@@ -7,8 +7,7 @@ use mathlib.Core.Option.{Option, none, some}
 use mathlib.Core.List.{List, [], _∷_, _++_}
 use native.Mathlib.Omega.{arith}
 use lib.Dec.{eqb, leb, ltb}
-use lib.ListN.{length, take, drop, length-drop}
-use lib.Seq.{length-take-le}
+use lib.ListN.{length, drop}
 use borrow.Author.Tests.{eq-eqb, ne-eqb, eqb-true, leb-true}
 use Rattle.rules.specs.Sheet.{Bytes, Line, line, Sheet, end, broken, row, frontOf, columnOf, columnAt, numeral, strip, whole, valueOf, lines}
 use Rattle.rules.specs.Columns.{form, between, directoryForms, inForm}
@@ -21,7 +20,7 @@ use Rattle.rules.specs.declared.Column.{Column}
 use Rattle.rules.specs.declared.Column.the-variants.{Number, Malformed}
 use Rattle.rules.specs.declared.Front.{Front}
 use Rattle.rules.specs.declared.Front.the-variants.{Taken, NotInForm, End}
-use Rattle.directory.specs.Stub.{fits, inFormOf, in-form}
+use Rattle.sheet.specs.Columns.{fits, inFormOf, taken-in-form}
 
 -- the rest of the sheet from position `i` on, judged with what was read before
 abbrev pub judgedFrom : ℕ → Bytes → Reading → ℕ → Verdict Directory
@@ -55,11 +54,8 @@ module _ (w : ℕ) (s : Bytes) (i : ℕ) where
     abbrev pub lineHere : Line
     lineHere = line k a b c (valueOf w l (drop i s))
 
-    pub length-here : length (valueOf w l (drop i s)) ≡ l
-    length-here = let h = taken-fits w s i e in length-take-le l (drop (5 * w) (drop i s)) (simp length-drop (omega arith))
-
     pub formed : inFormOf directoryForms k a b c l ≡ inForm directoryForms lineHere
-    formed = in-form directoryForms k a b c (valueOf w l (drop i s)) length-here
+    formed = taken-in-form directoryForms w s i e
 
     judged-row : (st : Reading) → judgedFrom w s st i ≡ then (step st lineHere) (λ next. judgedFrom w s next (i + (5 * w + 1 + l)))
     unfolding fold
@@ -87,6 +83,13 @@ module _ (w : ℕ) (s : Bytes) (i : ℕ) where
   values-end : frontOf w (drop i s) ≡ End → valuesOf (linesAt w s i) ≡ []
   unfolding valuesOf
   values-end e = rw (lines-end w s i e)
+
+-- a line has one kind
+pub one-kind : {x : Front} {k a b c l k′ a′ b′ c′ l′ : ℕ} → x ≡ Taken k a b c l → x ≡ Taken k′ a′ b′ c′ l′ → k ≡ k′
+one-kind e f = cc
+
+pub of-kind : {x : Front} {k a b c l : ℕ} (n : ℕ) → x ≡ Taken k a b c l → k ≡ n → x ≡ Taken n a b c l
+of-kind n e q = cc
 
 -- no value where no K 3 line stands
 pub values-none : (w : ℕ) (s : Bytes) (i : ℕ) (x : Front) → x ≡ frontOf w (drop i s) → ((a b c l : ℕ) → x ≡ Taken 3 a b c l → ⊥) → valuesOf (linesAt w s i) ≡ []

@@ -1,8 +1,8 @@
 -- Marks: each entry line and value line taken leaves one, and an equal value is looked for among those of its bucket alone. The marks are
 -- given newest first; in the code mark number k (from 1) stands at k - 1, with the number of the mark before it in its bucket.
 use Prim.Native.Nat.{ℕ, zero, suc, _+_, _-_, _*_, _/_, _%_, _≤_, _<_}
-use mathlib.Core.Path.{_≡_, refl, sym, ap, _∙_, subst}
-use mathlib.Core.Bool.{Bool, true, false, _&&_, _||_, cond, and-false}
+use mathlib.Core.Path.{_≡_, refl, sym, ap, ap₂, _∙_, subst}
+use mathlib.Core.Bool.{Bool, true, false, _&&_, _||_, cond}
 use mathlib.Core.List.{List, [], _∷_, _++_, map}
 use native.Mathlib.Omega.{arith}
 use native.Mathlib.Numerals.{add-one}
@@ -14,7 +14,7 @@ use borrow.Author.Tests.{eq-eqb, ne-eqb, eqb-true, eqb-false, leb-true, leb-fals
 use Rattle.rules.specs.Lists.{any}
 use Rattle.rules.specs.Sheet.{Bytes, valueOf}
 use Rattle.rules.specs.Value.{text, small, normal, same}
-use Rattle.rules.specs.Laws.Tests.{and-left, and-right, both, contra}
+use Rattle.rules.specs.Laws.Tests.{and-left, and-right, contra}
 use Rattle.rules.specs.Laws.Value.{identical-eq}
 
 -- the owner and type of a value as one number, and the position and length of its line
@@ -209,6 +209,10 @@ module _ (w : ℕ) (s : Bytes) (marks : List ℕ) (syntax key : ℕ) (v : Bytes)
           let off : twin w s syntax key v m ≡ false = contra _ (eqb (bucketOf w s m) (digest key v)) (λ q. eq-eqb _ _ (twin-bucket w s syntax key v m q)) e in
           (r .0, record { count = l .count; most = omega (arith, l .most); chained = l .chained; top = l .top; twins = l .twins ∙ ap (λ (b : Bool). b || any (twin w s syntax key v) ms) (sym off) })
 
+-- the mark of number `x` has this key and an equal value
+abbrev pub bears : ℕ → Bytes → ℕ → ℕ → Bytes → ℕ → Bool
+bears w s syntax key v x = eqb (x / 137438953472) key && same syntax (valueOf w (x / 16384 % 128) (drop (x / 2097152 % 65536) s)) v
+
 -- a walk through the bucket of `v`, from its newest mark
 pub record Walk (w : ℕ) (s : Bytes) (marks : List ℕ) (head bucket : ℕ) (all : List Mark) : Type 0 where
   pub chained : Chained w s marks all
@@ -285,33 +289,22 @@ module _ {w : ℕ} {s : Bytes} {marks : List ℕ} {syntax key : ℕ} {v : Bytes}
       pub older : x % 16384 < k
       older = omega (arith, next-is, last-most w s (digest key v) rest, h .count)
 
-      bytes-are : valueOf w (x / 16384 % 128) (drop (x / 2097152 % 65536) s) ≡ bytesOf w s m
-      bytes-are = rw (place-is, size-is)
+      bears-is : bears w s syntax key v x ≡ twin w s syntax key v m
+      bears-is = ap₂ (λ (k : ℕ) (u : Bytes). eqb k key && same syntax u v) key-is (rw (place-is, size-is))
 
       -- an equal value of the same key
-      pub found : x / 137438953472 ≡ key → same syntax (valueOf w (x / 16384 % 128) (drop (x / 2097152 % 65536) s)) v ≡ true → true ≡ any (twin w s syntax key v) all
-      found e f =
-          let t : twin w s syntax key v m ≡ true
-          = both (eqb (m .key) key) _ (eq-eqb (m .key) key (sym key-is ∙ e)) (ap (λ (u : Bytes). same syntax u v) (sym bytes-are) ∙ f) in
-          sym (ap (λ (b : Bool). b || any (twin w s syntax key v) rest) t) ∙ h .twins
+      pub found : bears w s syntax key v x ≡ true → true ≡ any (twin w s syntax key v) all
+      found e = sym (ap (λ (b : Bool). b || any (twin w s syntax key v) rest) (sym bears-is ∙ e)) ∙ h .twins
 
-      -- none of them: on to the next
-      onward : twin w s syntax key v m ≡ false → (older : List Mark) × Left w s marks syntax key v (x % 16384) all older
-      onward t =
+      -- another value: on to the next
+      pub onward : bears w s syntax key v x ≡ false → (older : List Mark) × Left w s marks syntax key v (x % 16384) all older
+      onward e =
           let d = down w s marks syntax key v rest (h .chained) in
-          let l = d .1 in (
-            d .0,
-            record {
-              count = l .count ∙ sym next-is;
-              most = omega (arith, l .most, h .below);
-              chained = l .chained;
-              top = l .top;
-              twins = l .twins ∙ ap (λ (b : Bool). b || any (twin w s syntax key v) rest) (sym t) ∙ h .twins;
-            },
-          )
-
-      pub other-key : (x / 137438953472 ≡ key → ⊥) → (older : List Mark) × Left w s marks syntax key v (x % 16384) all older
-      other-key e = onward (ap (λ (b : Bool). b && same syntax (bytesOf w s m) v) (ne-eqb (m .key) key (λ q. e (key-is ∙ q))))
-
-      pub other-value : same syntax (valueOf w (x / 16384 % 128) (drop (x / 2097152 % 65536) s)) v ≡ false → (older : List Mark) × Left w s marks syntax key v (x % 16384) all older
-      other-value f = onward (ap (λ (b : Bool). eqb (m .key) key && b) (ap (λ (u : Bytes). same syntax u v) (sym bytes-are) ∙ f) ∙ and-false (eqb (m .key) key))
+          let l = d .1 in
+          (d .0, record {
+            count = l .count ∙ sym next-is;
+            most = omega (arith, l .most, h .below);
+            chained = l .chained;
+            top = l .top;
+            twins = l .twins ∙ ap (λ (b : Bool). b || any (twin w s syntax key v) rest) (sym (sym bears-is ∙ e)) ∙ h .twins;
+          })

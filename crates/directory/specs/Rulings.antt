@@ -1,6 +1,6 @@
 -- What the code decides on an entry line and on a value line, and that it is what the rules decide.
-use Prim.Native.Nat.{ℕ, zero, suc, _+_, _*_, _≤_, _<_}
-use mathlib.Core.Path.{_≡_, refl, sym, ap, _∙_, subst}
+use Prim.Native.Nat.{ℕ, zero, suc, _+_, _*_, _%_, _≤_, _<_}
+use mathlib.Core.Path.{_≡_, refl, sym, ap, ap₂, _∙_, subst}
 use mathlib.Core.Logic.{_⊎_, inl, inr}
 use mathlib.Core.Bool.{Bool, true, false, _&&_, _||_, not, cond}
 use mathlib.Core.Option.{Option, none, some}
@@ -18,10 +18,10 @@ use Rattle.rules.specs.Judge.{Verdict, accept, refuse, refuseIf}
 use Rattle.rules.specs.Directory.{Stored, Reading, entriesOf, nameAt, newEntry, withValue, lacksNaming, clashes, typeLine, entryLine, valueLine, step}
 use Rattle.rules.specs.Places.{schemaOf}
 use Rattle.rules.specs.declared.Front.the-variants.{Taken}
-use Rattle.directory.specs.Stub.{inFormOf}
+use Rattle.sheet.specs.Columns.{inFormOf}
 use Rattle.directory.specs.Lines.{lineHere, formed, step-form, step-type, step-entry, step-value, other-columns}
-use Rattle.directory.specs.Mark.{Mark, mark, digest, bucketOf, packed, Within, Chain, chain-more}
-use Rattle.directory.specs.Schema.{rankOf, Rising}
+use Rattle.directory.specs.Mark.{Mark, mark, digest, digest-bound, bucketOf, packed, Within, Chain, chain-more, Walk, Answers, twin, last-most}
+use Rattle.directory.specs.Schema.{rankOf, rank-most, Rising, Known, allowed-known}
 use Rattle.directory.specs.Twins.{ownerOf, keyOf, twins, Named, Valued}
 use Rattle.directory.specs.declared.entry.Ruling.{Ruling}
 
@@ -92,6 +92,63 @@ ready-more {w} {s} {ks} {marks} {heads} {ms} r m within n bucket number count is
   chain = rw (← count, is-bucket, is-number) (chain-more (r .chain) m within (r .room));
   room = omega arith;
 }
+
+-- ---- the ways through the code
+
+-- a walk through the bucket `b`
+pub walk-of : {w : ℕ} {s : Bytes} {ks marks heads : List ℕ} {ms : List Mark} → Ready w s ks marks heads ms → (b bucket : ℕ) → bucket ≡ b → b < 2048
+    → Walk w s marks (getD heads bucket 0) b ms
+walk-of {heads = heads} r b bucket is h = record {
+  chained = r .chain .chained;
+  newest = ap (λ (k : ℕ). getD heads k 0) is ∙ r .chain .newest b h;
+  most = r .room;
+  room = omega (arith, r .room, r .chain .marked);
+  sheet = r .sheet;
+}
+
+-- a value `u` at `at`, whose type has this rank
+module _ {w : ℕ} {s : Bytes} {ks marks heads : List ℕ} {at size : ℕ} (asked : Asked w s ks marks heads at size)
+    (owner t rank : ℕ) (is : rank ≡ rankOf ks t) (low : owner ≤ 513) (u : Bytes) (here : u ≡ valueOf w size (drop at s)) where
+  pub key-small : owner * 64 + rank < 65536
+  key-small = omega (arith, rank-most ks t, asked .ready .few)
+
+  pub rank-within : allowed (schemaOf ks) t u ≡ true → rank < length ks
+  rank-within a = rw is (allowed-known 0 ks (asked .ready .rising) t u a .within)
+
+  pub ruled-unfit : allowed (schemaOf ks) t u ≡ false → (ms : List Mark) → refusing 4 ≡ ruledOf w s ks heads owner t at size ms
+  unfolding ruledOf
+  ruled-unfit a ms = let f = ap (λ (v : Bytes). allowed (schemaOf ks) t v) (sym here) ∙ a in rw f
+
+  module _ (bucket : ℕ) (bucket-is : bucket ≡ digest (owner * 64 + rank) u) where
+    pub bucket-within : bucket < length heads
+    bucket-within = omega (arith, bucket-is, digest-bound (owner * 64 + rank) u, asked .ready .chain .buckets)
+
+    pub head-small : getD heads bucket 0 < 10923
+    head-small = let walk = walk-of (asked .ready) (digest (owner * 64 + rank) u) bucket bucket-is (digest-bound _ u) in
+        omega (arith, walk .newest, last-most w s (digest (owner * 64 + rank) u) (asked .all), asked .ready .room)
+
+    -- its numbers make one number
+    pub mark-small : (owner * 64 + rank < 65536) × (at ≤ 65536) × (size ≤ 64) × (getD heads bucket 0 < 10923)
+    mark-small = (key-small, omega (arith, asked .within .line, asked .ready .sheet), asked .within .size, head-small)
+
+    module _ (a : allowed (schemaOf ks) t u ≡ true) (found : Bool)
+        (answers : Answers w s marks (getD heads bucket 0) (getD ks rank 0 % 4) (owner * 64 + rank) u found) (ms : List Mark) (ready : Ready w s ks marks heads ms) where
+      fit : allowed (schemaOf ks) t (valueOf w size (drop at s)) ≡ true
+      fit = ap (λ (v : Bytes). allowed (schemaOf ks) t v) (sym here) ∙ a
+
+      twins-are : found ≡ twins w s ks owner t (valueOf w size (drop at s)) ms
+      twins-are =
+          answers ms (walk-of ready (digest (owner * 64 + rank) u) bucket bucket-is (digest-bound _ u))
+          ∙ ap₂ (λ (r : ℕ) (v : Bytes). any (twin w s (getD ks r 0 % 4) (owner * 64 + r) v) ms) is here
+
+      pub ruled-twice : found ≡ true → refusing 5 ≡ ruledOf w s ks heads owner t at size ms
+      unfolding ruledOf
+      ruled-twice f = let z = sym twins-are ∙ f in rw (fit, z)
+
+      pub ruled-marked : found ≡ false
+          → record { refusal = 0; rank = rank; bucket = bucket; mark = (((owner * 64 + rank) * 65536 + at) * 128 + size) * 16384 + getD heads bucket 0 } ≡ ruledOf w s ks heads owner t at size ms
+      unfolding ruledOf packed
+      ruled-marked f = let z = sym twins-are ∙ f in rw (fit, z, bucket-is, here, is)
 
 -- ---- what the rules decide
 

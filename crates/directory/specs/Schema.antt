@@ -7,8 +7,8 @@ use mathlib.Core.List.{List, [], _∷_, _++_, map}
 use native.Mathlib.Omega.{arith}
 use native.Mathlib.Numerals.{add-one}
 use lib.Dec.{eqb, leb, leb·suc-suc, leb·suc-zero}
-use lib.ListN.{length, getD, take, drop, set, length-map, length-set, length-take}
-use lib.Seq.{drop-cons, take-suc-set, length-take-le}
+use lib.ListN.{length, getD, take, drop, set, drop-of-length-le}
+use lib.Seq.{drop-cons}
 use borrow.Author.Tests.{eq-eqb, ne-eqb, le-leb, lt-leb, lt-ltb, le-ltb, eqb-true, eqb-false, leb-true, leb-false, ltb-true, ltb-false}
 use Rattle.rules.specs.Lists.{first, firstOr, lastOr}
 use Rattle.rules.specs.Sheet.{Bytes, Line}
@@ -72,6 +72,10 @@ module _ (ks : List ℕ) (t i : ℕ) where
   unfolding rankOf
   rank-on h l = rw (add-one, drop-cons ks i 0 h, lt-leb t (getD ks i 0 / 4) l)
 
+pub rank-end : (ks : List ℕ) (t i : ℕ) → length ks ≤ i → rankOf (drop i ks) t ≡ 0
+unfolding rankOf
+rank-end ks t i h = rw drop-of-length-le
+
 -- ---- a type looked up by its rank
 
 -- below all types
@@ -126,6 +130,19 @@ module _ (n : ℕ) (ks : List ℕ) (rising : Rising n ks) (t : ℕ) (v : Bytes) 
       go true d p q h = absurd (false≢true h)
       go false true p q h = record { within = leb-false _ _ p; number = eqb-true _ _ q }
       go false false p q h = absurd (false≢true h)
+
+-- the same, by a number that is the rank
+module _ (ks : List ℕ) (rising : Rising 0 ks) (t : ℕ) (v : Bytes) (r : ℕ) (is : r ≡ rankOf ks t) where
+  pub allowed-past′ : r ≡ length ks → allowed (schemaOf ks) t v ≡ false
+  allowed-past′ h = allowed-past 0 ks rising t v (sym is ∙ h)
+
+  pub allowed-other′ : (r ≡ length ks → ⊥) → (getD ks r 0 / 4 ≡ t → ⊥) → allowed (schemaOf ks) t v ≡ false
+  allowed-other′ h e = allowed-other 0 ks rising t v (omega (arith, rank-most ks t, h)) (λ q. e (ap (λ (n : ℕ). getD ks n 0 / 4) is ∙ q))
+
+  pub allowed-fits′ : (r ≡ length ks → ⊥) → getD ks r 0 / 4 ≡ t → allowed (schemaOf ks) t v ≡ fits (getD ks r 0 % 4) v
+  allowed-fits′ h e =
+      allowed-fits 0 ks rising t v (record { within = omega (arith, rank-most ks t, h); number = ap (λ (n : ℕ). getD ks n 0 / 4) (sym is) ∙ e })
+      ∙ ap (λ (n : ℕ). fits (getD ks n 0 % 4) v) (sym is)
 
 -- two values of a known type that its syntax allows
 pub equal-known : (n : ℕ) (ks : List ℕ) → Rising n ks → (t : ℕ) → Known ks t → (u v : Bytes) → fits (syntaxOf ks t) u ≡ true → fits (syntaxOf ks t) v ≡ true

@@ -1,5 +1,5 @@
 // An entry line, K 2, and the rulings that entry lines and value lines share.
-use crate::columns::directory_columns;
+use sheet::columns::directory_columns;
 use crate::mark;
 use crate::schema;
 use rules::Front;
@@ -86,12 +86,19 @@ pub(crate) fn ended(front: Front, lacks: bool) -> u64
     ensures { λ r. ⌜ r ≡ endNumber front lacks ⌝ }
 {
     match front {
+        Front::Taken {
+            kind: _,
+            a: _,
+            b: _,
+            c: _,
+            length: _,
+        } => 2,
+        Front::NotInForm => 2,
         Front::End => {
             if lacks {
                 return 6;
             }
             0
         }
-        _ => 2,
     }
 }

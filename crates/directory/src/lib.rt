@@ -1,6 +1,5 @@
 // The directory sheet judged line by line: the refusal that the rules give, or 0 with what later steps need of the sheet,
 // noted on the way: the schema as numbers, and each entry line's position, parent, naming type and length.
-mod columns;
 mod entry;
 mod mark;
 mod schema;

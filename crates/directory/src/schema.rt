@@ -1,5 +1,5 @@
 // The schema: the K 1 lines, noted as one number for each attribute type (its number times 4, and its syntax), and looked up.
-use crate::columns::directory_columns;
+use sheet::columns::directory_columns;
 use rules::Front;
 ghost use mathlib.Core.Path.{_≡_};
 ghost use Prim.Native.Nat.{_≤_};

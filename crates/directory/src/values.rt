@@ -1,5 +1,5 @@
 // The value lines, K 3, of one entry.
-use crate::columns::directory_columns;
+use sheet::columns::directory_columns;
 use crate::entry::refusing;
 use crate::entry::ruled;
 use crate::entry::Ruling;

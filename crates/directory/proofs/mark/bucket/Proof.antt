@@ -1,3 +1,9 @@
+-- The bytes before `i` are in `h`.
+use Rattle.directory.specs.Mark.{digest, digest-on, digest-end}
+use lib.ListN.{length, drop}
+use native.Mathlib.Omega.{arith}
+use mathlib.Core.Path.{_≡_, refl, sym, _∙_}
+use Prim.Native.Nat.{_+_, _-_, _≤_, _<_}
 use borrow.Author.Needs.{needs}
 use Rattle.directory.proofs.mark.bucket.Statement.{statement}
 use Rattle.directory.proofs.mark.bucket.Tie as tie
@@ -5,14 +11,14 @@ use Rattle.directory.proofs.mark.bucket.Reads as reads
 use Rattle.directory.proofs.mark.bucket.Lts as lts
 
 abbrev Inv-loop : tie.InvT-loop
-Inv-loop key v h₀ i₀ h i = ?
+Inv-loop key v h₀ i₀ h i = (i ≤ length v) × (h < 65536) × (digest h (drop i v) ≡ digest key v)
 
 abbrev μ-loop : tie.MeasureT-loop
-μ-loop key v h₀ i₀ h i = ?
+μ-loop key v h₀ i₀ h i = length v - i
 
 -- src/mark.rt:14:5
 loop-holds : tie.Need-loop-holds Inv-loop μ-loop
-loop-holds c = search needs
+loop-holds c = (search needs, c .pre, refl)
 
 -- src/mark.rt:15:14
 mul-h : tie.Need-mul-h Inv-loop μ-loop
@@ -40,11 +46,11 @@ loop-less c = search needs
 
 -- src/mark.rt:14:5
 loop-again : tie.Need-loop-again Inv-loop μ-loop
-loop-again c = search needs
+loop-again c = (search needs, omega arith, sym (digest-on _ _ _ (c .before .loop-test .taken)) ∙ c .before .before .loop .inv .2)
 
 -- src/mark.rt:8:1
 returns : tie.Need-returns Inv-loop μ-loop
-returns c = search needs
+returns c = sym (digest-end _ _ _ (c .loop-test .left)) ∙ c .before .loop .inv .2
 
 pub bucket-spec : {M : Type 1} → statement M
 bucket-spec =
