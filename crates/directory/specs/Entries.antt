@@ -10,7 +10,7 @@ use native.Mathlib.Numerals.{add-one}
 use native.Mathlib.Decide.{ℕ-discrete}
 use lib.Dec.{eqb, ltb}
 use lib.ListN.{length, getD, take, drop, set, length-append, length-set, List·getD-append, replicate, length-replicate, getD-replicate}
-use lib.Seq.{getD-at, getD-set-same, getD-set-other}
+use lib.Seq.{getD-at, getD-set-same, getD-set-other, length-take-le}
 use borrow.Author.Tests.{le-ltb, lt-ltb}
 use Rattle.rules.specs.Lists.{any}
 use Rattle.rules.specs.Sheet.{Bytes, Line, line, frontOf, valueOf, lines}
@@ -26,12 +26,13 @@ use Rattle.directory.specs.Judged.{EntryNoted, Noted, Judged}
 use Rattle.directory.specs.Lines.{judgedFrom, lineHere, taken-wide, judged-refused, judged-on, judged-broken, judged-end, entry-columns}
 use Rattle.directory.specs.Mark.{Mark, mark, Within, digest, digest-bound, lastIn}
 use Rattle.directory.specs.Schema.{Rising}
-use Rattle.directory.specs.Types.{typed}
+use Rattle.directory.specs.Types.{typed, TypesStopped}
 use Rattle.directory.specs.Twins.{keyOf, any-snoc, Named, named-start, named-entry, valued-none}
 use Rattle.directory.specs.Rulings.{Ready, ready-more, reading, filled, Refused, Elsewhere, Counted, EntryTaken, EntryOutcome, entryRuling, entry-outcome}
 use Rattle.directory.specs.Values.{after, Begun, ValuesStopped, ValuesJudged}
 use Rattle.directory.specs.declared.Notes.{Notes}
 use Rattle.directory.specs.declared.entry.Ruling.{Ruling}
+use Rattle.directory.specs.declared.schema.TypeLines.{TypeLines}
 use Rattle.directory.specs.declared.values.Current.{Current}
 use Rattle.directory.specs.declared.values.ValueLines.{ValueLines}
 
@@ -391,3 +392,29 @@ module _ {w : ℕ} {s : Bytes} {ks : List ℕ} {notes : Notes} {i : ℕ} {front 
       level : (k : ℕ) → k ≤ 0 → getD (replicate 257 0) k 0 ≡ length (nameAt [] k)
       level zero h = getD-replicate 257 0 0 0 (omega arith)
       level (suc k) h = absurd (omega arith)
+
+-- after the K 1 lines, with nothing else noted
+pub opened : (w : ℕ) (s : Bytes) (schema : List ℕ) (r : TypeLines) (b : Notes) → length s ≤ 65536 → w ≤ 18 → b ≡ nothingNoted → TypesStopped w s schema r
+    → Opened w s (take (r .count) schema)
+    (record { refusal = b .refusal; types = r .count; schema = schema; count = b .count; at = b .at; parents = b .parents; naming = b .naming; lengths = b .lengths }) (r .at) (r .front)
+opened w s schema r b fits width is t = record {
+  sheet = fits;
+  width = width;
+  rising = t .read .rising;
+  few = rw (length-take-le (r .count) schema (omega (arith, t .read .most, t .read .room))) (t .read .most);
+  sized = record {
+    types = t .read .most;
+    list = refl;
+    schema = t .read .room;
+    at = ap (λ (x : Notes). length (x .at)) is ∙ length-replicate {A = ℕ} 256 0;
+    parents = ap (λ (x : Notes). length (x .parents)) is ∙ length-replicate {A = ℕ} 256 0;
+    naming = ap (λ (x : Notes). length (x .naming)) is ∙ length-replicate {A = ℕ} 256 0;
+    lengths = ap (λ (x : Notes). length (x .lengths)) is ∙ length-replicate {A = ℕ} 256 0;
+    levels = length-replicate {A = ℕ} 257 0;
+  };
+  none-yet = ap (λ (x : Notes). x .count) is;
+  within = t .read .within;
+  stands = t .front;
+  other = t .other;
+  judged = t .read .same;
+}

@@ -300,11 +300,13 @@ module _ {w : ℕ} {s : Bytes} {marks : List ℕ} {syntax key : ℕ} {v : Bytes}
       pub onward : bears w s syntax key v x ≡ false → (older : List Mark) × Left w s marks syntax key v (x % 16384) all older
       onward e =
           let d = down w s marks syntax key v rest (h .chained) in
-          let l = d .1 in
-          (d .0, record {
-            count = l .count ∙ sym next-is;
-            most = omega (arith, l .most, h .below);
-            chained = l .chained;
-            top = l .top;
-            twins = l .twins ∙ ap (λ (b : Bool). b || any (twin w s syntax key v) rest) (sym (sym bears-is ∙ e)) ∙ h .twins;
-          })
+          let l = d .1 in (
+            d .0,
+            record {
+              count = l .count ∙ sym next-is;
+              most = omega (arith, l .most, h .below);
+              chained = l .chained;
+              top = l .top;
+              twins = l .twins ∙ ap (λ (b : Bool). b || any (twin w s syntax key v) rest) (sym (sym bears-is ∙ e)) ∙ h .twins;
+            },
+          )

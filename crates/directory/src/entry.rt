@@ -1,8 +1,8 @@
 // An entry line, K 2, and the rulings that entry lines and value lines share.
-use sheet::columns::directory_columns;
 use crate::mark;
 use crate::schema;
 use rules::Front;
+use sheet::columns::directory_columns;
 ghost use mathlib.Core.Path.{_≡_};
 ghost use Prim.Native.Nat.{_≤_};
 ghost use lib.ListN.{length};
@@ -32,7 +32,18 @@ pub(crate) fn refusing(number: u64) -> Ruling
 }
 
 // A value of type `t` at `at`: 4, or 5 where its owner has one equal to it.
-pub(crate) fn ruled(s: &[u8], w: usize, schema: &[u64], rank: usize, t: u64, owner: usize, marks: &[usize], heads: &[usize], at: usize, len: usize) -> Ruling
+pub(crate) fn ruled(
+    s: &[u8],
+    w: usize,
+    schema: &[u64],
+    rank: usize,
+    t: u64,
+    owner: usize,
+    marks: &[usize],
+    heads: &[usize],
+    at: usize,
+    len: usize,
+) -> Ruling
     requires { ⌜ Asked w (now s) (now schema) (now marks) (now heads) at len × (rank ≡ rankOf (now schema) t) × (owner ≤ 513) ⌝ }
     ensures { λ r. ⌜ Decides w (now (s .entry)) (now (schema .entry)) (now (marks .entry)) (now (heads .entry)) (ruledOf w (now (s .entry)) (now (schema .entry)) (now (heads .entry)) owner t at len) r ⌝ }
 {
@@ -55,7 +66,22 @@ pub(crate) fn ruled(s: &[u8], w: usize, schema: &[u64], rank: usize, t: u64, own
 }
 
 // A line after `count` entries, of which the last lacks its naming value or not.
-pub(crate) fn entry_line(s: &[u8], w: usize, schema: &[u64], depths: &[usize], marks: &[usize], heads: &[usize], count: usize, lacks: bool, at: usize, kind: u64, a: u64, b: u64, c: u64, len: usize) -> Ruling
+pub(crate) fn entry_line(
+    s: &[u8],
+    w: usize,
+    schema: &[u64],
+    depths: &[usize],
+    marks: &[usize],
+    heads: &[usize],
+    count: usize,
+    lacks: bool,
+    at: usize,
+    kind: u64,
+    a: u64,
+    b: u64,
+    c: u64,
+    len: usize,
+) -> Ruling
     requires { ⌜ Asked w (now s) (now schema) (now marks) (now heads) at len × (count ≤ 256) × (length (now depths) ≡ 257) ⌝ }
     ensures { λ r. ⌜ Decides w (now (s .entry)) (now (schema .entry)) (now (marks .entry)) (now (heads .entry)) (entryRuling w (now (s .entry)) (now (schema .entry)) (now (depths .entry)) (now (heads .entry)) count lacks at kind a b c len) r ⌝ }
 {
@@ -78,7 +104,18 @@ pub(crate) fn entry_line(s: &[u8], w: usize, schema: &[u64], depths: &[usize], m
     if 8 <= depths[parent] {
         return refusing(3);
     }
-    ruled(s, w, schema, schema::rank(schema, 0, b), b, parent, marks, heads, at, len)
+    ruled(
+        s,
+        w,
+        schema,
+        schema::rank(schema, 0, b),
+        b,
+        parent,
+        marks,
+        heads,
+        at,
+        len,
+    )
 }
 
 // The refusal where no line stands, or 0.

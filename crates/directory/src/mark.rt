@@ -27,11 +27,23 @@ fn bears(s: &[u8], w: usize, m: usize, key: usize, syntax: u64, v: &[u8]) -> boo
     if m / 137438953472 != key {
         return false;
     }
-    value::same(syntax, sheet::value_at(s, m / 2097152 % 65536, m / 16384 % 128, w), v)
+    value::same(
+        syntax,
+        sheet::value_at(s, m / 2097152 % 65536, m / 16384 % 128, w),
+        v,
+    )
 }
 
 // Whether a mark with this key, from `head` on in its bucket, has an equal value.
-pub(crate) fn twin(s: &[u8], w: usize, marks: &[usize], head: usize, key: usize, syntax: u64, v: &[u8]) -> bool
+pub(crate) fn twin(
+    s: &[u8],
+    w: usize,
+    marks: &[usize],
+    head: usize,
+    key: usize,
+    syntax: u64,
+    v: &[u8],
+) -> bool
     requires { ⌜ Mark.Walkable w (now s) (now marks) head (Mark.digest key (now v)) ⌝ }
     ensures { λ r. ⌜ Mark.Answers w (now (s .entry)) (now (marks .entry)) head syntax key (now (v .entry)) r ⌝ }
 {

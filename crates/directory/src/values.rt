@@ -1,10 +1,10 @@
 // The value lines, K 3, of one entry.
-use sheet::columns::directory_columns;
+use crate::entry::Ruling;
 use crate::entry::refusing;
 use crate::entry::ruled;
-use crate::entry::Ruling;
 use crate::schema;
 use rules::Front;
+use sheet::columns::directory_columns;
 ghost use mathlib.Core.Path.{_≡_};
 ghost use mathlib.Core.Bool.{_&&_, _||_};
 ghost use Prim.Native.Nat.{_+_, _*_, _%_, _≤_, _<_};
@@ -35,7 +35,21 @@ pub(crate) struct ValueLines {
 }
 
 // A value line of entry `number`, after a value of type `last`, whose rank is at least `from`.
-fn value_line(s: &[u8], w: usize, schema: &[u64], marks: &[usize], heads: &[usize], number: usize, last: u64, from: usize, at: usize, a: u64, b: u64, c: u64, len: usize) -> Ruling
+fn value_line(
+    s: &[u8],
+    w: usize,
+    schema: &[u64],
+    marks: &[usize],
+    heads: &[usize],
+    number: usize,
+    last: u64,
+    from: usize,
+    at: usize,
+    a: u64,
+    b: u64,
+    c: u64,
+    len: usize,
+) -> Ruling
     requires { ⌜ Asked w (now s) (now schema) (now marks) (now heads) at len × (number ≤ 256) × (from ≤ rankOf (now schema) last) ⌝ }
     ensures { λ r. ⌜ Decides w (now (s .entry)) (now (schema .entry)) (now (marks .entry)) (now (heads .entry)) (valueRuling w (now (s .entry)) (now (schema .entry)) (now (heads .entry)) number last at a b c len) r ⌝ }
 {
@@ -45,11 +59,32 @@ fn value_line(s: &[u8], w: usize, schema: &[u64], marks: &[usize], heads: &[usiz
     if a < last {
         return refusing(3);
     }
-    ruled(s, w, schema, schema::rank(schema, from, a), a, 257 + number, marks, heads, at, len)
+    ruled(
+        s,
+        w,
+        schema,
+        schema::rank(schema, from, a),
+        a,
+        257 + number,
+        marks,
+        heads,
+        at,
+        len,
+    )
 }
 
 // Whether the naming value of `e` is among its values, with the value of type `t` at `at`.
-fn holding(s: &[u8], w: usize, schema: &[u64], rank: usize, e: Current, held: bool, t: u64, at: usize, len: usize) -> bool
+fn holding(
+    s: &[u8],
+    w: usize,
+    schema: &[u64],
+    rank: usize,
+    e: Current,
+    held: bool,
+    t: u64,
+    at: usize,
+    len: usize,
+) -> bool
     requires { ⌜ (rank < length (now schema)) × (e .at + (5 * w + e .length) ≤ length (now s)) × (at + (5 * w + len) ≤ length (now s)) ⌝ }
     ensures { λ r. ⌜ r ≡ (held || (eqb (e .naming) t && Value.same (getD (now (schema .entry)) rank 0 % 4) (valueOf w (e .length) (drop (e .at) (now (s .entry)))) (valueOf w len (drop at (now (s .entry)))))) ⌝ }
 {
@@ -60,11 +95,23 @@ fn holding(s: &[u8], w: usize, schema: &[u64], rank: usize, e: Current, held: bo
         return false;
     }
     let k = schema[rank];
-    value::same(k % 4, sheet::value_at(s, e.at, e.length, w), sheet::value_at(s, at, len, w))
+    value::same(
+        k % 4,
+        sheet::value_at(s, e.at, e.length, w),
+        sheet::value_at(s, at, len, w),
+    )
 }
 
 // The value lines after the line of `e`.
-pub(crate) fn values(s: &[u8], w: usize, schema: &[u64], e: Current, marked: usize, marks: &mut [usize], heads: &mut [usize]) -> ValueLines
+pub(crate) fn values(
+    s: &[u8],
+    w: usize,
+    schema: &[u64],
+    e: Current,
+    marked: usize,
+    marks: &mut [usize],
+    heads: &mut [usize],
+) -> ValueLines
     requires { ⌜ ValuesAsked w (now s) (now schema) (now marks) (now heads) marked e ⌝ }
     ensures { λ r. ⌜ ValuesAnswered w (now (s .entry)) (now (schema .entry)) (now (marks .entry)) (now (heads .entry)) marked e (now (marks .exit)) (now (heads .exit)) r ⌝ }
 {
@@ -81,7 +128,8 @@ pub(crate) fn values(s: &[u8], w: usize, schema: &[u64], e: Current, marked: usi
             b,
             c,
             length,
-        } = front else {
+        } = front
+        else {
             return ValueLines {
                 refusal: 0,
                 at: i,
@@ -99,7 +147,21 @@ pub(crate) fn values(s: &[u8], w: usize, schema: &[u64], e: Current, marked: usi
                 held,
             };
         }
-        let x = value_line(s, w, schema, marks, heads, e.number, last, from, i, a, b, c, length);
+        let x = value_line(
+            s,
+            w,
+            schema,
+            marks,
+            heads,
+            e.number,
+            last,
+            from,
+            i,
+            a,
+            b,
+            c,
+            length,
+        );
         if x.refusal != 0 {
             return ValueLines {
                 refusal: x.refusal,
