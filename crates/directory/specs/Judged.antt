@@ -1,0 +1,38 @@
+-- What `judge` answers: the refusal number that the rules give, and of an accepted directory what later steps go by.
+use Prim.Native.Nat.{ℕ, _+_, _*_, _≤_, _<_}
+use mathlib.Core.Path.{_≡_}
+use lib.ListN.{length, getD, take, drop}
+use Rattle.rules.specs.Sheet.{Bytes, frontOf, valueOf}
+use Rattle.rules.specs.Judge.{accept, refusalOf}
+use Rattle.rules.specs.Directory.{Stored, blank, Directory, directoryOf}
+use Rattle.rules.specs.Places.{linesAt, valuesOf, schemaOf}
+use Rattle.rules.specs.declared.Front.the-variants.{Taken}
+use Rattle.directory.specs.declared.Notes.{Notes}
+
+-- an entry by the numbers noted of it: the position of its K 2 line, its parent's number, its naming type, the length of its naming value
+pub record EntryNoted (w : ℕ) (s : Bytes) (e : Stored) (at parent naming size : ℕ) : Type 0 where
+  pub line : frontOf w (drop at s) ≡ Taken 2 (e .parent) (e .naming .type) 0 size
+  pub value : valueOf w size (drop at s) ≡ e .naming .value
+  pub within : at + (5 * w + 1 + size) ≤ length s
+  pub values : valuesOf (linesAt w s (at + (5 * w + 1 + size))) ≡ e .values
+  pub above : parent ≡ e .parent
+  pub type : naming ≡ e .naming .type
+
+-- the notes of the directory `d`
+pub record Noted (w : ℕ) (s : Bytes) (d : Directory) (r : Notes) : Type 0 where
+  pub types : r .types ≤ 64
+  pub schema : schemaOf (take (r .types) (r .schema)) ≡ d .schema
+  pub count : r .count ≡ length (d .entries)
+  pub most : r .count ≤ 256
+  pub schema-length : length (r .schema) ≡ 64
+  pub at-length : length (r .at) ≡ 256
+  pub parents-length : length (r .parents) ≡ 256
+  pub naming-length : length (r .naming) ≡ 256
+  pub lengths-length : length (r .lengths) ≡ 256
+  pub entry : (k : ℕ) → k < r .count
+      → EntryNoted w s (getD (d .entries) k blank) (getD (r .at) k 0) (getD (r .parents) k 0) (getD (r .naming) k 0) (getD (r .lengths) k 0)
+
+-- the answer for the sheet `s`
+pub record Judged (w : ℕ) (s : Bytes) (r : Notes) : Type 0 where
+  pub refusal : r .refusal ≡ refusalOf (directoryOf w s)
+  pub noted : (d : Directory) → directoryOf w s ≡ accept d → Noted w s d r

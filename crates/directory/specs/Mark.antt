@@ -1,0 +1,312 @@
+-- Marks: each entry line and value line taken leaves one, and an equal value is looked for among those of its bucket alone. The marks are
+-- given newest first; in the code mark number k (from 1) stands at k - 1, with the number of the mark before it in its bucket.
+use Prim.Native.Nat.{ℕ, zero, suc, _+_, _-_, _*_, _/_, _%_, _≤_, _<_}
+use mathlib.Core.Path.{_≡_, refl, sym, ap, ap₂, _∙_, subst}
+use mathlib.Core.Bool.{Bool, true, false, _&&_, _||_, cond}
+use mathlib.Core.List.{List, [], _∷_, _++_, map}
+use native.Mathlib.Omega.{arith}
+use native.Mathlib.Numerals.{add-one}
+use native.Mathlib.Decide.{ℕ-discrete}
+use lib.Dec.{eqb, leb}
+use lib.ListN.{length, getD, drop, set, length-set, drop-of-length-le}
+use lib.Seq.{drop-cons, getD-set-same, getD-set-other}
+use borrow.Author.Tests.{eq-eqb, ne-eqb, eqb-true, eqb-false, leb-true, leb-false}
+use Rattle.rules.specs.Lists.{any}
+use Rattle.rules.specs.Sheet.{Bytes, valueOf}
+use Rattle.rules.specs.Value.{text, small, normal, same}
+use Rattle.rules.specs.Laws.Tests.{and-left, and-right, contra}
+use Rattle.rules.specs.Laws.Value.{identical-eq}
+
+-- the owner and type of a value as one number, and the position and length of its line
+pub record Mark : Type 0 where
+  pub key : ℕ
+  pub place : ℕ
+  pub size : ℕ
+
+abbrev pub mark : ℕ → ℕ → ℕ → Mark
+mark key place size = record { key = key; place = place; size = size }
+
+abbrev pub bytesOf : ℕ → Bytes → Mark → Bytes
+bytesOf w s m = valueOf w (m .size) (drop (m .place) s)
+
+-- ---- buckets
+
+-- a letter and its capital differ by 32
+unfoldable pub digest : ℕ → Bytes → ℕ
+digest h [] = h % 2048
+digest h (b ∷ bs) = digest ((h * 33 + b % 32) % 65536) bs
+
+abbrev pub bucketOf : ℕ → Bytes → Mark → ℕ
+bucketOf w s m = digest (m .key) (bytesOf w s m)
+
+pub digest-bound : (h : ℕ) (v : Bytes) → digest h v < 2048
+unfolding digest
+digest-bound h [] = omega arith
+digest-bound h (b ∷ bs) = digest-bound ((h * 33 + b % 32) % 65536) bs
+
+-- at a place of a value
+pub digest-on : (v : Bytes) (i h : ℕ) → i < length v → digest h (drop i v) ≡ digest ((h * 33 + getD v i 0 % 32) % 65536) (drop (i + 1) v)
+unfolding digest
+digest-on v i h l = rw (add-one, drop-cons v i 0)
+
+pub digest-end : (v : Bytes) (i h : ℕ) → length v ≤ i → digest h (drop i v) ≡ h % 2048
+unfolding digest
+digest-end v i h l = rw drop-of-length-le
+
+small-low : (b : ℕ) → small b % 32 ≡ b % 32
+unfolding small
+small-low b = go (leb 65 b) (leb b 90)
+  where
+    go : (t u : Bool) → cond t (cond u (b + 32) b) b % 32 ≡ b % 32
+    go true true = omega arith
+    go true false = refl
+    go false u = refl
+
+digest-small : (h : ℕ) (v : Bytes) → digest h (map small v) ≡ digest h v
+unfolding digest
+digest-small h [] = refl
+digest-small h (b ∷ bs) = ap (λ (x : ℕ). digest ((h * 33 + x) % 65536) (map small bs)) (small-low b) ∙ digest-small ((h * 33 + b % 32) % 65536) bs
+
+digest-normal : (h s : ℕ) (v : Bytes) → digest h (normal s v) ≡ digest h v
+unfolding normal
+digest-normal h s v = go (eqb s text)
+  where
+    go : (t : Bool) → digest h (cond t (map small v) v) ≡ digest h v
+    go true = digest-small h v
+    go false = refl
+
+-- equal values have one bucket
+pub digest-same : (h s : ℕ) (u v : Bytes) → same s u v ≡ true → digest h u ≡ digest h v
+unfolding same
+digest-same h s u v e = sym (digest-normal h s u) ∙ ap (digest h) (identical-eq (normal s u) (normal s v) e) ∙ digest-normal h s v
+
+-- ---- a mark as a number
+
+unfoldable pub packed : Mark → ℕ → ℕ
+packed m head = ((m .key * 65536 + m .place) * 128 + m .size) * 16384 + head
+
+module _ (m : Mark) (head : ℕ) (hp : m .place < 65536) (hs : m .size < 128) (hh : head < 16384) where
+  pub packed-key : packed m head / 137438953472 ≡ m .key
+  unfolding packed
+  packed-key = omega arith
+
+  pub packed-place : packed m head / 2097152 % 65536 ≡ m .place
+  unfolding packed
+  packed-place = omega arith
+
+  pub packed-size : packed m head / 16384 % 128 ≡ m .size
+  unfolding packed
+  packed-size = omega arith
+
+  pub packed-head : packed m head % 16384 ≡ head
+  unfolding packed
+  packed-head = omega arith
+
+-- ---- buckets as chains
+
+-- the number of the newest mark in bucket `b`, 0 where there is none
+unfoldable pub lastIn : ℕ → Bytes → ℕ → List Mark → ℕ
+lastIn w s b [] = 0
+lastIn w s b (m ∷ ms) = cond (eqb (bucketOf w s m) b) (suc (length ms)) (lastIn w s b ms)
+
+-- a mark's line lies within the sheet
+pub record Within (w : ℕ) (s : Bytes) (m : Mark) : Type 0 where
+  pub size : m .size ≤ 64
+  pub line : m .place + (5 * w + 1 + m .size) ≤ length s
+
+-- the numbers `marks` are the marks `ms`, each with the number of the mark before it in its bucket
+abbrev pub Chained : ℕ → Bytes → List ℕ → List Mark → Type 0
+Chained w s marks [] = Unit {0}
+Chained w s marks (m ∷ ms) = (getD marks (length ms) 0 ≡ packed m (lastIn w s (bucketOf w s m) ms)) × Within w s m × Chained w s marks ms
+
+-- the first `n` numbers are marks, and `heads` has the newest of each bucket
+pub record Chain (w : ℕ) (s : Bytes) (marks heads : List ℕ) (n : ℕ) (ms : List Mark) : Type 0 where
+  pub count : length ms ≡ n
+  pub marked : length marks ≡ 10923
+  pub buckets : length heads ≡ 2048
+  pub chained : Chained w s marks ms
+  pub newest : (b : ℕ) → b < 2048 → getD heads b 0 ≡ lastIn w s b ms
+
+pub last-most : (w : ℕ) (s : Bytes) (b : ℕ) (ms : List Mark) → lastIn w s b ms ≤ length ms
+unfolding lastIn
+last-most w s b [] = omega arith
+last-most w s b (m ∷ ms) = go (eqb (bucketOf w s m) b) (last-most w s b ms)
+  where
+    go : (t : Bool) → lastIn w s b ms ≤ length ms → cond t (suc (length ms)) (lastIn w s b ms) ≤ suc (length ms)
+    go true h = omega arith
+    go false h = omega arith
+
+-- ---- one mark more
+
+chained-set : (w : ℕ) (s : Bytes) (marks : List ℕ) (n x : ℕ) (ms : List Mark) → length ms ≤ n → Chained w s marks ms → Chained w s (set marks n x) ms
+chained-set w s marks n x [] l h = tt
+chained-set w s marks n x (m ∷ ms) l h =
+    (getD-set-other marks n (length ms) x 0 (λ e. omega arith) ∙ h .0, h .1, chained-set w s marks n x ms (omega arith) (h .2))
+
+module _ {w : ℕ} {s : Bytes} {marks heads : List ℕ} {n : ℕ} {ms : List Mark} (c : Chain w s marks heads n ms) (m : Mark) (within : Within w s m) (room : n < 10923) where
+  marked-newest : (b′ : ℕ) → b′ < 2048 → getD (set heads (bucketOf w s m) (n + 1)) b′ 0 ≡ lastIn w s b′ (m ∷ ms)
+  unfolding lastIn
+  marked-newest b′ l = go (ℕ-discrete b′ (bucketOf w s m))
+    where
+      go : Dec (b′ ≡ bucketOf w s m) → getD (set heads (bucketOf w s m) (n + 1)) b′ 0 ≡ cond (eqb (bucketOf w s m) b′) (suc (length ms)) (lastIn w s b′ ms)
+      go (yes e) =
+          let k : bucketOf w s m < length heads = omega (arith, c .buckets, digest-bound (m .key) (bytesOf w s m)) in
+          rw (e, eq-eqb (bucketOf w s m) (bucketOf w s m) refl, getD-set-same heads (bucketOf w s m) (n + 1) 0 k) (omega (arith, c .count))
+      go (no e) = rw (ne-eqb (bucketOf w s m) b′ (λ q. e (sym q)), getD-set-other heads (bucketOf w s m) b′ (n + 1) 0 e) (c .newest b′ l)
+
+  pub chain-more : Chain w s (set marks n (packed m (getD heads (bucketOf w s m) 0))) (set heads (bucketOf w s m) (n + 1)) (suc n) (m ∷ ms)
+  chain-more = record {
+    count = omega (arith, c .count);
+    marked = simp length-set (c .marked);
+    buckets = simp length-set (c .buckets);
+    chained = (
+      ap (λ (k : ℕ). getD (set marks n (packed m (getD heads (bucketOf w s m) 0))) k 0) (c .count)
+          ∙ getD-set-same marks n _ 0 (omega (arith, c .marked))
+          ∙ ap (packed m) (c .newest (bucketOf w s m) (digest-bound (m .key) (bytesOf w s m))),
+      within,
+      chained-set w s marks n _ ms (omega (arith, c .count)) (c .chained),
+    );
+    newest = marked-newest;
+  }
+
+-- ---- going through a bucket
+
+-- the mark has this key and an equal value
+abbrev pub twin : ℕ → Bytes → ℕ → ℕ → Bytes → Mark → Bool
+twin w s syntax key v m = eqb (m .key) key && same syntax (bytesOf w s m) v
+
+twin-bucket : (w : ℕ) (s : Bytes) (syntax key : ℕ) (v : Bytes) (m : Mark) → twin w s syntax key v m ≡ true → bucketOf w s m ≡ digest key v
+twin-bucket w s syntax key v m e =
+    ap (λ (k : ℕ). digest k (bytesOf w s m)) (eqb-true (m .key) key (and-left (eqb (m .key) key) _ e))
+    ∙ digest-same key syntax (bytesOf w s m) v (and-right (eqb (m .key) key) _ e)
+
+-- the newest of `ms` is in bucket `b`
+abbrev pub Top : ℕ → Bytes → ℕ → List Mark → Type 0
+Top w s b [] = Unit {0}
+Top w s b (m ∷ ms) = bucketOf w s m ≡ b
+
+-- the marks up to number `k`, in whose bucket all the twins among `all` are that are not ruled out yet
+pub record Left (w : ℕ) (s : Bytes) (marks : List ℕ) (syntax key : ℕ) (v : Bytes) (k : ℕ) (all ms : List Mark) : Type 0 where
+  pub count : length ms ≡ k
+  pub most : length ms ≤ length all
+  pub chained : Chained w s marks ms
+  pub top : Top w s (digest key v) ms
+  pub twins : any (twin w s syntax key v) ms ≡ any (twin w s syntax key v) all
+
+module _ (w : ℕ) (s : Bytes) (marks : List ℕ) (syntax key : ℕ) (v : Bytes) where
+  -- down to the newest mark in the bucket
+  pub down : (ms : List Mark) → Chained w s marks ms → (rest : List Mark) × Left w s marks syntax key v (lastIn w s (digest key v) ms) ms rest
+  unfolding lastIn
+  down [] h = ([], record { count = refl; most = omega arith; chained = tt; top = tt; twins = refl })
+  down (m ∷ ms) h = go (eqb (bucketOf w s m) (digest key v)) refl (down ms (h .2))
+    where
+      go : (t : Bool) → eqb (bucketOf w s m) (digest key v) ≡ t
+          → (rest : List Mark) × Left w s marks syntax key v (lastIn w s (digest key v) ms) ms rest
+          → (rest : List Mark) × Left w s marks syntax key v (cond t (suc (length ms)) (lastIn w s (digest key v) ms)) (m ∷ ms) rest
+      go true e r = (m ∷ ms, record { count = refl; most = omega arith; chained = h; top = eqb-true _ _ e; twins = refl })
+      go false e r =
+          let l = r .1 in
+          let off : twin w s syntax key v m ≡ false = contra _ (eqb (bucketOf w s m) (digest key v)) (λ q. eq-eqb _ _ (twin-bucket w s syntax key v m q)) e in
+          (r .0, record { count = l .count; most = omega (arith, l .most); chained = l .chained; top = l .top; twins = l .twins ∙ ap (λ (b : Bool). b || any (twin w s syntax key v) ms) (sym off) })
+
+-- the mark of number `x` has this key and an equal value
+abbrev pub bears : ℕ → Bytes → ℕ → ℕ → Bytes → ℕ → Bool
+bears w s syntax key v x = eqb (x / 137438953472) key && same syntax (valueOf w (x / 16384 % 128) (drop (x / 2097152 % 65536) s)) v
+
+-- a walk through the bucket of `v`, from its newest mark
+pub record Walk (w : ℕ) (s : Bytes) (marks : List ℕ) (head bucket : ℕ) (all : List Mark) : Type 0 where
+  pub chained : Chained w s marks all
+  pub newest : head ≡ lastIn w s bucket all
+  pub most : length all < 10923
+  pub room : length all ≤ length marks
+  pub sheet : length s ≤ 65536
+
+abbrev pub Walkable : ℕ → Bytes → List ℕ → ℕ → ℕ → Type 0
+Walkable w s marks head bucket = (all : List Mark) × Walk w s marks head bucket all
+
+-- whether one of the marks has this key and an equal value
+abbrev pub Answers : ℕ → Bytes → List ℕ → ℕ → ℕ → ℕ → Bytes → Bool → Type 0
+Answers w s marks head syntax key v found = (all : List Mark) → Walk w s marks head (digest key v) all → found ≡ any (twin w s syntax key v) all
+
+-- the number `x` is that of mark `m`, of which `rest` are older
+pub record Here (w : ℕ) (s : Bytes) (marks : List ℕ) (syntax key : ℕ) (v : Bytes) (k : ℕ) (all : List Mark) (x : ℕ) (m : Mark) (rest : List Mark) : Type 0 where
+  pub count : suc (length rest) ≡ k
+  pub below : suc (length rest) ≤ length all
+  pub chained : Chained w s marks rest
+  pub within : Within w s m
+  pub number : x ≡ packed m (lastIn w s (digest key v) rest)
+  pub twins : (twin w s syntax key v m || any (twin w s syntax key v) rest) ≡ any (twin w s syntax key v) all
+
+module _ {w : ℕ} {s : Bytes} {marks : List ℕ} {syntax key : ℕ} {v : Bytes} {head : ℕ} {all : List Mark} (walk : Walk w s marks head (digest key v) all) where
+  pub start : (rest : List Mark) × Left w s marks syntax key v head all rest
+  start = subst (λ (k : ℕ). (rest : List Mark) × Left w s marks syntax key v k all rest) (sym (walk .newest)) (down w s marks syntax key v all (walk .chained))
+
+  module _ {k : ℕ} where
+    pub here : (ms : List Mark) → Left w s marks syntax key v k all ms → (k ≡ 0 → ⊥) → (m : Mark) × (rest : List Mark) × Here w s marks syntax key v k all (getD marks (k - 1) 0) m rest
+    here [] l z = absurd (z (sym (l .count)))
+    here (m ∷ rest) l z =
+        let e : k - 1 ≡ length rest = omega (arith, l .count) in (
+          m,
+          rest,
+          record {
+            count = l .count;
+            below = l .most;
+            chained = l .chained .2;
+            within = l .chained .1;
+            number = ap (λ (i : ℕ). getD marks i 0) e ∙ l .chained .0 ∙ ap (λ (b : ℕ). packed m (lastIn w s b rest)) (l .top);
+            twins = l .twins;
+          },
+        )
+
+    pub index : (ms : List Mark) → Left w s marks syntax key v k all ms → (k ≡ 0 → ⊥) → k - 1 < length marks
+    index ms l z = omega (arith, l .count, l .most, walk .room)
+
+    pub gone : (ms : List Mark) → Left w s marks syntax key v k all ms → k ≡ 0 → false ≡ any (twin w s syntax key v) all
+    gone [] l z = l .twins
+    gone (m ∷ rest) l z = absurd (omega (arith, l .count))
+
+    module _ {x : ℕ} {m : Mark} {rest : List Mark} (h : Here w s marks syntax key v k all x m rest) where
+      bound : (m .place < 65536) × (m .size < 128) × (lastIn w s (digest key v) rest < 16384)
+      bound = omega (arith, h .within .size, h .within .line, walk .sheet, walk .most, h .below, last-most w s (digest key v) rest)
+
+      pub key-is : x / 137438953472 ≡ m .key
+      key-is = ap (λ (n : ℕ). n / 137438953472) (h .number) ∙ packed-key m _ (bound .0) (bound .1) (bound .2)
+
+      pub place-is : x / 2097152 % 65536 ≡ m .place
+      place-is = ap (λ (n : ℕ). n / 2097152 % 65536) (h .number) ∙ packed-place m _ (bound .0) (bound .1) (bound .2)
+
+      pub size-is : x / 16384 % 128 ≡ m .size
+      size-is = ap (λ (n : ℕ). n / 16384 % 128) (h .number) ∙ packed-size m _ (bound .0) (bound .1) (bound .2)
+
+      pub next-is : x % 16384 ≡ lastIn w s (digest key v) rest
+      next-is = ap (λ (n : ℕ). n % 16384) (h .number) ∙ packed-head m _ (bound .0) (bound .1) (bound .2)
+
+      -- its line may be read
+      pub readable : x / 2097152 % 65536 + (5 * w + x / 16384 % 128) ≤ length s
+      readable = rw (place-is, size-is) (omega (arith, h .within .line))
+
+      -- the next is older
+      pub older : x % 16384 < k
+      older = omega (arith, next-is, last-most w s (digest key v) rest, h .count)
+
+      bears-is : bears w s syntax key v x ≡ twin w s syntax key v m
+      bears-is = ap₂ (λ (k : ℕ) (u : Bytes). eqb k key && same syntax u v) key-is (rw (place-is, size-is))
+
+      -- an equal value of the same key
+      pub found : bears w s syntax key v x ≡ true → true ≡ any (twin w s syntax key v) all
+      found e = sym (ap (λ (b : Bool). b || any (twin w s syntax key v) rest) (sym bears-is ∙ e)) ∙ h .twins
+
+      -- another value: on to the next
+      pub onward : bears w s syntax key v x ≡ false → (older : List Mark) × Left w s marks syntax key v (x % 16384) all older
+      onward e =
+          let d = down w s marks syntax key v rest (h .chained) in
+          let l = d .1 in (
+            d .0,
+            record {
+              count = l .count ∙ sym next-is;
+              most = omega (arith, l .most, h .below);
+              chained = l .chained;
+              top = l .top;
+              twins = l .twins ∙ ap (λ (b : Bool). b || any (twin w s syntax key v) rest) (sym (sym bears-is ∙ e)) ∙ h .twins;
+            },
+          )

@@ -1,0 +1,140 @@
+// The directory sheet judged line by line: the refusal that the rules give, or 0 with what later steps need of the sheet,
+// noted on the way: the schema as numbers, and each entry line's position, parent, naming type and length.
+mod entry;
+mod mark;
+mod schema;
+mod values;
+
+use rules::Front;
+ghost use mathlib.Core.Path.{_≡_};
+ghost use Prim.Native.Nat.{_≤_};
+ghost use Rattle.directory.specs.Judged.{Judged};
+ghost use Rattle.directory.specs.Entries.{Opened, refusedWith, nothingNoted};
+
+pub struct Notes {
+    pub refusal: u64,
+    pub types: usize,
+    pub schema: [u64; 64],
+    pub count: usize,
+    pub at: [usize; 256],
+    pub parents: [usize; 256],
+    pub naming: [u64; 256],
+    pub lengths: [usize; 256],
+}
+
+// Nothing noted yet.
+fn blank() -> Notes
+    ensures { λ r. ⌜ r ≡ nothingNoted ⌝ }
+{
+    Notes {
+        refusal: 0,
+        types: 0,
+        schema: [0; 64],
+        count: 0,
+        at: [0; 256],
+        parents: [0; 256],
+        naming: [0; 256],
+        lengths: [0; 256],
+    }
+}
+
+// The notes with a refusal.
+fn refused(notes: Notes, number: u64) -> Notes
+    ensures { λ r. ⌜ r ≡ refusedWith notes number ⌝ }
+{
+    let mut r = notes;
+    r.refusal = number;
+    r
+}
+
+// The entries, from the line `first` at `from` on.
+fn entries(s: &[u8], w: usize, schema: &[u64], begun: Notes, from: usize, first: Front) -> Notes
+    requires { ⌜ Opened w (now s) (now schema) begun from first ⌝ }
+    ensures { λ r. ⌜ Judged w (now (s .entry)) r ⌝ }
+{
+    let mut notes = begun;
+    let mut depths: [usize; 257] = [0; 257];
+    let mut marks: [usize; 10923] = [0; 10923];
+    let mut heads: [usize; 2048] = [0; 2048];
+    let mut n: usize = 0;
+    let mut lacks = false;
+    let mut i = from;
+    let mut front = first;
+    loop {
+        let Front::Taken {
+            kind,
+            a,
+            b,
+            c,
+            length,
+        } = front
+        else {
+            return refused(notes, entry::ended(front, lacks));
+        };
+        let count = notes.count;
+        let x = entry::entry_line(
+            s,
+            w,
+            schema,
+            &depths,
+            &marks,
+            &heads,
+            count,
+            lacks,
+            i,
+            kind,
+            a,
+            b,
+            c,
+            length,
+        );
+        if x.refusal != 0 {
+            return refused(notes, x.refusal);
+        }
+        let p = a as usize;
+        notes.at[count] = i;
+        notes.parents[count] = p;
+        notes.naming[count] = b;
+        notes.lengths[count] = length;
+        notes.count = count + 1;
+        depths[count + 1] = depths[p] + 1;
+        let bucket = x.bucket;
+        marks[n] = x.mark;
+        heads[bucket] = n + 1;
+        let e = values::Current {
+            number: count + 1,
+            naming: b,
+            at: i,
+            length,
+        };
+        let run = values::values(s, w, schema, e, n + 1, &mut marks, &mut heads);
+        if run.refusal != 0 {
+            return refused(notes, run.refusal);
+        }
+        i = run.at;
+        front = run.front;
+        n = run.marks;
+        lacks = !run.held;
+    }
+}
+
+// The whole sheet.
+pub fn judge(s: &[u8], w: usize) -> Notes
+    requires { ⌜ w ≤ 18 ⌝ }
+    ensures { λ r. ⌜ Judged w (now (s .entry)) r ⌝ }
+{
+    let mut notes = blank();
+    if 65536 < s.len() {
+        return refused(notes, 1);
+    }
+    let mut schema: [u64; 64] = [0; 64];
+    let t = schema::types(s, w, &mut schema);
+    if t.refusal != 0 {
+        return refused(notes, t.refusal);
+    }
+    let types = t.count;
+    notes.types = types;
+    notes.schema = schema;
+    let front = t.front;
+    entries(s, w, &schema[0..types], notes, t.at, front)
+}

@@ -1,0 +1,59 @@
+// A mark for each entry line and value line taken: it finds an equal value of the same owner and type without going through all
+// of them. A mark is one number: key, position and length of its line, and the mark before it in its bucket (from 1; 0: none).
+ghost use mathlib.Core.Path.{_≡_};
+ghost use Prim.Native.Nat.{_+_, _*_, _/_, _%_, _≤_, _<_};
+ghost use lib.ListN.{length};
+ghost use Rattle.directory.specs.Mark as Mark;
+
+// The bucket of a value under a key: letters count without case, so that equal values have one bucket in every syntax.
+pub(crate) fn bucket(key: usize, v: &[u8]) -> usize
+    requires { ⌜ key < 65536 ⌝ }
+    ensures { λ r. ⌜ r ≡ Mark.digest key (now (v .entry)) ⌝ }
+{
+    let mut h = key;
+    let mut i: usize = 0;
+    while i < v.len() {
+        h = (h * 33 + (v[i] % 32) as usize) % 65536;
+        i += 1;
+    }
+    h % 2048
+}
+
+// Whether the mark `m` has this key and an equal value.
+fn bears(s: &[u8], w: usize, m: usize, key: usize, syntax: u64, v: &[u8]) -> bool
+    requires { ⌜ m / 2097152 % 65536 + (5 * w + m / 16384 % 128) ≤ length (now s) ⌝ }
+    ensures { λ r. ⌜ r ≡ Mark.bears w (now (s .entry)) syntax key (now (v .entry)) m ⌝ }
+{
+    if m / 137438953472 != key {
+        return false;
+    }
+    value::same(
+        syntax,
+        sheet::value_at(s, m / 2097152 % 65536, m / 16384 % 128, w),
+        v,
+    )
+}
+
+// Whether a mark with this key, from `head` on in its bucket, has an equal value.
+pub(crate) fn twin(
+    s: &[u8],
+    w: usize,
+    marks: &[usize],
+    head: usize,
+    key: usize,
+    syntax: u64,
+    v: &[u8],
+) -> bool
+    requires { ⌜ Mark.Walkable w (now s) (now marks) head (Mark.digest key (now v)) ⌝ }
+    ensures { λ r. ⌜ Mark.Answers w (now (s .entry)) (now (marks .entry)) head syntax key (now (v .entry)) r ⌝ }
+{
+    let mut k = head;
+    while k != 0 {
+        let m = marks[k - 1];
+        if bears(s, w, m, key, syntax, v) {
+            return true;
+        }
+        k = m % 16384;
+    }
+    false
+}
