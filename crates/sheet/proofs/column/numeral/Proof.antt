@@ -5,12 +5,12 @@ use mathlib.Core.Logic.{⊎-elim}
 use native.Mathlib.Omega.{arith}
 use Rattle.sheet.specs.Read.{column-empty, column-zero, column-one, column-many}
 use borrow.Author.Needs.{needs}
-use Rattle.sheet.proofs.numeral.Statement.{statement}
-use Rattle.sheet.proofs.numeral.Tie as tie
-use Rattle.sheet.proofs.numeral.Reads as reads
-use Rattle.sheet.proofs.numeral.Lts as lts
-use Rattle.sheet.proofs.number.Reads as number-reads
-use Rattle.sheet.proofs.spaces.Reads as spaces-reads
+use Rattle.sheet.proofs.column.numeral.Statement.{statement}
+use Rattle.sheet.proofs.column.numeral.Tie as tie
+use Rattle.sheet.proofs.column.numeral.Reads as reads
+use Rattle.sheet.proofs.column.numeral.Lts as lts
+use Rattle.sheet.proofs.column.number.Reads as number-reads
+use Rattle.sheet.proofs.column.spaces.Reads as spaces-reads
 
 -- src/lib.rt:50:9
 spaces-requires : tie.Need-spaces-requires

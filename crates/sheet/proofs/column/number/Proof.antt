@@ -6,10 +6,10 @@ use lib.ListN.{length, drop}
 use Rattle.rules.specs.Sheet.{digits}
 use Rattle.sheet.specs.Read.{digits-low, digits-high, digits-on, digits-end, digit-room, power-room, power-positive}
 use borrow.Author.Needs.{needs}
-use Rattle.sheet.proofs.number.Statement.{statement}
-use Rattle.sheet.proofs.number.Tie as tie
-use Rattle.sheet.proofs.number.Reads as reads
-use Rattle.sheet.proofs.number.Lts as lts
+use Rattle.sheet.proofs.column.number.Statement.{statement}
+use Rattle.sheet.proofs.column.number.Tie as tie
+use Rattle.sheet.proofs.column.number.Reads as reads
+use Rattle.sheet.proofs.column.number.Lts as lts
 
 abbrev Inv-loop : tie.InvT-loop
 Inv-loop s from v₀ i₀ v i = (i ≤ length s) × (v < 10 ^ i) × (digits v (drop i s) ≡ digits 0 (drop from s))

@@ -6,10 +6,10 @@ use lib.ListN.{length, drop, drop-of-length-le}
 use Rattle.rules.specs.Sheet.{strip}
 use Rattle.sheet.specs.Read.{strip-space, strip-stop, strip-end}
 use borrow.Author.Needs.{needs}
-use Rattle.sheet.proofs.spaces.Statement.{statement}
-use Rattle.sheet.proofs.spaces.Tie as tie
-use Rattle.sheet.proofs.spaces.Reads as reads
-use Rattle.sheet.proofs.spaces.Lts as lts
+use Rattle.sheet.proofs.column.spaces.Statement.{statement}
+use Rattle.sheet.proofs.column.spaces.Tie as tie
+use Rattle.sheet.proofs.column.spaces.Reads as reads
+use Rattle.sheet.proofs.column.spaces.Lts as lts
 
 abbrev Inv-loop : tie.InvT-loop
 Inv-loop s i₀ i = (i ≤ length s) × (strip (drop i s) ≡ strip s)

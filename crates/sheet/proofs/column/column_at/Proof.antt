@@ -3,11 +3,11 @@ use mathlib.Core.Path.{ap, _∙_}
 use Rattle.rules.specs.Sheet.{columnOf}
 use Rattle.sheet.specs.Read.{part-of}
 use borrow.Author.Needs.{needs}
-use Rattle.sheet.proofs.column_at.Statement.{statement}
-use Rattle.sheet.proofs.column_at.Tie as tie
-use Rattle.sheet.proofs.column_at.Reads as reads
-use Rattle.sheet.proofs.column_at.Lts as lts
-use Rattle.sheet.proofs.numeral.Reads as numeral-reads
+use Rattle.sheet.proofs.column.column_at.Statement.{statement}
+use Rattle.sheet.proofs.column.column_at.Tie as tie
+use Rattle.sheet.proofs.column.column_at.Reads as reads
+use Rattle.sheet.proofs.column.column_at.Lts as lts
+use Rattle.sheet.proofs.column.numeral.Reads as numeral-reads
 
 -- src/lib.rt:67:15
 add-end : tie.Need-add-end
