@@ -28,6 +28,7 @@ use Rattle.request.specs.declared.filter.Node.the-variants.{Operator, It
 
 -- ---- what the code does
 
+-- what follows, or the refusal
 abbrev pub onStep : Step → (ℕ → ℕ → Step) → Step
 onStep (Read next left) go = go next left
 onStep (Step.Refused n) go = Step.Refused n
@@ -36,6 +37,7 @@ onStep (Step.Refused n) go = Step.Refused n
 abbrev pub inPlace : ℕ → Bool → ℕ → Bool
 inPlace a first after = cond (eqb a 0) first (cond (eqb a 2) (eqb after 0) true)
 
+-- by the kind of a line where a piece is due
 abbrev pub pieceOf : Bool → ℕ → ℕ → ℕ → ℕ → ℕ → Step
 pieceOf first after k a next left = cond (eqb k 28) (cond (inPlace a first after) (Read next left) (Step.Refused 23)) (Step.Refused 23)
 
@@ -45,6 +47,7 @@ pieceBy first after left (Seen.Line k a b c l next) = cond (eqb left 0) (Step.Re
 pieceBy first after left NotAllowed = Step.Refused 22
 pieceBy first after left Missing = Step.Refused 23
 
+-- a piece at the position `at`, with `after` pieces after it
 unfoldable pub pieceAt : ℕ → Bytes → Bool → ℕ → ℕ → ℕ → Step
 pieceAt w q first after at left = pieceBy first after left (seenAt w q at)
 
@@ -53,6 +56,7 @@ unfoldable pub piecesAt : ℕ → Bytes → Bool → ℕ → ℕ → ℕ → Ste
 piecesAt w q first zero at left = Read at left
 piecesAt w q first (suc n) at left = onStep (pieceAt w q first n at left) (piecesAt w q false n)
 
+-- pieces that were read make an item
 abbrev pub itemOf : Step → Node
 itemOf (Read next left) = Item next left
 itemOf (Step.Refused n) = Node.Refused n
@@ -70,11 +74,13 @@ nodeOf w q k a b next left =
     (cond (eqb k 27) (itemOf (piecesAt w q true b next left))
     (Node.Refused 23))))))))
 
+-- a filter's line, where `left` more lines are allowed
 abbrev pub nodeBy : ℕ → Bytes → ℕ → Seen → Node
 nodeBy w q left (Seen.Line k a b c l next) = cond (eqb left 0) (Node.Refused 23) (nodeOf w q k a b next (left - 1))
 nodeBy w q left NotAllowed = Node.Refused 22
 nodeBy w q left Missing = Node.Refused 23
 
+-- what the line at the position `at` begins
 unfoldable pub nodeAt : ℕ → Bytes → ℕ → ℕ → Node
 nodeAt w q at left = nodeBy w q left (seenAt w q at)
 
@@ -83,6 +89,7 @@ unfoldable pub partsAt : (ℕ → ℕ → Step) → ℕ → ℕ → ℕ → Step
 partsAt one zero at left = Read at left
 partsAt one (suc n) at left = onStep (one at left) (partsAt one n)
 
+-- the parts of an operator are read by `one`
 abbrev pub byNode : (ℕ → ℕ → Step) → Node → Step
 byNode one (Operator n next left) = partsAt one n next left
 byNode one (Item next left) = Read next left
@@ -178,6 +185,7 @@ module _ {A : Type 0} (w : ℕ) (q : Bytes) (at : ℕ) (next : ℕ → Line → 
 
 -- ---- pieces
 
+-- a piece from its line
 abbrev pieceLine : Line → Piece
 pieceLine x = record { place = x .a; bytes = x .bytes }
 
@@ -193,6 +201,7 @@ piece-test k a after first e = rw e (by (eqb a 0) refl (eqb a 2) refl first)
     by false e true f first = refl
     by false e false f first = refl
 
+-- how the rules read pieces, a filter, and some filters
 abbrev piecesReader : ℕ → Bytes → Bool → ℕ → ℕ → ℕ → (A : Type 0) → (List Piece → ℕ → Sheet → Verdict A) → Verdict A
 piecesReader w q first n at left A k = pieces first n left (linesAt w q at) k
 
@@ -223,6 +232,7 @@ module _ (w : ℕ) (q : Bytes) where
     piece-seen left NotAllowed t z = (λ y. omega arith, λ A m. refl)
     piece-seen left Missing t z = (λ y. omega arith, λ A m. refl)
 
+  -- pieces from a position on, by what the code does
   pieces-follow : (first : Bool) (n at left : ℕ) → Follows w q (piecesReader w q first n at left) (piecesAt w q first n at left)
   unfolding pieces piecesAt pieceAt afterPiece
   pieces-follow first zero at left = ([], λ A k. refl)
@@ -242,14 +252,17 @@ filterReader w q d at left A k = filter d left (linesAt w q at) k
 abbrev filtersReader : ℕ → Bytes → ℕ → ℕ → ℕ → ℕ → (A : Type 0) → (Filters → ℕ → Sheet → Verdict A) → Verdict A
 filtersReader w q d n at left A k = filters (filter d) n left (linesAt w q at) k
 
+-- the rules read a filter as the code does
 abbrev FilterFollows : ℕ → Bytes → ℕ → ℕ → ℕ → Type 1
 FilterFollows w q d at left = Follows w q (filterReader w q d at left) (filterAt w q d at left)
 
+-- an item has no parts
 item-step : (one : ℕ → ℕ → Step) (st : Step) → byNode one (itemOf st) ≡ st
 item-step one (Read next left) = refl
 item-step one (Step.Refused n) = refl
 
 module _ (w : ℕ) (q : Bytes) (d : ℕ) (one : (at left : ℕ) → FilterFollows w q d at left) where
+  -- filters from a position on, by what the code does, if `one` filter is
   filters-follow : (n at left : ℕ) → Follows w q (filtersReader w q d n at left) (partsAt (filterAt w q d) n at left)
   unfolding filters partsAt
   filters-follow zero at left = (none, λ A k. refl)
@@ -261,9 +274,11 @@ module _ (w : ℕ) (q : Bytes) (d : ℕ) (one : (at left : ℕ) → FilterFollow
       (filterAt w q d at left) (one at left)
 
   module _ (at left k a b c l next : ℕ) where
+    -- how the rules go on after a filter's line
     abbrev lineReader : (A : Type 0) → (Filter → ℕ → Sheet → Verdict A) → Verdict A
     lineReader A m = filterOf (filter d) m left (lineAt w q at k a b c l) (linesAt w q next)
 
+    -- by the kind of the line
     node-kind : (t₀ : Bool) → eqb k 20 ≡ t₀ → (t₁ : Bool) → eqb k 21 ≡ t₁ → (t₂ : Bool) → eqb k 22 ≡ t₂ → (t₃ : Bool) → eqb k 23 ≡ t₃
         → (t₄ : Bool) → eqb k 24 ≡ t₄ → (t₅ : Bool) → eqb k 25 ≡ t₅ → (t₆ : Bool) → eqb k 26 ≡ t₆ → (t₇ : Bool) → eqb k 27 ≡ t₇
         → Follows w q lineReader (byNode (filterAt w q d) (nodeOf w q k a b next left))
@@ -293,6 +308,7 @@ module _ (w : ℕ) (q : Bytes) (d : ℕ) (one : (at left : ℕ) → FilterFollow
     node-kind false e₀ false e₁ false e₂ false e₃ false e₄ false e₅ false e₆ false e₇ =
         rw (e₀, e₁, e₂, e₃, e₄, e₅, e₆, e₇) (λ z. omega arith, λ A m. rw (e₀, e₁, e₂, e₃, e₄, e₅, e₆, e₇))
 
+  -- by what was seen
   node-seen : (at left : ℕ) (x : Seen) (t : Bool) → eqb left 0 ≡ t
       → Follows w q (λ A m. onSeen w q at (refuse 23) (refuse 22) (λ x rest. cond (eqb left 0) (refuse 23) (filterOf (filter d) m (left - 1) x rest)) x)
       (byNode (filterAt w q d) (nodeBy w q left x))
@@ -301,6 +317,7 @@ module _ (w : ℕ) (q : Bytes) (d : ℕ) (one : (at left : ℕ) → FilterFollow
   node-seen at left NotAllowed t z = (λ y. omega arith, λ A m. refl)
   node-seen at left Missing t z = (λ y. omega arith, λ A m. refl)
 
+  -- one level more
   filter-one : (at left : ℕ) → FilterFollows w q (suc d) at left
   unfolding filter filterAt nodeAt
   filter-one at left =

@@ -33,6 +33,7 @@ seenBy w at (Taken k a b c l) = cond (inFormOf requestForms k a b c l) (Seen.Lin
 seenBy w at NotInForm = NotAllowed
 seenBy w at End = Missing
 
+-- what stands at the position `at`
 unfoldable pub seenAt : ℕ → Bytes → ℕ → Seen
 seenAt w q at = seenBy w at (frontOf w (drop at q))
 
@@ -51,16 +52,19 @@ module _ {B : Type 0} (w : ℕ) (q : Bytes) (at : ℕ) (f : Sheet → B) (none w
     (at-end : f end ≡ none) (at-broken : f broken ≡ wrong)
     (at-wrong : (x : Line) (rest : Sheet) → inForm requestForms x ≡ false → f (row x rest) ≡ wrong)
     (at-found : (x : Line) (rest : Sheet) → inForm requestForms x ≡ true → f (row x rest) ≡ found x rest) where
+  -- by the columns of a line that was taken
   seen-taken : (k a b c l : ℕ) → frontOf w (drop at q) ≡ Taken k a b c l → (t : Bool) → inForm requestForms (lineAt w q at k a b c l) ≡ t
       → f (linesAt w q at) ≡ onSeen w q at none wrong found (cond t (Seen.Line k a b c l (at + (5 * w + 1 + l))) NotAllowed)
   seen-taken k a b c l e true i = ap f (lines-taken w q at e) ∙ at-found _ _ i
   seen-taken k a b c l e false i = ap f (lines-taken w q at e) ∙ at-wrong _ _ i
 
+  -- by the front of the rest
   seen-front : (x : Front) → frontOf w (drop at q) ≡ x → f (linesAt w q at) ≡ onSeen w q at none wrong found (seenBy w at x)
   seen-front (Taken k a b c l) e = seen-taken k a b c l e (inFormOf requestForms k a b c l) (sym (taken-in-form requestForms w q at e))
   seen-front NotInForm e = ap f (lines-broken w q at e) ∙ at-broken
   seen-front End e = ap f (lines-end w q at e) ∙ at-end
 
+  -- at a position
   pub by-seen : f (linesAt w q at) ≡ onSeen w q at none wrong found (seenAt w q at)
   unfolding seenAt
   by-seen = seen-front (frontOf w (drop at q)) refl
@@ -74,6 +78,7 @@ pub record Stands (w : ℕ) (q : Bytes) (at k a b c l next : ℕ) : Type 0 where
   pub within : next ≤ length q
 
 module _ (w : ℕ) (q : Bytes) (at : ℕ) {k a b c l next : ℕ} where
+  -- by the columns of a line that was taken
   stands-taken : (k′ a′ b′ c′ l′ : ℕ) → frontOf w (drop at q) ≡ Taken k′ a′ b′ c′ l′ → (t : Bool) → inFormOf requestForms k′ a′ b′ c′ l′ ≡ t
       → cond t (Seen.Line k′ a′ b′ c′ l′ (at + (5 * w + 1 + l′))) NotAllowed ≡ Seen.Line k a b c l next → Stands w q at k a b c l next
   stands-taken k′ a′ b′ c′ l′ e true i p =
@@ -90,22 +95,26 @@ module _ (w : ℕ) (q : Bytes) (at : ℕ) {k a b c l next : ℕ} where
   stands-front NotInForm e p = absurd (let z : _≡_ {A = ℕ} 0 1 = cc in omega arith)
   stands-front End e p = absurd (let z : _≡_ {A = ℕ} 0 1 = cc in omega arith)
 
+  -- at a position
   pub seen-stands : seenAt w q at ≡ Seen.Line k a b c l next → Stands w q at k a b c l next
   unfolding seenAt
   seen-stands p = stands-front (frontOf w (drop at q)) refl p
 
 -- ---- no line is due
 
+-- the refusal of what stands where nothing is due
 abbrev pub misplacedBy : Seen → ℕ
 misplacedBy (Seen.Line k a b c l next) = 23
 misplacedBy NotAllowed = 22
 misplacedBy Missing = 23
 
+-- it is never 0
 pub misplaced-some : (x : Seen) → misplacedBy x ≡ 0 → ⊥
 misplaced-some (Seen.Line k a b c l next) z = omega arith
 misplaced-some NotAllowed z = omega arith
 misplaced-some Missing z = omega arith
 
+-- it is the rules' refusal
 pub misplaced-at : {A : Type 0} (w : ℕ) (q : Bytes) (at : ℕ) → misplaced {A = A} requestGrammar (linesAt w q at) ≡ refuse (misplacedBy (seenAt w q at))
 unfolding misplaced
 misplaced-at {A} w q at =
@@ -123,14 +132,17 @@ misplaced-at {A} w q at =
 abbrev pub unless : {A : Type 0} → ℕ → Verdict A → Verdict A
 unless n v = cond (eqb n 0) v (refuse n)
 
+-- no line: the refusal `n`
 abbrev pub notDue : ℕ → Due
 notDue n = record { refusal = n; a = 0; b = 0; c = 0; length = 0; next = 0 }
 
+-- by what was seen
 abbrev pub dueBy : ℕ → Seen → Due
 dueBy k (Seen.Line k′ a b c l next) = cond (eqb k′ k) (record { refusal = 0; a = a; b = b; c = c; length = l; next = next }) (notDue 23)
 dueBy k NotAllowed = notDue 22
 dueBy k Missing = notDue 23
 
+-- a line of kind `k` is due at the position `at`
 unfoldable pub dueAt : ℕ → Bytes → ℕ → ℕ → Due
 dueAt w q at k = dueBy k (seenAt w q at)
 
@@ -138,6 +150,7 @@ dueAt w q at k = dueBy k (seenAt w q at)
 abbrev pub dueLine : ℕ → Bytes → ℕ → ℕ → Due → Line
 dueLine w q at k d = lineAt w q at k (d .a) (d .b) (d .c) (d .length)
 
+-- a test that refuses where it fails
 test-refuses : {A : Type 0} (t : Bool) (n : ℕ) (v : Verdict A) → refuseIf (not t) n v ≡ cond t v (refuse n)
 test-refuses true n v = refl
 test-refuses false n v = refl
@@ -156,6 +169,7 @@ module _ {A : Type 0} (w : ℕ) (q : Bytes) (at k : ℕ) (next : Line → Sheet 
   due-seen NotAllowed = refl
   due-seen Missing = refl
 
+  -- a line that is due by the rules is the line that is due at a position, or its refusal
   pub due-at : due requestGrammar k (linesAt w q at) next ≡ unless (dueAt w q at k .refusal) (next (dueLine w q at k (dueAt w q at k)) (linesAt w q (dueAt w q at k .next)))
   unfolding due misplaced dueAt
   due-at =
@@ -177,15 +191,18 @@ module _ (w : ℕ) (q : Bytes) (at k : ℕ) where
   stood-by NotAllowed e z = absurd (omega arith)
   stood-by Missing e z = absurd (omega arith)
 
+  -- a line that was due stands there
   pub due-stands : let d = dueAt w q at k in d .refusal ≡ 0 → Stands w q at k (d .a) (d .b) (d .c) (d .length) (d .next)
   unfolding dueAt
   due-stands z = stood-by (seenAt w q at) refl z
 
 -- ---- `n` lines of kind `k` are due
 
+-- some lines up to `next`
 abbrev pub reached : ℕ → Reached
 reached next = record { refusal = 0; next = next }
 
+-- not all of the lines: the refusal `n`
 abbrev pub notReached : ℕ → Reached
 notReached n = record { refusal = n; next = 0 }
 
@@ -193,6 +210,7 @@ notReached n = record { refusal = n; next = 0 }
 abbrev pub onDue : Due → (ℕ → Reached) → Reached
 onDue d go = cond (eqb (d .refusal) 0) (go (d .next)) (notReached (d .refusal))
 
+-- `n` lines of kind `k` from the position `at` on
 unfoldable pub linesDue : ℕ → Bytes → ℕ → ℕ → ℕ → Reached
 linesDue w q k zero at = reached at
 linesDue w q k (suc n) at = onDue (dueAt w q at k) (linesDue w q k n)
@@ -220,6 +238,7 @@ firstLines (suc n) end = []
 firstLines (suc n) broken = []
 firstLines (suc n) (row x rest) = x ∷ firstLines n rest
 
+-- as the parts of a name
 pub first-parts : (n : ℕ) (s : Sheet) → nameOf (firstLines n s) ≡ partsOf n s
 unfolding firstLines nameOf partsOf
 first-parts zero s = refl
@@ -227,6 +246,7 @@ first-parts (suc n) end = refl
 first-parts (suc n) broken = refl
 first-parts (suc n) (row x rest) = ap (λ r. part (x .a) (x .bytes) ∷ r) (first-parts n rest)
 
+-- as types
 pub first-types : (n : ℕ) (s : Sheet) → map (λ t. t .a) (firstLines n s) ≡ typesOf n s
 unfolding firstLines typesOf
 first-types zero s = refl
@@ -235,6 +255,7 @@ first-types (suc n) broken = refl
 first-types (suc n) (row x rest) = ap (λ r. x .a ∷ r) (first-types n rest)
 
 module _ {A : Type 0} (w : ℕ) (q : Bytes) (k : ℕ) where
+  -- lines that are due by the rules are the lines that are due at a position, or their refusal
   pub lines-due : (n at : ℕ) (next : List Line → Sheet → Verdict A)
       → dueLines requestGrammar k n (linesAt w q at) next
       ≡ unless (linesDue w q k n at .refusal) (next (firstLines n (linesAt w q at)) (linesAt w q (linesDue w q k n at .next)))
@@ -270,15 +291,19 @@ module _ (w : ℕ) (q : Bytes) (k : ℕ) where
 
 -- ---- a line of kind `k` is due, and as many of kind `j` as its column B says
 
+-- no group: the refusal `n`
 abbrev pub noGroup : ℕ → Group
 noGroup n = record { refusal = n; a = 0; c = 0; first = 0; count = 0; next = 0 }
 
+-- from its own line and its lines
 abbrev pub groupOf : Due → Reached → Group
 groupOf d r = cond (eqb (r .refusal) 0) (record { refusal = 0; a = d .a; c = d .c; first = d .next; count = d .b; next = r .next }) (noGroup (r .refusal))
 
+-- from its own line
 abbrev pub groupBy : ℕ → Bytes → ℕ → Due → Group
 groupBy w q j d = cond (eqb (d .refusal) 0) (groupOf d (linesDue w q j (d .b) (d .next))) (noGroup (d .refusal))
 
+-- the group at the position `at`
 unfoldable pub groupAt : ℕ → Bytes → ℕ → ℕ → ℕ → Group
 groupAt w q at k j = groupBy w q j (dueAt w q at k)
 
@@ -286,6 +311,7 @@ groupAt w q at k j = groupBy w q j (dueAt w q at k)
 abbrev pub headAt : ℕ → Bytes → ℕ → ℕ → Line
 headAt w q at k = dueLine w q at k (dueAt w q at k)
 
+-- the lines that it counts
 abbrev pub followers : ℕ → Bytes → Group → List Line
 followers w q g = firstLines (g .count) (linesAt w q (g .first))
 
@@ -297,6 +323,7 @@ module _ {A : Type 0} (w : ℕ) (q : Bytes) (at k j : ℕ) (next : Line → List
   group-by d true e false f x = rw (e, f, f)
   group-by d false e u f x = rw (e, e)
 
+  -- a group that is due by the rules is the group at a position, or its refusal
   pub group-at : due requestGrammar k (linesAt w q at) (λ x s. dueLines requestGrammar j (x .b) s (next x))
       ≡ unless (groupAt w q at k j .refusal) (next (headAt w q at k) (followers w q (groupAt w q at k j)) (linesAt w q (groupAt w q at k j .next)))
   unfolding groupAt

@@ -50,9 +50,11 @@ searchBody g d (Read next left) =
     record { refusal = 0; listed = eqb (g .a) 1; types = g .first; «types_listed» = g .count; values = eqb (g .c) 1; attribute = 0; value = 0; length = 0; subset = d .a; filter = d .next; next = next }
 searchBody g d (Refused n) = noBody n 0
 
+-- the filter after K 15
 unfoldable pub filterBody : ℕ → Bytes → Group → Due → Body
 filterBody w q g d = cond (eqb (d .refusal) 0) (searchBody g d (filterAt w q 16 (d .next) 128)) (noBody (d .refusal) 0)
 
+-- K 15 and the filter after the selection
 unfoldable pub searchAt : ℕ → Bytes → Group → Body
 searchAt w q g = cond (eqb (g .refusal) 0) (filterBody w q g (dueAt w q (g .next) 15)) (noBody (g .refusal) 0)
 
@@ -66,16 +68,16 @@ bodyAt w q at op =
 
 -- all that was found: requester, base, and the lines after it
 abbrev pub asked : Group → Group → Body → Asked
-asked who what b =
+asked requester base b =
     record {
       refusal = 0;
-      level = who .a;
-      requester = who .first;
-      «requester_parts» = who .count;
-      operation = what .a;
-      base = what .first;
-      «base_parts» = what .count;
-      limit = what .c;
+      level = requester .a;
+      requester = requester .first;
+      «requester_parts» = requester .count;
+      operation = base .a;
+      base = base .first;
+      «base_parts» = base .count;
+      limit = base .c;
       listed = b .listed;
       types = b .types;
       «types_listed» = b .«types_listed»;
@@ -92,7 +94,7 @@ asked who what b =
 -- what the rules take from the lines at `at` after K 11, `x`, by what the code finds
 pub record Leads (w : ℕ) (q : Bytes) (at : ℕ) (x : Line) (b : Body) : Type 1 where
   pub found : b .refusal ≡ 0
-      → (o : Operation) × ((who what : Group) → what .a ≡ x .a → what .c ≡ x .c → NotedOperation w q o (asked who what b))
+      → (o : Operation) × ((requester base : Group) → base .a ≡ x .a → base .c ≡ x .c → (base .a ≤ 2 → base .c ≡ 0) → NotedOperation w q o (asked requester base b))
       × ((A : Type 0) (k : Operation → Sheet → Verdict A) → operation x (linesAt w q at) k ≡ k o (linesAt w q (b .next)))
   pub refused : (b .refusal ≡ 0 → ⊥) → (A : Type 0) (k : Operation → Sheet → Verdict A) → operation x (linesAt w q at) k ≡ refuse (b .refusal)
 
@@ -103,11 +105,13 @@ selectionOf w q at =
     record { listed = eqb (headAt w q at 12 .a) 1; types = map (λ t. t .a) (followers w q g); values = eqb (headAt w q at 12 .c) 1 }
 
 module _ (w : ℕ) (q : Bytes) (at : ℕ) where
+  -- a selection by the rules is the group at a position, or its refusal
   selection-at : (A : Type 0) (k : Selection → Sheet → Verdict A)
       → selection (linesAt w q at) k ≡ unless (groupAt w q at 12 13 .refusal) (k (selectionOf w q at) (linesAt w q (groupAt w q at 12 13 .next)))
   unfolding selection
   selection-at A k = group-at w q at 12 13 (λ x ts s. k (record { listed = eqb (x .a) 1; types = map (λ t. t .a) ts; values = eqb (x .c) 1 }) s)
 
+  -- it is noted
   selection-noted : groupAt w q at 12 13 .refusal ≡ 0 → (r : Asked) → r .listed ≡ eqb (groupAt w q at 12 13 .a) 1 → r .types ≡ groupAt w q at 12 13 .first
       → r .«types_listed» ≡ groupAt w q at 12 13 .count → r .values ≡ eqb (groupAt w q at 12 13 .c) 1 → NotedSelection w q (selectionOf w q at) r
   selection-noted z r e₀ e₁ e₂ e₃ =
@@ -123,6 +127,7 @@ module _ (w : ℕ) (q : Bytes) (at : ℕ) where
       }
 
   module _ (x : Line) where
+    -- read
     read-leads : x .a ≡ 1 → (t : Bool) → eqb (groupAt w q at 12 13 .refusal) 0 ≡ t → Leads w q at x (readBody (groupAt w q at 12 13))
     unfolding operation
     read-leads op true e =
@@ -130,7 +135,7 @@ module _ (w : ℕ) (q : Bytes) (at : ℕ) where
         (record {
           found = λ z. (
             read (selectionOf w q at),
-            (λ who what p c. record { operation = p ∙ op; selection = selection-noted (eqb-true _ 0 e) _ refl refl refl refl }),
+            (λ requester base p c z₀. record { operation = p ∙ op; limit = z₀ (omega arith); selection = selection-noted (eqb-true _ 0 e) _ refl refl refl refl; no-assertion = record { attribute = refl; value = refl; count = refl }; no-filter = record { subset = refl; filter = refl } }),
             (λ A k. rw (eq-eqb (x .a) 1 op) (selection-at A (λ r. k (read r)) ∙ rw e)),
           );
           refused = λ n. absurd (n refl);
@@ -138,6 +143,7 @@ module _ (w : ℕ) (q : Bytes) (at : ℕ) where
     read-leads op false e =
         rw e (record { found = λ z. absurd (eqb-false _ 0 e z); refused = λ n A k. rw (eq-eqb (x .a) 1 op) (selection-at A (λ r. k (read r)) ∙ rw e) })
 
+    -- compare
     compare-leads : x .a ≡ 2 → (t : Bool) → eqb (dueAt w q at 14 .refusal) 0 ≡ t → Leads w q at x (compareBody at (dueAt w q at 14))
     unfolding operation
     compare-leads op true e =
@@ -146,7 +152,7 @@ module _ (w : ℕ) (q : Bytes) (at : ℕ) where
         (record {
           found = λ z. (
             compare (dueAt w q at 14 .a) (valueOf w (dueAt w q at 14 .length) (drop at q)),
-            (λ who what p c. record { operation = p ∙ op; attribute = refl; bytes = refl; within = omega (arith, h .after, h .within) }),
+            (λ requester base p c z₀. record { operation = p ∙ op; limit = z₀ (omega arith); no-selection = record { listed = refl; types = refl; count = refl; values = refl }; attribute = refl; bytes = refl; within = omega (arith, h .after, h .within); no-filter = record { subset = refl; filter = refl } }),
             (λ A k. rw (ne-eqb (x .a) 1 (λ y. omega arith), eq-eqb (x .a) 2 op) (due-at w q at 14 (λ y. k (compare (y .a) (y .bytes))) ∙ rw e)),
           );
           refused = λ n. absurd (n refl);
@@ -158,13 +164,14 @@ module _ (w : ℕ) (q : Bytes) (at : ℕ) where
           refused = λ n A k. rw (ne-eqb (x .a) 1 (λ y. omega arith), eq-eqb (x .a) 2 op) (due-at w q at 14 (λ y. k (compare (y .a) (y .bytes))) ∙ rw e);
         })
 
+    -- list
     list-leads : x .a ≡ 3 → Leads w q at x (noBody 0 at)
     unfolding operation
     list-leads op =
         record {
           found = λ z. (
             list (x .c),
-            (λ who what p c. record { operation = p ∙ op; limit = c }),
+            (λ requester base p c z₀. record { operation = p ∙ op; limit = c; no-selection = record { listed = refl; types = refl; count = refl; values = refl }; no-assertion = record { attribute = refl; value = refl; count = refl }; no-filter = record { subset = refl; filter = refl } }),
             (λ A k. rw (ne-eqb (x .a) 1 (λ y. omega arith), ne-eqb (x .a) 2 (λ y. omega arith), eq-eqb (x .a) 3 op)),
           );
           refused = λ n. absurd (n refl);
@@ -175,9 +182,11 @@ module _ (w : ℕ) (q : Bytes) (at : ℕ) where
       abbrev subsetAt : Due
       subsetAt = dueAt w q (groupAt w q at 12 13 .next) 15
 
+      -- the search with this filter
       abbrev searchOf : Filter → Search
       searchOf f = record { limit = x .c; selection = selectionOf w q at; subset = subsetAt .a; filter = f }
 
+      -- the rules up to the filter
       search-at : (A : Type 0) (k : Operation → Sheet → Verdict A) → operation x (linesAt w q at) k
           ≡ unless (groupAt w q at 12 13 .refusal) (unless (subsetAt .refusal) (filter 16 128 (linesAt w q (subsetAt .next)) (λ f left s. k (search (searchOf f)) s)))
       unfolding operation
@@ -187,6 +196,7 @@ module _ (w : ℕ) (q : Bytes) (at : ℕ) where
           ∙ ap (unless (groupAt w q at 12 13 .refusal))
           (due-at w q (groupAt w q at 12 13 .next) 15 (λ y s. filter 16 128 s λ f left s. k (search (record { limit = x .c; selection = selectionOf w q at; subset = y .a; filter = f })) s)))
 
+      -- search, by what the filter came to
       filter-leads : eqb (groupAt w q at 12 13 .refusal) 0 ≡ true → eqb (subsetAt .refusal) 0 ≡ true
           → (st : Step) → Follows w q (λ A k. filter 16 128 (linesAt w q (subsetAt .next)) k) st
           → Leads w q at x (searchBody (groupAt w q at 12 13) subsetAt st)
@@ -194,10 +204,11 @@ module _ (w : ℕ) (q : Bytes) (at : ℕ) where
           record {
             found = λ z. (
               search (searchOf (f .0)),
-              (λ who what p c. record {
+              (λ requester base p c z₀. record {
                 operation = p ∙ op;
                 limit = c;
                 selection = selection-noted (eqb-true _ 0 e) _ refl refl refl refl;
+                no-assertion = record { attribute = refl; value = refl; count = refl };
                 subset = refl;
                 reads = f .1 Filter (λ f left rest. accept f);
               }),

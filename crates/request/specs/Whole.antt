@@ -12,7 +12,7 @@ use Rattle.rules.specs.Judge.{Verdict, accept, refuse, refusalOf, refuseIf, mis
 use Rattle.rules.specs.Laws.Judge.{refused-not, accepted-is}
 use Rattle.rules.specs.Request.{Operation, Request, requestGrammar, operation, request, requestOf}
 use Rattle.rules.specs.Places.{linesAt}
-use Rattle.request.specs.Noted.{NotedName, Noted, Judged}
+use Rattle.request.specs.Noted.{NotedName, Noted, refused, Judged}
 use Rattle.request.specs.Bounds.{requester-columns, base-columns}
 use Rattle.request.specs.Lines.{seenAt, onSeen, by-seen, unless, dueAt, groupAt, headAt, followers, Grouped, group-at, grouped, first-parts}
 use Rattle.request.specs.Operations.{bodyAt, asked, Leads, body-leads}
@@ -25,56 +25,39 @@ use Rattle.request.specs.declared.operation.Body.{Body}
 
 -- ---- what the code does
 
--- nothing is asked: the refusal `n`
-abbrev pub refused : ℕ → Asked
-refused n =
-    record {
-      refusal = n;
-      level = 0;
-      requester = 0;
-      «requester_parts» = 0;
-      operation = 0;
-      base = 0;
-      «base_parts» = 0;
-      limit = 0;
-      listed = false;
-      types = 0;
-      «types_listed» = 0;
-      values = false;
-      attribute = 0;
-      value = 0;
-      length = 0;
-      subset = 0;
-      filter = 0;
-    }
-
 -- after the last line: the sheet's end, or a surplus line
 abbrev pub endBy : Group → Group → Body → Seen → Asked
-endBy who what b (Seen.Line k a c d l next) = refused 23
-endBy who what b NotAllowed = refused 22
-endBy who what b Missing = asked who what b
+endBy requester base b (Seen.Line k a c d l next) = refused 23
+endBy requester base b NotAllowed = refused 22
+endBy requester base b Missing = asked requester base b
 
+-- the end of the sheet is due
 unfoldable pub endAt : ℕ → Bytes → Group → Group → Body → Asked
-endAt w q who what b = endBy who what b (seenAt w q (b .next))
+endAt w q requester base b = endBy requester base b (seenAt w q (b .next))
 
 -- `r`, unless there is a refusal
 abbrev pub orRefused : ℕ → Asked → Asked
 orRefused n r = cond (eqb n 0) r (refused n)
 
+-- after the base, the operation's lines
 abbrev pub withBody : ℕ → Bytes → Group → Group → Body → Asked
-withBody w q who what b = orRefused (b .refusal) (endAt w q who what b)
+withBody w q requester base b = orRefused (b .refusal) (endAt w q requester base b)
 
+-- after the requester, the base
 abbrev pub withBase : ℕ → Bytes → Group → Group → Asked
-withBase w q who what = orRefused (what .refusal) (withBody w q who what (bodyAt w q (what .next) (what .a)))
+withBase w q requester base = orRefused (base .refusal) (withBody w q requester base (bodyAt w q (base .next) (base .a)))
 
+-- the requester first
 abbrev pub withRequester : ℕ → Bytes → Group → Asked
-withRequester w q who = orRefused (who .refusal) (withBase w q who (groupAt w q (who .next) 11 9))
+withRequester w q requester = orRefused (requester .refusal) (withBase w q requester (groupAt w q (requester .next) 11 9))
 
+-- the whole sheet
 unfoldable pub askedOf : ℕ → Bytes → Asked
 askedOf w q = cond (ltb 8192 (length q)) (refused 21) (withRequester w q (groupAt w q 0 10 9))
 
 -- ---- it is what the rules give
 
+-- a name has a part for each line
 name-length : (ls : List Line) → length (nameOf ls) ≡ length ls
 unfolding nameOf
 name-length [] = refl
@@ -85,11 +68,14 @@ record Meets (w : ℕ) (q : Bytes) (v : Verdict Request) (r : Asked) : Type 0 wh
   refusal : r .refusal ≡ refusalOf v
   noted : (x : Request) → v ≡ accept x → Noted w q x r
   accepted : r .refusal ≡ 0 → (x : Request) × (v ≡ accept x)
+  nothing : (r .refusal ≡ 0 → ⊥) → r ≡ refused (r .refusal)
 
 module _ (w : ℕ) (q : Bytes) where
+  -- a refusal
   meets-refused : (n : ℕ) → (n ≡ 0 → ⊥) → Meets w q (refuse n) (refused n)
-  meets-refused n h = record { refusal = refl; noted = λ x e. absurd (refused-not n x e); accepted = λ z. absurd (h z) }
+  meets-refused n h = record { refusal = refl; noted = λ x e. absurd (refused-not n x e); accepted = λ z. absurd (h z); nothing = λ z. refl }
 
+  -- a refusal, or what follows
   meets-unless : (n : ℕ) {v : Verdict Request} {r : Asked} → (n ≡ 0 → Meets w q v r) → Meets w q (unless n v) (orRefused n r)
   meets-unless n {v} {r} h = by (eqb n 0) refl
     where
@@ -98,13 +84,13 @@ module _ (w : ℕ) (q : Bytes) where
       by false e = rw e (meets-refused n (eqb-false n 0 e))
 
   -- the end of the sheet
-  module _ (x : Request) (who what : Group) (b : Body) (h : Noted w q x (asked who what b)) where
-    end-seen : (s : Seen) → Meets w q (onSeen w q (b .next) (accept x) (refuse 22) (λ y rest. refuse 23) s) (endBy who what b s)
+  module _ (x : Request) (requester base : Group) (b : Body) (h : Noted w q x (asked requester base b)) where
+    end-seen : (s : Seen) → Meets w q (onSeen w q (b .next) (accept x) (refuse 22) (λ y rest. refuse 23) s) (endBy requester base b s)
     end-seen (Seen.Line k a c d l next) = meets-refused 23 (λ z. omega arith)
     end-seen NotAllowed = meets-refused 22 (λ z. omega arith)
-    end-seen Missing = record { refusal = refl; noted = λ y e. subst (λ y. Noted w q y (asked who what b)) (accepted-is e) h; accepted = λ z. (x, refl) }
+    end-seen Missing = record { refusal = refl; noted = λ y e. subst (λ y. Noted w q y (asked requester base b)) (accepted-is e) h; accepted = λ z. (x, refl); nothing = λ z. absurd (z refl) }
 
-    end-meets : Meets w q (atEnd x (linesAt w q (b .next)) (misplaced requestGrammar (linesAt w q (b .next)))) (endAt w q who what b)
+    end-meets : Meets w q (atEnd x (linesAt w q (b .next)) (misplaced requestGrammar (linesAt w q (b .next)))) (endAt w q requester base b)
     unfolding endAt misplaced
     end-meets =
         rw (by-seen w q (b .next) (λ s. atEnd x s (misplaced requestGrammar s)) (accept x) (refuse 22) (λ y rest. refuse 23) refl refl (λ y rest e. rw e) (λ y rest e. rw e))
@@ -118,80 +104,78 @@ module _ (w : ℕ) (q : Bytes) where
       record { parts = sym (first-parts (g .count) (linesAt w q (g .first))); count = name-length (followers w q g) ∙ grouped w q at k 9 z .count; most = h }
 
   -- requester and base
-  abbrev who : Group
-  who = groupAt w q 0 10 9
+  abbrev requester : Group
+  requester = groupAt w q 0 10 9
 
-  abbrev what : Group
-  what = groupAt w q (who .next) 11 9
+  abbrev base : Group
+  base = groupAt w q (requester .next) 11 9
 
   abbrev body : Body
-  body = bodyAt w q (what .next) (what .a)
+  body = bodyAt w q (base .next) (base .a)
 
+  -- the request with this operation
   requestWith : Operation → Request
   requestWith o =
       record {
-        requester = record { level = headAt w q 0 10 .a; name = nameOf (followers w q who) };
-        base = nameOf (followers w q what);
+        requester = record { level = headAt w q 0 10 .a; name = nameOf (followers w q requester) };
+        base = nameOf (followers w q base);
         operation = o;
       }
 
+  -- what the rules do after the operation's lines
   ending : Operation → Sheet → Verdict Request
   ending o s = atEnd (requestWith o) s (misplaced requestGrammar s)
 
-  module _ (zero-who : who .refusal ≡ 0) (zero-what : what .refusal ≡ 0) where
-    body-meets : Meets w q (operation (headAt w q (who .next) 11) (linesAt w q (what .next)) ending) (withBody w q who what body)
+  module _ (zero-requester : requester .refusal ≡ 0) (zero-base : base .refusal ≡ 0) where
+    -- the operation's lines and the end
+    body-meets : Meets w q (operation (headAt w q (requester .next) 11) (linesAt w q (base .next)) ending) (withBody w q requester base body)
     unfolding ending requestWith
     body-meets = by (eqb (body .refusal) 0) refl leads
       where
-        g₁ : Grouped w q 10 (dueAt w q 0 10) who
-        g₁ = grouped w q 0 10 9 zero-who
+        g₁ : Grouped w q 10 (dueAt w q 0 10) requester
+        g₁ = grouped w q 0 10 9 zero-requester
 
-        g₂ : Grouped w q 11 (dueAt w q (who .next) 11) what
-        g₂ = grouped w q (who .next) 11 9 zero-what
+        g₂ : Grouped w q 11 (dueAt w q (requester .next) 11) base
+        g₂ = grouped w q (requester .next) 11 9 zero-base
 
-        columns : (what .count ≤ 8) × (1 ≤ what .a) × (what .a ≤ 4)
+        columns : (base .count ≤ 8) × (1 ≤ base .a) × (base .a ≤ 4) × (base .a ≤ 2 → base .c ≡ 0)
         columns = base-columns _ _ _ _ (g₂ .allowed)
 
-        leads : Leads w q (what .next) (headAt w q (who .next) 11) body
-        leads = rw (← g₂ .a) (body-leads w q (what .next) (headAt w q (who .next) 11) (rw (g₂ .a) (columns .1)) (rw (g₂ .a) (columns .2)) _ refl _ refl _ refl)
+        leads : Leads w q (base .next) (headAt w q (requester .next) 11) body
+        leads = rw (← g₂ .a) (body-leads w q (base .next) (headAt w q (requester .next) 11) (rw (g₂ .a) (columns .1)) (rw (g₂ .a) (columns .2)) _ refl _ refl _ refl)
 
-        by : (t : Bool) → eqb (body .refusal) 0 ≡ t → Leads w q (what .next) (headAt w q (who .next) 11) body
-            → Meets w q (operation (headAt w q (who .next) 11) (linesAt w q (what .next)) ending) (withBody w q who what body)
+        by : (t : Bool) → eqb (body .refusal) 0 ≡ t → Leads w q (base .next) (headAt w q (requester .next) 11) body
+            → Meets w q (operation (headAt w q (requester .next) 11) (linesAt w q (base .next)) ending) (withBody w q requester base body)
         by true e l =
             let f = l .found (eqb-true _ 0 e) in
             rw (f .2 Request ending, e)
-            (end-meets (requestWith (f .0)) who what body
+            (end-meets (requestWith (f .0)) requester base body
             (record {
               level = sym (g₁ .a);
-              requester = name-noted 0 10 zero-who (requester-columns _ _ _ _ (g₁ .allowed));
-              base = name-noted (who .next) 11 zero-what (columns .0);
-              operation = f .1 who what (sym (g₂ .a)) (sym (g₂ .c));
+              requester = name-noted 0 10 zero-requester (requester-columns _ _ _ _ (g₁ .allowed));
+              base = name-noted (requester .next) 11 zero-base (columns .0);
+              operation = f .1 requester base (sym (g₂ .a)) (sym (g₂ .c)) (columns .3);
             }))
         by false e l = rw (l .refused (eqb-false _ 0 e) Request ending, e) (meets-refused (body .refusal) (eqb-false _ 0 e))
 
-  request-is : request (linesAt w q 0) ≡ unless (who .refusal) (unless (what .refusal) (operation (headAt w q (who .next) 11) (linesAt w q (what .next)) ending))
+  -- the rules, part by part
+  request-is : request (linesAt w q 0) ≡ unless (requester .refusal) (unless (base .refusal) (operation (headAt w q (requester .next) 11) (linesAt w q (base .next)) ending))
   unfolding request ending requestWith
   request-is =
       group-at w q 0 10 9 (λ x name s. due requestGrammar 11 s λ y s. dueLines requestGrammar 9 (y .b) s λ base s. operation y s λ o s.
       atEnd (record { requester = record { level = x .a; name = nameOf name }; base = nameOf base; operation = o }) s (misplaced requestGrammar s))
-      ∙ ap (unless (who .refusal)) (group-at w q (who .next) 11 9 (λ y base s. operation y s λ o s.
-      atEnd (record { requester = record { level = headAt w q 0 10 .a; name = nameOf (followers w q who) }; base = nameOf base; operation = o }) s (misplaced requestGrammar s)))
+      ∙ ap (unless (requester .refusal)) (group-at w q (requester .next) 11 9 (λ y base s. operation y s λ o s.
+      atEnd (record { requester = record { level = headAt w q 0 10 .a; name = nameOf (followers w q requester) }; base = nameOf base; operation = o }) s (misplaced requestGrammar s)))
 
-  request-meets : Meets w q (request (linesAt w q 0)) (withRequester w q who)
-  request-meets = rw request-is (meets-unless (who .refusal) (λ z. meets-unless (what .refusal) (λ y. body-meets z y)))
+  -- a sheet that is not too long
+  request-meets : Meets w q (request (linesAt w q 0)) (withRequester w q requester)
+  request-meets = rw request-is (meets-unless (requester .refusal) (λ z. meets-unless (base .refusal) (λ y. body-meets z y)))
 
-  asked-by : (t : Bool) → Meets w q (refuseIf t 21 (request (linesAt w q 0))) (cond t (refused 21) (withRequester w q who))
+  asked-by : (t : Bool) → Meets w q (refuseIf t 21 (request (linesAt w q 0))) (cond t (refused 21) (withRequester w q requester))
   asked-by true = meets-refused 21 (λ z. omega arith)
   asked-by false = request-meets
 
+  -- what the code does is what `judge` promises
   pub asked-judged : Judged w q (askedOf w q)
   unfolding askedOf requestOf
-  asked-judged = let m = asked-by (ltb 8192 (length q)) in record { refusal = m .refusal; noted = m .noted; accepted = m .accepted }
-
--- a refusal is the one that the rules give
-pub judged-refused : (w : ℕ) (q : Bytes) (r : Asked) → Judged w q r → (r .refusal ≡ 0 → ⊥) → requestOf w q ≡ refuse (r .refusal)
-judged-refused w q r j n = by (requestOf w q) (j .refusal)
-  where
-    by : (v : Verdict Request) → r .refusal ≡ refusalOf v → v ≡ refuse (r .refusal)
-    by (accept x) e = absurd (n e)
-    by (refuse m) e = rw e
+  asked-judged = let m = asked-by (ltb 8192 (length q)) in record { refusal = m .refusal; noted = m .noted; accepted = m .accepted; nothing = m .nothing }

@@ -52,14 +52,7 @@ fn piece_by(first: bool, after: u64, left: u64, seen: Seen) -> Step
     ensures { λ r. ⌜ r ≡ pieceBy first after left seen ⌝ }
 {
     match seen {
-        Seen::Line {
-            kind,
-            a,
-            b: _,
-            c: _,
-            length: _,
-            next,
-        } => {
+        Seen::Line { kind, a, next, .. } => {
             if left == 0 {
                 Step::Refused(23)
             } else {
@@ -157,9 +150,8 @@ fn node_by(q: &[u8], w: usize, left: u64, seen: Seen) -> Node
             kind,
             a,
             b,
-            c: _,
-            length: _,
             next,
+            ..
         } => {
             if left == 0 {
                 Node::Refused(23)

@@ -1,8 +1,8 @@
 // A request sheet judged: the refusal number that the rules give, or 0 with the positions and numbers that answering needs.
 // Nothing is copied: names, types, the value and the filter stay in the sheet, noted by position.
-pub mod filter;
-pub mod line;
-pub mod operation;
+mod filter;
+mod line;
+mod operation;
 
 use line::Group;
 use line::Seen;
@@ -12,9 +12,9 @@ use operation::Body;
 use operation::body_at;
 ghost use mathlib.Core.Path.{_≡_};
 ghost use Prim.Native.Nat.{_≤_};
-ghost use Rattle.request.specs.Noted.{Judged};
+ghost use Rattle.request.specs.Noted.{refused, Judged};
 ghost use Rattle.request.specs.Operations.{asked};
-ghost use Rattle.request.specs.Whole.{refused, endBy, endAt, askedOf};
+ghost use Rattle.request.specs.Whole.{endBy, endAt, askedOf};
 
 // What a request asks. Of a refused one, all but the refusal is 0; of an accepted one, what its operation does not have is 0.
 pub struct Asked {
@@ -68,18 +68,18 @@ fn refuse(refusal: u64) -> Asked
 }
 
 // All that was found.
-fn accept(who: Group, what: Group, body: Body) -> Asked
-    ensures { λ r. ⌜ r ≡ asked who what body ⌝ }
+fn accept(requester: Group, base: Group, body: Body) -> Asked
+    ensures { λ r. ⌜ r ≡ asked requester base body ⌝ }
 {
     Asked {
         refusal: 0,
-        level: who.a,
-        requester: who.first,
-        requester_parts: who.count,
-        operation: what.a,
-        base: what.first,
-        base_parts: what.count,
-        limit: what.c,
+        level: requester.a,
+        requester: requester.first,
+        requester_parts: requester.count,
+        operation: base.a,
+        base: base.first,
+        base_parts: base.count,
+        limit: base.c,
         listed: body.listed,
         types: body.types,
         types_listed: body.types_listed,
@@ -93,29 +93,22 @@ fn accept(who: Group, what: Group, body: Body) -> Asked
 }
 
 // What was seen after the last line that was due.
-fn end_by(who: Group, what: Group, body: Body, seen: Seen) -> Asked
-    ensures { λ r. ⌜ r ≡ endBy who what body seen ⌝ }
+fn end_by(requester: Group, base: Group, body: Body, seen: Seen) -> Asked
+    ensures { λ r. ⌜ r ≡ endBy requester base body seen ⌝ }
 {
     match seen {
-        Seen::Line {
-            kind: _,
-            a: _,
-            b: _,
-            c: _,
-            length: _,
-            next: _,
-        } => refuse(23),
+        Seen::Line { .. } => refuse(23),
         Seen::NotAllowed => refuse(22),
-        Seen::Missing => accept(who, what, body),
+        Seen::Missing => accept(requester, base, body),
     }
 }
 
 // The end of the sheet is due.
-fn end_at(q: &[u8], w: usize, who: Group, what: Group, body: Body) -> Asked
+fn end_at(q: &[u8], w: usize, requester: Group, base: Group, body: Body) -> Asked
     requires { ⌜ w ≤ 18 ⌝ }
-    ensures { λ r. ⌜ r ≡ endAt w (now (q .entry)) who what body ⌝ }
+    ensures { λ r. ⌜ r ≡ endAt w (now (q .entry)) requester base body ⌝ }
 {
-    end_by(who, what, body, seen_at(q, body.next, w))
+    end_by(requester, base, body, seen_at(q, body.next, w))
 }
 
 // The sheet line by line: requester, base, the operation's lines, the end.
@@ -126,19 +119,19 @@ fn asked_of(q: &[u8], w: usize) -> Asked
     if 8192 < q.len() {
         return refuse(21);
     }
-    let who = group_at(q, 0, w, 10, 9);
-    if who.refusal != 0 {
-        return refuse(who.refusal);
+    let requester = group_at(q, 0, w, 10, 9);
+    if requester.refusal != 0 {
+        return refuse(requester.refusal);
     }
-    let what = group_at(q, who.next, w, 11, 9);
-    if what.refusal != 0 {
-        return refuse(what.refusal);
+    let base = group_at(q, requester.next, w, 11, 9);
+    if base.refusal != 0 {
+        return refuse(base.refusal);
     }
-    let body = body_at(q, what.next, w, what.a);
+    let body = body_at(q, base.next, w, base.a);
     if body.refusal != 0 {
         return refuse(body.refusal);
     }
-    end_at(q, w, who, what, body)
+    end_at(q, w, requester, base, body)
 }
 
 // The request in the sheet `q`, of columns `w` bytes wide.

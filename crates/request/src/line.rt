@@ -82,14 +82,7 @@ pub fn misplaced_by(seen: Seen) -> u64
     ensures { λ r. ⌜ r ≡ misplacedBy seen ⌝ }
 {
     match seen {
-        Seen::Line {
-            kind: _,
-            a: _,
-            b: _,
-            c: _,
-            length: _,
-            next: _,
-        } => 23,
+        Seen::Line { .. } => 23,
         Seen::NotAllowed => 22,
         Seen::Missing => 23,
     }

@@ -92,7 +92,7 @@ fn search_body(s: Group, d: Due, f: Step) -> Body
     ensures { λ r. ⌜ r ≡ searchBody s d f ⌝ }
 {
     match f {
-        Step::Read { next, left: _ } => Body {
+        Step::Read { next, .. } => Body {
             refusal: 0,
             listed: s.a == 1,
             types: s.first,
