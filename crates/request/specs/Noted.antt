@@ -5,7 +5,7 @@ use mathlib.Core.Bool.{false}
 use lib.ListN.{length, drop}
 use Rattle.rules.specs.Sheet.{Bytes, valueOf}
 use Rattle.rules.specs.Name.{Name}
-use Rattle.rules.specs.Judge.{Verdict, accept, refuse, refusalOf}
+use Rattle.rules.specs.Judge.{accept, refusalOf}
 use Rattle.rules.specs.Request.{Selection, Search, Operation, read, compare, list, search, Request, requestOf, filter}
 use Rattle.rules.specs.Places.{linesAt, partsOf, typesOf}
 use Rattle.request.specs.declared.Asked.{Asked}
@@ -122,18 +122,3 @@ pub record Judged (w : ℕ) (q : Bytes) (r : Asked) : Type 0 where
   pub accepted : r .refusal ≡ 0 → (x : Request) × (requestOf w q ≡ accept x)
   -- of a refused request nothing is noted
   pub nothing : (r .refusal ≡ 0 → ⊥) → r ≡ refused (r .refusal)
-
--- ---- what a caller has of it
-
-module _ (w : ℕ) (q : Bytes) (r : Asked) (j : Judged w q r) where
-  -- a refusal is the one that the rules give
-  pub judged-refused : (r .refusal ≡ 0 → ⊥) → requestOf w q ≡ refuse (r .refusal)
-  judged-refused n = by (requestOf w q) (j .refusal)
-    where
-      by : (v : Verdict Request) → r .refusal ≡ refusalOf v → v ≡ refuse (r .refusal)
-      by (accept x) e = absurd (n e)
-      by (refuse m) e = rw e
-
-  -- without one, the request that the rules accept is noted
-  pub judged-accepted : r .refusal ≡ 0 → (x : Request) × (requestOf w q ≡ accept x) × Noted w q x r
-  judged-accepted z = let a = j .accepted z in (a .0, a .1, j .noted (a .0) (a .1))

@@ -8,3 +8,9 @@ pub mod Directory
 pub mod Absent
 pub mod ByNumber
 pub mod Decision
+pub mod Held
+pub mod Resolve
+pub mod Filter
+pub mod Loops
+pub mod Hits
+pub mod Reach

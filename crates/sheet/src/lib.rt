@@ -1,8 +1,10 @@
 // One line of a sheet: read at the front of the sheet's rest and shown as parts of the sheet, judged by its kind and
 // columns, and written into a lent buffer. The width of a column is a parameter of every function.
+mod bounds;
 mod column;
 pub mod columns;
 pub mod kind;
+pub mod write;
 
 use column::column_at;
 use rules::Column;

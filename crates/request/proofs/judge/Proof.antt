@@ -1,5 +1,5 @@
 -- What the code does is what the rules give.
-use Rattle.request.specs.Whole.{asked-judged}
+use Rattle.request.specs.Laws.Whole.{asked-judged}
 use denote.Ref.{now}
 use borrow.Author.Needs.{needs}
 use Rattle.request.proofs.judge.Statement.{statement}

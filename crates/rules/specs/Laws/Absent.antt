@@ -42,7 +42,7 @@ module _ (S : Schema) (es : List Stored) (ok : Accepted S es) where
       (subst (λ (x : Entry). sameName S n (x .name) ≡ true) (sym (List·getD-map entryOf es k blank)) e)
 
   -- a name at or above an entry's names an entry, or is the root's
-  above : (f k : ℕ) (n : Name) → k ≤ f → k ≤ length es → covers S n (nameAt es k) ≡ true → (n ≡ []) ⊎ (present′ S es n ≡ true)
+  pub above : (f k : ℕ) (n : Name) → k ≤ f → k ≤ length es → covers S n (nameAt es k) ≡ true → (n ≡ []) ⊎ (present′ S es n ≡ true)
   unfolding nameAt covers
   above f k [] a l e = inl refl
   above zero zero (c ∷ cs) a l e = absurd (false≢true e)

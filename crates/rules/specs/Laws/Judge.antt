@@ -3,7 +3,8 @@ use Prim.Native.Nat.{ℕ}
 use mathlib.Core.Path.{_≡_, refl, sym, _∙_}
 use mathlib.Core.Bool.{Bool, true, false}
 use native.Mathlib.Omega.{arith}
-use Rattle.rules.specs.Judge.{Verdict, accept, refuse, refuseIf, then}
+use Rattle.rules.specs.Judge.{Verdict, accept, refuse, refuseIf, then, Grammar, misplaced}
+use Rattle.rules.specs.Sheet.{Sheet, end, broken, row}
 
 module _ {A : Type 0} where
   pub refused-not : (n : ℕ) (a : A) → refuse n ≡ accept a → ⊥
@@ -20,3 +21,9 @@ module _ {A : Type 0} where
 pub then-accepts : {A B : Type 0} (v : Verdict A) (next : A → Verdict B) (b : B) → then v next ≡ accept b → (a : A) × (v ≡ accept a) × (next a ≡ accept b)
 then-accepts (accept a) next b e = (a, refl, e)
 then-accepts (refuse n) next b e = absurd (refused-not n b e)
+
+pub misplaced-not : {A : Type 0} (g : Grammar) (s : Sheet) (a : A) → misplaced g s ≡ accept a → ⊥
+unfolding misplaced
+misplaced-not g end a e = refused-not _ a e
+misplaced-not g broken a e = refused-not _ a e
+misplaced-not g (row x rest) a e = refused-not _ a e

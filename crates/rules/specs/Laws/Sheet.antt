@@ -6,9 +6,9 @@ use mathlib.Core.List.{List, [], _∷_, _++_, append-assoc, append-nil}
 use native.Mathlib.Omega.{arith}
 use native.Mathlib.Nat.{pow-suc}
 use lib.Dec.{leb, ltb, eqb}
-use lib.ListN.{length, getD, take, drop, length-append, length-drop, drop-of-length-le}
+use lib.ListN.{length, getD, take, drop, length-append, length-drop}
 use lib.Seq.{length-take-le, take-at, drop-at, getD-at, drop-drop}
-use borrow.Author.Tests.{eq-eqb, ne-eqb, le-leb, lt-leb, lt-ltb, le-ltb, ltb-true, leb-true, eqb-true, eqb-false}
+use borrow.Author.Tests.{eq-eqb, ne-eqb, le-leb, lt-ltb, le-ltb, ltb-true, leb-true, eqb-true, eqb-false}
 use Rattle.rules.specs.Lists.{gather}
 use Rattle.rules.specs.Sheet.{Bytes, Line, line, strip, digits, numeral, columnOf, columnAt, whole, frontOf, valueOf, restOf, Sheet, end, broken, row, byFront, linesWithin, lines, leading, column, numbers, lineBytes, print}
 use Rattle.rules.specs.declared.Column.{Column}
@@ -120,7 +120,7 @@ module _ (w : ℕ) (s : Bytes) (i : ℕ) where
 
 -- ---- lengths
 
-leading-length : (i v : ℕ) → length (leading i v) ≡ i
+pub leading-length : (i v : ℕ) → length (leading i v) ≡ i
 unfolding leading
 leading-length zero v = refl
 leading-length (suc i) v = length-append (leading i (v / 10)) _ ∙ rw (leading-length i (v / 10)) (omega arith)

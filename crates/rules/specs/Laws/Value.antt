@@ -3,13 +3,13 @@ use Prim.Native.Nat.{ℕ, zero, suc, _+_, _-_, _*_, _≤_, _<_}
 use mathlib.Core.Path.{_≡_, refl, sym, ap, subst, _∙_}
 use mathlib.Core.Logic.{_↔_}
 use mathlib.Core.Bool.{Bool, true, false, cond, and-eq-true-iff, false≢true}
-use mathlib.Core.List.{List, [], _∷_, _++_, append-assoc, append-nil}
+use mathlib.Core.List.{List, [], _∷_, _++_, map, append-assoc, append-nil}
 use native.Mathlib.Omega.{arith}
 use native.Mathlib.Nat.{zero-add}
 use borrow.Author.Tests.{ltb-true, ltb-false, leb-true, leb-false, eqb-true, eqb-false, eq-eqb, ne-eqb, le-leb, le-ltb}
 use lib.Dec.{leb, ltb, eqb, eqb·suc-zero}
 use lib.IntN.{ℤ, pos, negsuc}
-use lib.ListN.{length, take, drop, length-append, length-drop, take-append-drop}
+use lib.ListN.{length, take, drop, length-append, length-drop, length-map, take-append-drop}
 use lib.Seq.{drop-length, drop-append-le, drop-at, drop-drop}
 use Rattle.rules.specs.Sheet.{Bytes, digits, numeral}
 use Rattle.rules.specs.Value.{text, integer, negative, positive, integerOf, isInteger, fits, normal, identical, same, orderℕ, orderℤ, orderBytes, orderIntegers, order, Piece, begins, ends, find, used, byFound, matches, contains, small}
@@ -101,7 +101,7 @@ ends-back before p =
     let n : length before ≡ length (before ++ p) - length p = omega arith in
     rw (le-leb (length p) (length (before ++ p)) (omega arith), drop-at before p (length (before ++ p) - length p) n) (identical-refl p)
 
-find-by : (p v : Bytes) (i : ℕ) → begins v p ≡ true → find p v i ≡ At (i + length p)
+pub find-by : (p v : Bytes) (i : ℕ) → begins v p ≡ true → find p v i ≡ At (i + length p)
 unfolding find
 find-by p [] i e = rw e
 find-by p (x ∷ xs) i e = rw e
@@ -151,7 +151,7 @@ used-parts (suc (suc k)) p v n e = go (ends v p) refl (rw (ne-eqb (suc (suc k)) 
     go false b e = unlike (cc)
 
 -- no more bytes are used than there are
-pub used-within : (place : ℕ) (p v : Bytes) (n : ℕ) → used place p v ≡ At n → n ≤ length v
+used-within : (place : ℕ) (p v : Bytes) (n : ℕ) → used place p v ≡ At n → n ≤ length v
 used-within place p v n e =
     let r = used-parts place p v n e in
     omega (arith, r .1, ap length (r .2), length-append (r .0) (p ++ drop n v), length-append p (drop n v), length-drop n v)
@@ -230,6 +230,22 @@ matches-iff ps v inner = (matches-placed ps v, placed-matches ps v inner)
 
 -- ---- the same test, a piece at a time, from a place in the value
 
+pub normal-length : (s : ℕ) (v : Bytes) → length (normal s v) ≡ length v
+unfolding normal
+normal-length s v = go (eqb s text)
+  where
+    go : (t : Bool) → length (cond t (map small v) v) ≡ length v
+    go true = length-map v small
+    go false = refl
+
+-- the piece as it is compared
+abbrev pub folded : ℕ → Piece → Piece
+folded s p = record { place = p .place; bytes = normal s (p .bytes) }
+
+pub contains-start : (s : ℕ) (ps : List Piece) (v : Bytes) → contains s ps v ≡ matches (map (folded s) ps) (drop 0 (normal s v))
+unfolding contains
+contains-start s ps v = refl
+
 module _ (p : Piece) (ps : List Piece) (v : Bytes) (from : ℕ) where
   pub matches-on : (n : ℕ) → used (p .place) (p .bytes) (drop from v) ≡ At n → matches (p ∷ ps) (drop from v) ≡ matches ps (drop (from + n) v)
   unfolding matches
@@ -238,6 +254,10 @@ module _ (p : Piece) (ps : List Piece) (v : Bytes) (from : ℕ) where
   pub matches-off : used (p .place) (p .bytes) (drop from v) ≡ Nothing → matches (p ∷ ps) (drop from v) ≡ false
   unfolding matches
   matches-off e = rw e
+
+-- what is used is there
+pub used-fits : (place : ℕ) (p : Bytes) (s : ℕ) (v : Bytes) (from n : ℕ) → from ≤ length v → used place p (drop from (normal s v)) ≡ At n → from + n ≤ length v
+used-fits place p s v from n h e = omega (arith, used-within place p (drop from (normal s v)) n e, length-drop from (normal s v), normal-length s v)
 
 -- ---- order and equality agree
 
@@ -283,7 +303,7 @@ number-cond : (t : Bool) (x : Column) (m : ℕ) → cond t x Malformed ≡ Numbe
 number-cond true x m e = (refl, e)
 number-cond false x m e = unlike (cc)
 
-digits-cons : (v b : ℕ) (bs : Bytes) (m : ℕ) → digits v (b ∷ bs) ≡ Number m
+pub digits-cons : (v b : ℕ) (bs : Bytes) (m : ℕ) → digits v (b ∷ bs) ≡ Number m
     → (48 ≤ b) × (b ≤ 57) × (digits (v * 10 + (b - 48)) bs ≡ Number m)
 unfolding digits
 digits-cons v b bs m e =
@@ -315,7 +335,7 @@ digits-more a (y ∷ ys) w m h l p q =
     go true t next = next (leb-true (length a) (length ys) t)
     go false t next = omega (arith, leb-false (length a) (length ys) t, digits-same a (y ∷ ys) 0 w m (omega (arith, leb-false (length a) (length ys) t)) p q .0)
 
-numeral-digits : (b : ℕ) (bs : Bytes) (m : ℕ) → numeral (b ∷ bs) ≡ Number m → (digits 0 (b ∷ bs) ≡ Number m) × (0 < length bs → 48 < b)
+pub numeral-digits : (b : ℕ) (bs : Bytes) (m : ℕ) → numeral (b ∷ bs) ≡ Number m → (digits 0 (b ∷ bs) ≡ Number m) × (0 < length bs → 48 < b)
 unfolding numeral
 numeral-digits b [] m e = (e, λ h. omega arith)
 numeral-digits b (c ∷ cs) m e = go (eqb b 48) refl e
@@ -459,27 +479,3 @@ order-reversed s v w = go (eqb s integer)
         ≡ reversed (cond t (orderIntegers (integerOf v) (integerOf w)) (orderBytes (normal s v) (normal s w)))
     go true = orderIntegers-reversed (integerOf v) (integerOf w)
     go false = orderBytes-reversed (normal s v) (normal s w)
-
--- ---- examples of document 01
-
--- "−10 is below −9"
-pub example-below : order integer (45 ∷ 49 ∷ 48 ∷ []) (45 ∷ 57 ∷ []) ≡ Less
-unfolding order integerOf numeral digits
-example-below = refl
-
-abbrev piece : ℕ → Bytes → Piece
-piece place bytes = record { place = place; bytes = bytes }
-
--- "'ana', 'ana' in 'banana': false"
-pub example-overlap : contains text (piece 1 (97 ∷ 110 ∷ 97 ∷ []) ∷ piece 1 (97 ∷ 110 ∷ 97 ∷ []) ∷ []) (98 ∷ 97 ∷ 110 ∷ 97 ∷ 110 ∷ 97 ∷ []) ≡ false
-unfolding contains matches used find begins normal small
-example-overlap = refl
-
--- "−0 and 9223372036854775808 are no integers"
-pub example-minus-zero : fits integer (45 ∷ 48 ∷ []) ≡ false
-unfolding fits integerOf numeral digits
-example-minus-zero = refl
-
-pub example-too-high : fits integer (57 ∷ 50 ∷ 50 ∷ 51 ∷ 51 ∷ 55 ∷ 50 ∷ 48 ∷ 51 ∷ 54 ∷ 56 ∷ 53 ∷ 52 ∷ 55 ∷ 55 ∷ 53 ∷ 56 ∷ 48 ∷ 56 ∷ []) ≡ false
-unfolding fits integerOf numeral digits
-example-too-high = refl

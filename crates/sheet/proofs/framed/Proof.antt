@@ -4,37 +4,28 @@ use Rattle.rules.specs.Sheet.{whole}
 use borrow.Author.Needs.{needs}
 use Rattle.sheet.proofs.framed.Statement.{statement}
 use Rattle.sheet.proofs.framed.Tie as tie
-use Rattle.sheet.proofs.framed.Reads as reads
-use Rattle.sheet.proofs.framed.Lts as lts
 
--- src/lib.rt:77:9
 returns : tie.Need-returns
 unfolding whole
 returns c = rw (lt-leb _ _ (c .if1 .taken))
 
--- src/lib.rt:80:15
 mul-end : tie.Need-mul-end
 mul-end c = search needs
 
--- src/lib.rt:80:15
 add-end : tie.Need-add-end
 add-end c = search needs
 
--- src/lib.rt:82:9
 returns-2 : tie.Need-returns-2
 unfolding whole
 returns-2 c = rw (le-leb _ _ (c .before .if1 .left), le-ltb _ _ (c .if2 .taken))
 
--- src/lib.rt:84:8
 shared-slice-read-if3 : tie.Need-shared-slice-read-if3
 shared-slice-read-if3 c = search needs
 
--- src/lib.rt:85:9
 returns-3 : tie.Need-returns-3
 unfolding whole
 returns-3 c = rw (le-leb _ _ (c .before .before .before .if1 .left), lt-ltb _ _ (c .before .before .if2 .left), ne-eqb _ _ (c .if3 .taken))
 
--- src/lib.rt:72:1
 returns-4 : tie.Need-returns-4
 unfolding whole
 returns-4 c = rw (le-leb _ _ (c .before .before .before .if1 .left), lt-ltb _ _ (c .before .before .if2 .left), eq-eqb _ _ (c .if3 .left))

@@ -1,61 +1,46 @@
 -- Each return is `whole` at the columns read so far: the first malformed one decides, else what stands after the five.
 use denote.Ref.{now}
-use mathlib.Core.Path.{_≡_, refl, sym, _∙_}
+use mathlib.Core.Path.{refl, sym, _∙_}
 use Rattle.rules.specs.Sheet.{whole}
 use Rattle.rules.specs.Laws.Sheet.{front-end, front-short}
-use Rattle.sheet.specs.Read.{front-by}
+use Rattle.sheet.specs.Laws.Read.{front-by}
 use borrow.Author.Needs.{needs}
 use Rattle.sheet.proofs.front.Statement.{statement}
 use Rattle.sheet.proofs.front.Tie as tie
-use Rattle.sheet.proofs.front.Reads as reads
-use Rattle.sheet.proofs.front.Lts as lts
-use Rattle.sheet.proofs.column.column_at.Reads as column-at-reads
-use Rattle.sheet.proofs.framed.Reads as framed-reads
 
--- src/lib.rt:96:9
 returns : tie.Need-returns
 returns c = sym (front-end _ (now (c .before .before .args .s)) (c .if1 .taken))
 
--- src/lib.rt:98:18
 mul-if2 : tie.Need-mul-if2
 mul-if2 c = search needs
 
--- src/lib.rt:99:9
 returns-2 : tie.Need-returns-2
 returns-2 c = sym (front-short _ (now (c .before .before .before .args .s)) (c .before .if1 .left) (c .if2 .taken))
 
--- src/lib.rt:101:32
 column-at-requires : tie.Need-column-at-requires
 column-at-requires c κs = search needs
 
--- src/lib.rt:101:24
 enum-known-kind : tie.Need-enum-known-kind
 enum-known-kind c = search needs
 
--- src/lib.rt:102:9
 enum-told : tie.Need-enum-told
 enum-told c = search needs
 
--- src/lib.rt:102:9
 returns-3 : tie.Need-returns-3
 unfolding whole
 returns-3 c =
     let o = c .before .before .before in
     sym (front-by _ (now (o .before .before .before .args .s)) (o .before .if1 .left) (o .if2 .left) (sym (c .before .before .column-at .ensures) ∙ c .enum-told .given .1) refl refl refl refl)
 
--- src/lib.rt:104:29
 column-at-requires-2 : tie.Need-column-at-requires-2
 column-at-requires-2 c κs = search needs
 
--- src/lib.rt:104:24
 enum-known-a : tie.Need-enum-known-a
 enum-known-a c = search needs
 
--- src/lib.rt:105:9
 enum-told-2 : tie.Need-enum-told-2
 enum-told-2 c = search needs
 
--- src/lib.rt:105:9
 returns-4 : tie.Need-returns-4
 unfolding whole
 returns-4 c =
@@ -63,23 +48,18 @@ returns-4 c =
     let o = c₁ .before .before .before in
     sym (front-by _ (now (o .before .before .before .args .s)) (o .before .if1 .left) (o .if2 .left) (sym (c₁ .before .before .column-at .ensures) ∙ c₁ .kind .given .1) (sym (c .before .before .column-at2 .ensures) ∙ c .enum-told2 .given .1) refl refl refl)
 
--- src/lib.rt:107:42
 mul-column-at : tie.Need-mul-column-at
 mul-column-at c = search needs
 
--- src/lib.rt:107:29
 column-at-requires-3 : tie.Need-column-at-requires-3
 column-at-requires-3 c κs = search needs
 
--- src/lib.rt:107:24
 enum-known-b : tie.Need-enum-known-b
 enum-known-b c = search needs
 
--- src/lib.rt:108:9
 enum-told-3 : tie.Need-enum-told-3
 enum-told-3 c = search needs
 
--- src/lib.rt:108:9
 returns-5 : tie.Need-returns-5
 unfolding whole
 returns-5 c =
@@ -88,23 +68,18 @@ returns-5 c =
     let o = c₁ .before .before .before in
     sym (front-by _ (now (o .before .before .before .args .s)) (o .before .if1 .left) (o .if2 .left) (sym (c₁ .before .before .column-at .ensures) ∙ c₁ .kind .given .1) (sym (c₂ .before .before .column-at2 .ensures) ∙ c₂ .a .given .1) (sym (c .before .before .column-at3 .ensures) ∙ c .enum-told3 .given .1) refl refl)
 
--- src/lib.rt:110:42
 mul-column-at-2 : tie.Need-mul-column-at-2
 mul-column-at-2 c = search needs
 
--- src/lib.rt:110:29
 column-at-requires-4 : tie.Need-column-at-requires-4
 column-at-requires-4 c κs = search needs
 
--- src/lib.rt:110:24
 enum-known-c : tie.Need-enum-known-c
 enum-known-c c = search needs
 
--- src/lib.rt:111:9
 enum-told-4 : tie.Need-enum-told-4
 enum-told-4 c = search needs
 
--- src/lib.rt:111:9
 returns-6 : tie.Need-returns-6
 unfolding whole
 returns-6 c =
@@ -114,23 +89,18 @@ returns-6 c =
     let o = c₁ .before .before .before in
     sym (front-by _ (now (o .before .before .before .args .s)) (o .before .if1 .left) (o .if2 .left) (sym (c₁ .before .before .column-at .ensures) ∙ c₁ .kind .given .1) (sym (c₂ .before .before .column-at2 .ensures) ∙ c₂ .a .given .1) (sym (c₃ .before .before .column-at3 .ensures) ∙ c₃ .b .given .1) (sym (c .before .before .column-at4 .ensures) ∙ c .enum-told4 .given .1) refl)
 
--- src/lib.rt:113:42
 mul-column-at-3 : tie.Need-mul-column-at-3
 mul-column-at-3 c = search needs
 
--- src/lib.rt:113:29
 column-at-requires-5 : tie.Need-column-at-requires-5
 column-at-requires-5 c κs = search needs
 
--- src/lib.rt:113:24
 enum-known-n : tie.Need-enum-known-n
 enum-known-n c = search needs
 
--- src/lib.rt:114:9
 enum-told-5 : tie.Need-enum-told-5
 enum-told-5 c = search needs
 
--- src/lib.rt:114:9
 returns-7 : tie.Need-returns-7
 unfolding whole
 returns-7 c =
@@ -141,11 +111,9 @@ returns-7 c =
     let o = c₁ .before .before .before in
     sym (front-by _ (now (o .before .before .before .args .s)) (o .before .if1 .left) (o .if2 .left) (sym (c₁ .before .before .column-at .ensures) ∙ c₁ .kind .given .1) (sym (c₂ .before .before .column-at2 .ensures) ∙ c₂ .a .given .1) (sym (c₃ .before .before .column-at3 .ensures) ∙ c₃ .b .given .1) (sym (c₄ .before .before .column-at4 .ensures) ∙ c₄ .c .given .1) (sym (c .before .before .column-at5 .ensures) ∙ c .enum-told5 .given .1))
 
--- src/lib.rt:116:5
 framed-requires : tie.Need-framed-requires
 framed-requires c κs = search needs
 
--- src/lib.rt:91:1
 returns-8 : tie.Need-returns-8
 returns-8 c =
     let c₅ = c .before .before in

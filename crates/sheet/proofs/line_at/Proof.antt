@@ -3,35 +3,26 @@ use denote.Ref.{now}
 use mathlib.Core.Path.{sym, ap, _∙_}
 use Rattle.rules.specs.Sheet.{frontOf}
 use Rattle.rules.specs.Laws.Sheet.{front-past}
-use Rattle.sheet.specs.Read.{part-rest}
+use Rattle.sheet.specs.Laws.Read.{part-rest}
 use borrow.Author.Needs.{needs}
 use Rattle.sheet.proofs.line_at.Statement.{statement}
 use Rattle.sheet.proofs.line_at.Tie as tie
-use Rattle.sheet.proofs.line_at.Reads as reads
-use Rattle.sheet.proofs.line_at.Lts as lts
-use Rattle.sheet.proofs.front.Reads as front-reads
 
--- src/lib.rt:125:22
 sub-front : tie.Need-sub-front
 sub-front c = search needs
 
--- src/lib.rt:125:22
 part-front-start : tie.Need-part-front-start
 part-front-start c = search needs
 
--- src/lib.rt:125:22
 part-front-end : tie.Need-part-front-end
 part-front-end c = search needs
 
--- src/lib.rt:125:9
 front-requires : tie.Need-front-requires
 front-requires c κs = search needs
 
--- src/lib.rt:125:9
 returns : tie.Need-returns
 returns c = let A = c .before .before .before .before .args in c .front .ensures ∙ ap (frontOf (A .w)) (part-rest (now (A .s)) (A .at))
 
--- src/lib.rt:120:1
 returns-2 : tie.Need-returns-2
 returns-2 c = let A = c .before .before .args in sym (front-past (A .w) (now (A .s)) (A .at) (c .if1 .left))
 

@@ -1,31 +1,23 @@
 use denote.Ref.{now}
 use mathlib.Core.Path.{ap, _∙_}
 use Rattle.rules.specs.Sheet.{valueOf}
-use Rattle.sheet.specs.Read.{part-rest}
+use Rattle.sheet.specs.Laws.Read.{part-rest}
 use borrow.Author.Needs.{needs}
 use Rattle.sheet.proofs.value_at.Statement.{statement}
 use Rattle.sheet.proofs.value_at.Tie as tie
-use Rattle.sheet.proofs.value_at.Reads as reads
-use Rattle.sheet.proofs.value_at.Lts as lts
-use Rattle.sheet.proofs.value.Reads as value-reads
 
--- src/lib.rt:151:11
 sub-value : tie.Need-sub-value
 sub-value c = search needs
 
--- src/lib.rt:151:11
 part-value-start : tie.Need-part-value-start
 part-value-start c = search needs
 
--- src/lib.rt:151:11
 part-value-end : tie.Need-part-value-end
 part-value-end c = search needs
 
--- src/lib.rt:151:5
 value-requires : tie.Need-value-requires
 value-requires c κs = search needs
 
--- src/lib.rt:147:1
 returns : tie.Need-returns
 returns c = let A = c .before .before .before .args in c .value .ensures ∙ ap (valueOf (A .w) (A .len)) (part-rest (now (A .s)) (A .at))
 

@@ -1,5 +1,6 @@
 -- The remaining depth falls; the parts from here are the parts from the start.
-use Rattle.request.specs.Filters.{filterAt, partsAt, parts-on, parts-stop, parts-none, filter-none, filter-node}
+use Rattle.request.specs.Filters.{filterAt, partsAt}
+use Rattle.request.specs.Laws.Filters.{parts-on, parts-stop, parts-none, filter-none, filter-node}
 use denote.Ref.{now}
 use mathlib.Core.Path.{_≡_, sym, _∙_}
 use borrow.Author.Needs.{needs}

@@ -1,5 +1,6 @@
 -- The pieces from here are the pieces from the start.
-use Rattle.request.specs.Filters.{piecesAt, pieces-on, pieces-stop, pieces-none}
+use Rattle.request.specs.Filters.{piecesAt}
+use Rattle.request.specs.Laws.Filters.{pieces-on, pieces-stop, pieces-none}
 use denote.Ref.{now}
 use mathlib.Core.Bool.{true}
 use mathlib.Core.Path.{_≡_, refl, sym, _∙_}

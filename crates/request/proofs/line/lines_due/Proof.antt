@@ -1,5 +1,6 @@
 -- The lines due from here are the lines due from the start.
-use Rattle.request.specs.Lines.{linesDue, lines-on, lines-stop, lines-none}
+use Rattle.request.specs.Lines.{linesDue}
+use Rattle.request.specs.Laws.Lines.{lines-on, lines-stop, lines-none}
 use denote.Ref.{now}
 use mathlib.Core.Path.{_≡_, refl, sym, _∙_}
 use borrow.Author.Needs.{needs}

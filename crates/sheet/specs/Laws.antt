@@ -1,0 +1,4 @@
+pub mod Read
+pub mod Kinds
+pub mod Columns
+pub mod Put

@@ -1,0 +1,5 @@
+pub mod Text
+pub mod Normal
+pub mod Compare
+pub mod Numeral
+pub mod Pieces

@@ -1,0 +1,108 @@
+// A value by its syntax: what the syntax allows, equality, order and substrings (document 01, "Values").
+mod compare;
+mod numeral;
+mod pieces;
+mod text;
+
+use rules::Found;
+use rules::Integer;
+use rules::Order;
+ghost use mathlib.Core.Path.{_≡_};
+ghost use Prim.Native.Nat.{_≤_};
+ghost use lib.ListN.{length, drop};
+ghost use Rattle.rules.specs.Value as Value;
+
+// The syntaxes, by their numbers in K 1.
+pub const OCTETS: u64 = 0;
+
+pub const TEXT: u64 = 1;
+
+pub const INTEGER: u64 = 2;
+
+// The integer that a value writes.
+pub fn integer(v: &[u8]) -> Integer
+    ensures { λ r. ⌜ r ≡ Value.integerOf (now (v .entry)) ⌝ }
+{
+    if v.len() == 0 {
+        return Integer::NotAnInteger;
+    }
+    if v[0] == 45 {
+        return numeral::negative(numeral::number(v, 1));
+    }
+    numeral::positive(numeral::number(v, 0))
+}
+
+// Whether the syntax allows the value.
+pub fn fits(syntax: u64, v: &[u8]) -> bool
+    ensures { λ r. ⌜ r ≡ Value.fits syntax (now (v .entry)) ⌝ }
+{
+    let sized = (1 <= v.len()) & (v.len() <= 64);
+    if syntax == OCTETS {
+        return sized;
+    }
+    if syntax == TEXT {
+        return sized & text::printable(v);
+    }
+    let Integer::Value(_) = integer(v) else {
+        return false;
+    };
+    true
+}
+
+// The equality matching rule: whether two values that the syntax allows are equal.
+pub fn same(syntax: u64, v: &[u8], w: &[u8]) -> bool
+    ensures { λ r. ⌜ r ≡ Value.same syntax (now (v .entry)) (now (w .entry)) ⌝ }
+{
+    if v.len() != w.len() {
+        return false;
+    }
+    compare::common(syntax, v, w) == v.len()
+}
+
+// Whether the syntax has an ordering rule.
+pub fn ordered(syntax: u64) -> bool
+    ensures { λ r. ⌜ r ≡ Value.ordered syntax ⌝ }
+{
+    syntax != OCTETS
+}
+
+// The ordering rule: how two values that the syntax allows compare.
+pub fn order(syntax: u64, v: &[u8], w: &[u8]) -> Order
+    ensures { λ r. ⌜ r ≡ Value.order syntax (now (v .entry)) (now (w .entry)) ⌝ }
+{
+    if syntax == INTEGER {
+        return numeral::order_integers(integer(v), integer(w));
+    }
+    compare::order_bytes(syntax, v, w)
+}
+
+// Whether the syntax has a substrings rule.
+pub fn searchable(syntax: u64) -> bool
+    ensures { λ r. ⌜ r ≡ Value.searchable syntax ⌝ }
+{
+    syntax == TEXT
+}
+
+// The substrings rule, a piece at a time: how many bytes of a text are used, from `from` on, up to the piece's end.
+// Its place is 0 initial, 1 any, 2 final.
+pub fn piece_end(v: &[u8], from: usize, place: u64, p: &[u8]) -> Found
+    requires { ⌜ from ≤ length (now v) ⌝ }
+    ensures { λ r. ⌜ r ≡ Value.used place (Value.normal Value.text (now (p .entry))) (drop from (Value.normal Value.text (now (v .entry)))) ⌝ }
+{
+    if place == 0 {
+        if pieces::stands(v, from, p) {
+            return Found::At(p.len());
+        }
+        return Found::Nothing;
+    }
+    if place == 1 {
+        return pieces::any(v, from, p);
+    }
+    if v.len() - from < p.len() {
+        return Found::Nothing;
+    }
+    if pieces::stands(v, v.len() - p.len(), p) {
+        return Found::At(v.len() - from);
+    }
+    Found::Nothing
+}

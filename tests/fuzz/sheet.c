@@ -1,0 +1,190 @@
+#include "sheet.h"
+
+#include <stdio.h>
+#include <stdlib.h>
+#include <string.h>
+
+void sheet_init(struct sheet *sheet) {
+    sheet->bytes = malloc(SHEET_MOST);
+    sheet->length = 0;
+    if (sheet->bytes == NULL) exit(2);
+}
+
+void sheet_copy(struct sheet *to, const struct sheet *from) {
+    memcpy(to->bytes, from->bytes, from->length);
+    to->length = from->length;
+}
+
+void sheet_splice(struct sheet *sheet, size_t place, size_t removed, const uint8_t *bytes,
+                  size_t added) {
+    size_t after = place + removed;
+    if (sheet->length - removed + added > SHEET_MOST) return;
+    memmove(sheet->bytes + place + added, sheet->bytes + after, sheet->length - after);
+    if (added > 0) memmove(sheet->bytes + place, bytes, added);
+    sheet->length += added - removed;
+}
+
+void sheet_line(struct sheet *sheet, unsigned kind, unsigned a, unsigned b, unsigned c,
+                const char *bytes) {
+    uint8_t line[128];
+    size_t length = strlen(bytes);
+    int head = snprintf((char *)line, sizeof line, "%6u%6u%6u%6u%6zu", kind, a, b, c, length);
+    memcpy(line + head, bytes, length);
+    line[head + length] = '\n';
+    sheet_splice(sheet, sheet->length, 0, line, (size_t)head + length + 1);
+}
+
+struct sheet sample_directories[DIRECTORIES];
+struct sheet sample_permissions[PERMISSIONS];
+struct sheet sample_requests[REQUESTS];
+
+static void three_types(struct sheet *dir) {
+    sheet_line(dir, 1, 1, 0, 0, "");
+    sheet_line(dir, 1, 2, 1, 0, "");
+    sheet_line(dir, 1, 3, 2, 0, "");
+}
+
+static void person(struct sheet *dir, unsigned parent, const char *name, const char *number) {
+    sheet_line(dir, 2, parent, 2, 0, name);
+    sheet_line(dir, 3, 1, 0, 0, "o");
+    sheet_line(dir, 3, 2, 0, 0, name);
+    sheet_line(dir, 3, 2, 0, 0, "banana");
+    sheet_line(dir, 3, 3, 0, 0, number);
+}
+
+static void directories_init(void) {
+    struct sheet *dir = sample_directories;
+    for (int i = 0; i < DIRECTORIES; i++) sheet_init(&dir[i]);
+    /* 0 is empty. */
+    three_types(&dir[1]);
+    person(&dir[1], 0, "Ann", "-7");
+    person(&dir[1], 0, "Bob", "12");
+    person(&dir[1], 1, "Cid", "9223372036854775807");
+    person(&dir[1], 3, "Dan", "-9223372036854775808");
+    three_types(&dir[2]);
+    for (unsigned depth = 0; depth < 8; depth++) {
+        person(&dir[2], depth, "Ann", "0");
+        if (depth < 7) continue;
+        person(&dir[2], depth, "Bob", "1");
+    }
+    three_types(&dir[3]);
+    for (unsigned number = 1; number <= 256; number++) {
+        char name[8];
+        snprintf(name, sizeof name, "%u", number);
+        sheet_line(&dir[3], 2, number / 40, 3, 0, name);
+        sheet_line(&dir[3], 3, 3, 0, 0, name);
+    }
+    for (unsigned number = 1; number <= 64; number++) sheet_line(&dir[4], 1, number * 15, number % 3, 0, "");
+    sheet_line(&dir[4], 2, 0, 15, 0, "a");
+    for (unsigned number = 1; number <= 64; number++) sheet_line(&dir[4], 3, number * 15, 0, 0, number == 1 ? "a" : "1");
+    three_types(&dir[5]);
+    sheet_line(&dir[5], 2, 0, 2, 0, "Ann");
+    for (unsigned number = 0; dir[5].length < 65400; number++) {
+        char value[65];
+        snprintf(value, sizeof value, "%064u", number);
+        sheet_line(&dir[5], 3, 1, 0, 0, value);
+    }
+    sheet_line(&dir[5], 3, 2, 0, 0, "ann");
+}
+
+static void item(struct sheet *perm, unsigned precedence, unsigned grants, unsigned what,
+                 unsigned type, const char *value, unsigned mask) {
+    sheet_line(perm, 4, precedence, 0, grants, "");
+    sheet_line(perm, 5, 1, 0, 0, "");
+    sheet_line(perm, 6, 0, 0, 0, "");
+    sheet_line(perm, 7, what, type, 0, value);
+    sheet_line(perm, 8, mask, 0, 0, "");
+}
+
+static void named_item(struct sheet *perm, unsigned who, unsigned parts, unsigned grants) {
+    sheet_line(perm, 4, 1, grants, grants, "");
+    sheet_line(perm, 5, 0, 1, 0, "");
+    sheet_line(perm, 9, 2, 0, 0, "ann");
+    sheet_line(perm, 6, who, parts, 0, "");
+    for (unsigned i = 0; i < parts; i++) sheet_line(perm, 9, 2, 0, 0, "Ann");
+    sheet_line(perm, 7, 0, 0, 0, "");
+    sheet_line(perm, 8, 9, 0, 0, "");
+}
+
+static void permissions_init(void) {
+    struct sheet *perm = sample_permissions;
+    for (int i = 0; i < PERMISSIONS; i++) sheet_init(&perm[i]);
+    /* 0 is empty. */
+    item(&perm[1], 0, 1, 0, 0, "", 63);
+    item(&perm[1], 0, 1, 2, 0, "", 63);
+    sheet_copy(&perm[2], &perm[1]);
+    item(&perm[2], 1, 0, 3, 3, "", 32);
+    item(&perm[2], 1, 0, 4, 2, "", 1);
+    item(&perm[2], 1, 1, 5, 2, "ANN", 17);
+    item(&perm[2], 1, 0, 1, 0, "", 8);
+    sheet_copy(&perm[3], &perm[1]);
+    named_item(&perm[3], 1, 0, 0);
+    named_item(&perm[3], 1, 2, 1);
+    named_item(&perm[3], 2, 0, 0);
+    named_item(&perm[3], 3, 1, 1);
+    named_item(&perm[3], 3, 8, 0);
+    for (unsigned i = 0; i < 256; i++) item(&perm[4], i, i % 3 != 0, i % 3, 0, "", 1 + i % 63);
+}
+
+static void base(struct sheet *req, unsigned operation, unsigned parts, unsigned limit) {
+    sheet_line(req, 10, 1, 1, 0, "");
+    sheet_line(req, 9, 2, 0, 0, "Ann");
+    sheet_line(req, 11, operation, parts, limit, "");
+    for (unsigned i = 0; i < parts; i++) sheet_line(req, 9, 2, 0, 0, i == 0 ? "ann" : "Cid");
+}
+
+static void search(struct sheet *req, unsigned parts, unsigned limit) {
+    base(req, 4, parts, limit);
+    sheet_line(req, 12, 0, 0, 1, "");
+    sheet_line(req, 15, 2, 0, 0, "");
+}
+
+static void requests_init(void) {
+    struct sheet *req = sample_requests;
+    for (int i = 0; i < REQUESTS; i++) sheet_init(&req[i]);
+    base(&req[0], 1, 1, 0);
+    sheet_line(&req[0], 12, 0, 0, 1, "");
+    base(&req[1], 1, 2, 0);
+    sheet_line(&req[1], 12, 1, 2, 0, "");
+    sheet_line(&req[1], 13, 2, 0, 0, "");
+    sheet_line(&req[1], 13, 3, 0, 0, "");
+    base(&req[2], 2, 1, 0);
+    sheet_line(&req[2], 14, 3, 0, 0, "-7");
+    base(&req[3], 2, 8, 0);
+    sheet_line(&req[3], 14, 2, 0, 0, "x");
+    base(&req[4], 3, 0, 0);
+    base(&req[5], 3, 1, 1);
+    search(&req[6], 0, 0);
+    sheet_line(&req[6], 26, 3, 0, 0, "");
+    search(&req[7], 1, 2);
+    sheet_line(&req[7], 20, 3, 0, 0, "");
+    sheet_line(&req[7], 22, 0, 0, 0, "");
+    sheet_line(&req[7], 23, 3, 0, 0, "12");
+    sheet_line(&req[7], 21, 2, 0, 0, "");
+    sheet_line(&req[7], 24, 3, 0, 0, "-10");
+    sheet_line(&req[7], 25, 2, 0, 0, "b");
+    sheet_line(&req[7], 26, 1, 0, 0, "");
+    search(&req[8], 0, 0);
+    sheet_line(&req[8], 27, 2, 3, 0, "");
+    sheet_line(&req[8], 28, 0, 0, 0, "ba");
+    sheet_line(&req[8], 28, 1, 0, 0, "N");
+    sheet_line(&req[8], 28, 2, 0, 0, "a");
+    search(&req[9], 0, 0);
+    for (int i = 0; i < 15; i++) sheet_line(&req[9], 22, 0, 0, 0, "");
+    sheet_line(&req[9], 26, 9, 0, 0, "");
+    search(&req[10], 0, 3);
+    sheet_line(&req[10], 21, 127, 0, 0, "");
+    for (int i = 0; i < 127; i++) sheet_line(&req[10], 23, 1, 0, 0, "o");
+    search(&req[11], 0, 0);
+    sheet_line(&req[11], 20, 14, 0, 0, "");
+    for (int i = 0; i < 14; i++) {
+        sheet_line(&req[11], 27, 2, 8, 0, "");
+        for (int piece = 0; piece < 8; piece++) sheet_line(&req[11], 28, 1, 0, 0, "a");
+    }
+}
+
+void samples_init(void) {
+    directories_init();
+    permissions_init();
+    requests_init();
+}

@@ -1,0 +1,16 @@
+//! Outcomes, decisions and truth values of document 01, one named situation each.
+
+mod decisions;
+mod filters;
+mod operations;
+
+use harness::explicit::Explicit;
+use std::process::ExitCode;
+
+fn main() -> ExitCode {
+    let mut test = Explicit::new("outcomes");
+    decisions::run(&mut test);
+    filters::run(&mut test);
+    operations::run(&mut test);
+    test.finish()
+}

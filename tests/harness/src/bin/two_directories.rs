@@ -1,0 +1,130 @@
+//! Asks the same requests of two directories that are alike for the requester: refusal, length
+//! and bytes must be equal. Planted faults that leak show that a leak is found.
+//!
+//! SEED and PAIRS (4,000) come from the environment.
+
+use harness::damage::{damage, Which};
+use harness::lent::ask;
+use harness::pairs::{pair, Change, Pair};
+use harness::random::{number_from_environment, Random};
+use harness::report::Report;
+use harness::requests::request_of;
+use harness::server::{subject, Peer, Server};
+use harness::shown::shown;
+use peer::fault::Fault;
+use std::collections::BTreeMap;
+use std::process::ExitCode;
+
+const REQUESTS: usize = 25;
+const ROOM: usize = 65_536 / 4;
+
+fn main() -> ExitCode {
+    let total = number_from_environment("PAIRS", 4_000);
+    let mut random = Random::from_environment();
+    let subject = subject();
+    let mut report = Report::new("two_directories");
+    let mut hidden: Vec<Fault> = Fault::ALL.iter().copied().filter(|fault| fault.leaks()).collect();
+    let leaks = hidden.clone();
+    let (mut pairs, mut showing) = (0, 0);
+    let mut replies: BTreeMap<(u64, char), u64> = BTreeMap::new();
+    let mut changes: BTreeMap<Change, u64> = BTreeMap::new();
+
+    while pairs < total {
+        let Some(pair) = pair(&mut random) else {
+            continue;
+        };
+        pairs += 1;
+        for &change in &pair.changes {
+            *changes.entry(change).or_default() += 1;
+        }
+        let (one, other) = (pair.one.to_bytes(), pair.other.to_bytes());
+        let permissions = pair.permissions.to_bytes();
+        for _ in 0..REQUESTS {
+            let mut perm = permissions.clone();
+            let mut req = ask_about(&mut random, &pair);
+            if random.once_in(20) {
+                spoil(&mut random, &one, &mut perm, &mut req);
+            }
+            let room = room(&mut random, &one, &perm, &req);
+            let differs = |server: &dyn Server| {
+                let first = ask(server, &one, &perm, &req, room);
+                let second = ask(server, &other, &perm, &req, room);
+                let accepted = |refusal| !(1..=6).contains(&refusal);
+                let good = first == second
+                    && first.is_sound()
+                    && accepted(first.reply.refusal)
+                    && accepted(second.reply.refusal);
+                (!good).then(|| (first.describe(), second.describe()))
+            };
+            let reply = ask(subject.as_ref(), &one, &perm, &req, room);
+            let outcome = reply.answer().ok().and_then(|answer| answer.get(17)).copied();
+            *replies.entry((reply.reply.refusal, outcome.unwrap_or(b'-').into())).or_default() += 1;
+            let difference = differs(subject.as_ref());
+            report.case(difference.is_none(), || {
+                let text = |sheet: &[u8]| String::from_utf8_lossy(sheet).into_owned();
+                let (first, second) = difference.unwrap_or_default();
+                let sheets = [text(&one), text(&other), text(&perm), text(&req)];
+                format!("pair {pairs}, room {room}\n{}\n{first}\n{second}", sheets.join("--\n"))
+            });
+            hidden.retain(|&fault| {
+                let leak = differs(&Peer { fault: Some(fault) }).is_some();
+                if leak {
+                    println!("planted leak {fault:?}: found at pair {pairs}");
+                }
+                !leak
+            });
+        }
+        let seen = shown(&pair.one, &pair.permissions, &pair.requester);
+        showing += u64::from(!seen.is_empty());
+        let alike = seen == shown(&pair.other, &pair.permissions, &pair.requester);
+        assert!(alike && pair.one.types == pair.other.types, "the pair is not alike");
+    }
+
+    println!("{pairs} pairs, {showing} of them showing something; hidden changes: {changes:?}");
+    println!("replies by refusal and outcome: {replies:?}");
+    report.check(showing > total / 2, "too few pairs show something");
+    let equal = report.failed() == 0;
+    report.check(equal, "alike directories gave different answers");
+    for change in Change::ALL {
+        let enough = changes.get(&change).is_some_and(|&count| count >= total / 40);
+        report.check(enough, &format!("hidden change {change:?} was made too seldom"));
+    }
+    for fault in leaks {
+        report.check(!hidden.contains(&fault), &format!("planted leak {fault:?} was not found"));
+    }
+    report.finish()
+}
+
+/// A request of the pair's requester, about names and values of either directory.
+fn ask_about(random: &mut Random, pair: &Pair) -> Vec<u8> {
+    let directory = if random.percent(50) { &pair.one } else { &pair.other };
+    let requester = &pair.requester;
+    request_of(random, directory, requester.level, requester.name.clone()).to_bytes()
+}
+
+/// Damages permissions or request. The pair need only be alike for the sheets it was made for,
+/// so damage stays only where it leads to a refusal.
+fn spoil(random: &mut Random, dir: &[u8], perm: &mut Vec<u8>, req: &mut Vec<u8>) {
+    let (mut worse_perm, mut worse_req) = (perm.clone(), req.clone());
+    if random.percent(50) {
+        damage(random, Which::Permissions, &mut worse_perm);
+    } else {
+        damage(random, Which::Request, &mut worse_req);
+    }
+    if matches!(peer::serve(dir, &worse_perm, &worse_req, usize::MAX), Err(11..=23)) {
+        (*perm, *req) = (worse_perm, worse_req);
+    }
+}
+
+fn room(random: &mut Random, dir: &[u8], perm: &[u8], req: &[u8]) -> usize {
+    if random.percent(70) {
+        return ROOM;
+    }
+    let answer = peer::serve(dir, perm, req, ROOM).map_or(31, |answer| answer.len());
+    match random.below(4) {
+        0 => answer.saturating_sub(1),
+        1 => answer,
+        2 => answer + random.below(100),
+        _ => random.below(answer + 1),
+    }
+}

@@ -1,0 +1,134 @@
+//! One stream of cases for comparing servers: ordinary, damaged, and at the limits.
+
+use crate::damage::{damage, Which};
+use crate::limits;
+use crate::random::Random;
+use crate::requests::request;
+use crate::values::variant;
+use crate::world::{world, World};
+use peer::builder::{EntryLines, FilterLines, RequestSheet, Selected};
+
+pub struct Case {
+    pub dir: Vec<u8>,
+    pub perm: Vec<u8>,
+    pub req: Vec<u8>,
+}
+
+/// Requests asked of one world before the next is made.
+const REQUESTS: usize = 6;
+
+pub struct Cases {
+    random: Random,
+    world: World,
+    dir: Vec<u8>,
+    perm: Vec<u8>,
+    left: usize,
+}
+
+impl Cases {
+    pub fn new(mut random: Random) -> Self {
+        let world = world(&mut random);
+        let (dir, perm) = (world.directory.to_bytes(), world.permissions.to_bytes());
+        Cases { random, world, dir, perm, left: REQUESTS }
+    }
+
+    pub fn next_case(&mut self) -> Case {
+        if self.random.once_in(60) {
+            return at_the_limits(&mut self.random);
+        }
+        if self.left == 0 {
+            self.world = world(&mut self.random);
+            self.dir = self.world.directory.to_bytes();
+            self.perm = self.world.permissions.to_bytes();
+            self.left = REQUESTS;
+        }
+        self.left -= 1;
+        let req = request(&mut self.random, &self.world.directory).to_bytes();
+        let mut case = Case { dir: self.dir.clone(), perm: self.perm.clone(), req };
+        if self.random.percent(40) {
+            for _ in 0..*self.random.pick(&[1, 1, 1, 2, 3]) {
+                damage_one(&mut self.random, &mut case);
+            }
+        }
+        case
+    }
+
+    /// A buffer length for an answer of a length: too short, equal, longer.
+    pub fn room(&mut self, answer: usize) -> usize {
+        let random = &mut self.random;
+        match random.below(20) {
+            0 => 0,
+            1 => random.below(answer + 1),
+            2..=4 => answer.saturating_sub(1),
+            5..=8 => answer,
+            9 | 10 => answer + 1,
+            11 => 65_536,
+            _ => answer + random.below(200),
+        }
+    }
+}
+
+fn damage_one(random: &mut Random, case: &mut Case) {
+    let (which, sheet) = match random.below(3) {
+        0 => (Which::Directory, &mut case.dir),
+        1 => (Which::Permissions, &mut case.perm),
+        _ => (Which::Request, &mut case.req),
+    };
+    damage(random, which, sheet);
+}
+
+/// One sheet just within or just beyond a limit, the others plain.
+fn at_the_limits(random: &mut Random) -> Case {
+    let over = random.below(2);
+    let mut directory = limits::wide_directory(random.between(1, 5));
+    directory.entries[0].values.push((2, b"Banana".to_vec()));
+    directory.entries[0].values.push((3, b"-7".to_vec()));
+    let mut permissions = limits::open_permissions();
+    let mut asked = limits::search(FilterLines::Present(1));
+    let deepen = |random: &mut Random, filter: FilterLines, asked: &mut RequestSheet| {
+        let list = random.percent(50).then(|| vec![1; random.between(0, 16)]);
+        let selected = Selected { types: list, values: random.percent(50) };
+        *asked = limits::search_with(filter, selected);
+    };
+    match random.below(17) {
+        0 => directory = limits::directory_of_length(65_536 + over),
+        1 => {
+            directory = limits::wide_directory(256 + over);
+            if let Some(last) = directory.entries.last_mut() {
+                last.parent = *random.pick(&[0, 0, 255, 256, 257]);
+            }
+        }
+        2 | 3 => directory = limits::deep_directory(8 + over),
+        4 => directory = limits::directory_of_types(64 + over),
+        5 => permissions = limits::permissions_of_length(65_536 + over),
+        6 => permissions = limits::permissions_of_items(256 + over),
+        7 => asked = limits::request_of_length(8_192 + over),
+        8 => deepen(random, limits::filter_of_depth(16 + over), &mut asked),
+        9 => deepen(random, limits::filter_of_lines(128 + over), &mut asked),
+        10 => deepen(random, limits::filter_of_pieces(128 + over), &mut asked),
+        11 => deepen(random, limits::substrings_at_depth(16 + over), &mut asked),
+        12 => deepen(random, limits::substrings_of(8 + over), &mut asked),
+        13 => {
+            asked.name = vec![(1, b"d".to_vec()); 8 + over];
+            directory = limits::deep_directory(8);
+        }
+        14 => directory = limits::large_directory(),
+        15 => {
+            let selected = Selected { types: Some(vec![1; 16 + over]), values: true };
+            asked = limits::search_with(FilterLines::Present(1), selected);
+        }
+        _ => {
+            // An entry whose naming value and held value differ in letters alone.
+            let held = variant(random, 1, b"Ann");
+            let mut entry = EntryLines::bare(0, 2, b"Ann");
+            entry.values[0].1 = held;
+            directory.entries.push(entry);
+        }
+    }
+    let mut case =
+        Case { dir: directory.to_bytes(), perm: permissions.to_bytes(), req: asked.to_bytes() };
+    if random.once_in(6) {
+        damage_one(random, &mut case);
+    }
+    case
+}

@@ -1,0 +1,48 @@
+//! The answer sheet.
+
+use crate::directory::{Directory, Number};
+use crate::sheet::{write_line, HEAD};
+
+/// Column B of line 30.
+#[derive(Clone, Copy, Debug, PartialEq, Eq)]
+#[repr(u32)]
+pub enum Outcome {
+    Result = 0,
+    NoSuchObject = 1,
+    InsufficientAccessRights = 2,
+    NoSuchAttributeOrValue = 3,
+    InvalidAttributeSyntax = 4,
+}
+
+pub struct Answer {
+    sheet: Vec<u8>,
+}
+
+impl Answer {
+    pub fn new(operation: u32, outcome: Outcome) -> Self {
+        let mut answer = Answer { sheet: Vec::new() };
+        answer.line(30, operation, outcome as u32, &[]);
+        answer
+    }
+
+    pub fn line(&mut self, kind: u32, a: u32, b: u32, bytes: &[u8]) {
+        write_line(&mut self.sheet, kind, a, b, 0, bytes);
+    }
+
+    /// K 9 for each part of an entry's stored name.
+    pub fn name(&mut self, directory: &Directory, number: Number) {
+        for &above in directory.entry(number).lineage() {
+            let naming = &directory.entry(above.into()).naming;
+            self.line(9, directory.schema.number(naming.slot), 0, naming.value.bytes);
+        }
+    }
+
+    /// C of line 30: the size limit cut the answer.
+    pub fn mark_cut(&mut self) {
+        self.sheet[HEAD - 7] = b'1';
+    }
+
+    pub fn into_bytes(self) -> Vec<u8> {
+        self.sheet
+    }
+}

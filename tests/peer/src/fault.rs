@@ -1,0 +1,186 @@
+//! Planted faults, to show that a test can fail. Without the feature `faults` none is compiled in.
+
+macro_rules! faults {
+    ($($(#[$leak:ident])? $name:ident,)*) => {
+        #[derive(Clone, Copy, Debug, PartialEq, Eq)]
+        pub enum Fault { $($name,)* }
+
+        impl Fault {
+            pub const ALL: &'static [Fault] = &[$(Fault::$name,)*];
+
+            /// Whether the fault makes answers depend on what is hidden.
+            pub fn leaks(self) -> bool {
+                match self { $(Fault::$name => false $(|| stringify!($leak) == "leak")?,)* }
+            }
+        }
+    };
+}
+
+faults! {
+    // Lines.
+    LongLineAccepted,
+    LeadingZeroAccepted,
+    BlankColumnIsZero,
+    LineEndUnchecked,
+    BrokenLineIsMissing,
+    OrderBeforeColumns,
+    ForeignKindOutOfOrder,
+    Type1000IsUnknown,
+    // Values.
+    MinusZeroAccepted,
+    IntegerLeadingZeroAccepted,
+    IntegerSaturates,
+    LeastIntegerRefused,
+    EmptyOctetsAccepted,
+    Text127Accepted,
+    TextOrderByCase,
+    IntegerOrderByBytes,
+    // Directory.
+    LongDirectoryAccepted,
+    Type64Refused,
+    Entry257Accepted,
+    Entry257ParentUnjudged,
+    Depth9Accepted,
+    ParentOutOfOrder,
+    SiblingsByBytes,
+    SiblingsAcrossTypes,
+    ValuesTwiceByBytes,
+    NamingByBytes,
+    NamingJudgedBeforeParent,
+    NamingJudgedBeforeAnyLine,
+    NamingJudgedLate,
+    // Permissions.
+    LongPermissionsAccepted,
+    Item257Accepted,
+    Mask64Accepted,
+    EmptyMaskAccepted,
+    LevelThreeAccepted,
+    Precedence256Accepted,
+    NameForAllUsersAccepted,
+    NineParts,
+    UnknownTypeInItemAccepted,
+    // Request.
+    LongRequestAccepted,
+    FilterDepth17Accepted,
+    FilterLine129Accepted,
+    PiecesNotCounted,
+    PiecesHaveDepth,
+    LimitOnReadAccepted,
+    ListOf17Accepted,
+    ListWithAllTypesAccepted,
+    PartsOf128Accepted,
+    NotWithACountAccepted,
+    NinePiecesAccepted,
+    MisplacedPieceAccepted,
+    EmptyPieceAccepted,
+    SurplusLineAccepted,
+    // Decision function.
+    AnyDenialWins,
+    SpecificityIgnored,
+    ExplicitIgnored,
+    AllValuesIsExplicit,
+    LevelIgnored,
+    LevelCountsForDenials,
+    EntryItselfRanksLow,
+    BelowExcludesTheName,
+    EmptyNameIsEverybody,
+    BelowEmptyNameIsNobody,
+    UnfitPartSpoilsName,
+    EmptyBaseAloneCoversAll,
+    BaseCoversBelow,
+    ItemValueByBytes,
+    #[leak] NamedUserMustExist,
+    // Filter.
+    AndStopsAtUndefined,
+    OrStopsAtUndefined,
+    NotUndefinedIsTrue,
+    EmptyAndFalse,
+    #[leak] FilterMatchOnlyWhenHeld,
+    #[leak] FilterValuesUnjudged,
+    FilterRefusedIsFalse,
+    NotHeldIsUndefined,
+    PresentNeedsAValue,
+    #[leak] PresentUnjudged,
+    UnfitValueIsFalse,
+    UnknownTypeIsFalse,
+    OctetsOrdered,
+    IntegersHaveSubstrings,
+    AtLeastIsAbove,
+    AtMostIsBelow,
+    UnfitPieceIgnored,
+    InitialFloats,
+    FinalFloats,
+    PiecesOverlap,
+    // Outcomes.
+    #[leak] MatchedNameAsFarAsItExists,
+    MatchedNameGivesUp,
+    NamePrintedAsAsked,
+    #[leak] WithheldEntriesCounted,
+    #[leak] WithheldEntriesCut,
+    CutAtExactLimit,
+    ListIgnoresReturnDn,
+    SearchIgnoresReturnDn,
+    ReadIgnoresReturnDn,
+    ReadServesAsBrowse,
+    BaseNeedsBrowse,
+    OneLevelIncludesBase,
+    SubtreeExcludesBase,
+    EmptyListFails,
+    AllTypesNeverFail,
+    RepeatedTypeUnselects,
+    CompareNeedsNoRead,
+    ReadRefusalNeedsNoRead,
+    TypeWithoutValuesKept,
+    CompareSyntaxFirst,
+    RootDiscloses,
+    // Buffer.
+    EqualLengthRefused,
+    AnswerCutToRoom,
+    AnswerCappedAt65536,
+    AnswerWritesBeyond,
+    RefusalChangesBuffer,
+    RefusalHasLength,
+    // Outcomes that tell what is hidden.
+    #[leak] ReadRefusedTellsExistence,
+    #[leak] ReadTellsHeldTypes,
+    #[leak] CompareTellsHeldType,
+    #[leak] CompareValuesUnjudged,
+    #[leak] CompareSyntaxWhenHeld,
+    #[leak] ChildrenDisclosed,
+    #[leak] RoomJudgedByDirectory,
+    #[leak] NothingSucceeds,
+    #[leak] AllValuesCounted,
+    #[leak] EntryNumberShown,
+}
+
+#[cfg(feature = "faults")]
+mod switch {
+    use super::Fault;
+    use std::cell::Cell;
+
+    thread_local! {
+        static PLANTED: Cell<Option<Fault>> = const { Cell::new(None) };
+    }
+
+    /// Runs `work` with a fault planted.
+    pub fn with_fault<T>(fault: Option<Fault>, work: impl FnOnce() -> T) -> T {
+        let before = PLANTED.replace(fault);
+        let result = work();
+        PLANTED.set(before);
+        result
+    }
+
+    #[inline]
+    pub fn planted(fault: Fault) -> bool {
+        PLANTED.get() == Some(fault)
+    }
+}
+
+#[cfg(feature = "faults")]
+pub use switch::{planted, with_fault};
+
+#[cfg(not(feature = "faults"))]
+#[inline(always)]
+pub const fn planted(_: Fault) -> bool {
+    false
+}
