@@ -1,0 +1,25 @@
+-- The two calls are the definition.
+use Rattle.request.specs.Whole.{endAt}
+use borrow.Author.Needs.{needs}
+use Rattle.request.proofs.end_at.Statement.{statement}
+use Rattle.request.proofs.end_at.Tie as tie
+use Rattle.request.proofs.end_at.Reads as reads
+use Rattle.request.proofs.end_at.Lts as lts
+use Rattle.request.proofs.end_by.Reads as end-by-reads
+use Rattle.request.proofs.line.seen_at.Reads as seen-at-reads
+
+-- src/lib.rt:118:29
+seen-at-requires : tie.Need-seen-at-requires
+seen-at-requires c κs = search needs
+
+-- src/lib.rt:118:5
+end-by-requires : tie.Need-end-by-requires
+end-by-requires c κs = search needs
+
+-- src/lib.rt:114:1
+returns : tie.Need-returns
+unfolding endAt
+returns c = cc
+
+pub end-at-spec : {M : Type 1} → statement M
+end-at-spec = tie.close (tie.spec seen-at-requires end-by-requires returns)
