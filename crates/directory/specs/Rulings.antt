@@ -43,16 +43,19 @@ ruledOf w s ks heads owner t at size ms =
     (cond (twins w s ks owner t (valueOf w size (drop at s)) ms) (refusing 5) (marking w s ks heads owner t at size))
     (refusing 4)
 
+-- an entry line by the tests of its parent's number, of the entry before it, of the count and of its depth
+abbrev pub placeNumber : Bool → Bool → Bool → Bool → ℕ
+placeNumber high lacks many deep = cond high 2 (cond lacks 6 (cond many 3 (cond deep 3 0)))
+
+unfoldable pub placeRefusal : List ℕ → ℕ → Bool → ℕ → ℕ
+placeRefusal depths count lacks a = placeNumber (ltb count a) lacks (leb 256 count) (leb 8 (getD depths a 0))
+
 -- a line after `count` entries
 unfoldable pub entryRuling : ℕ → Bytes → List ℕ → List ℕ → List ℕ → ℕ → Bool → ℕ → ℕ → ℕ → ℕ → ℕ → ℕ → List Mark → Ruling
 entryRuling w s ks depths heads count lacks at k a b c size ms =
     cond (inFormOf directoryForms k a b c size)
     (cond (eqb k 2)
-    (cond (ltb count a) (refusing 2)
-    (cond lacks (refusing 6)
-    (cond (leb 256 count) (refusing 3)
-    (cond (leb 8 (getD depths a 0)) (refusing 3)
-    (ruledOf w s ks heads a b at size ms)))))
+    (cond (eqb (placeRefusal depths count lacks a) 0) (ruledOf w s ks heads a b at size ms) (refusing (placeRefusal depths count lacks a)))
     (refusing 3))
     (refusing 2)
 
@@ -94,6 +97,15 @@ ready-more {w} {s} {ks} {marks} {heads} {ms} r m within n bucket number count is
 }
 
 -- ---- the ways through the code
+
+-- a line that is not refused so has a parent
+pub place-low : (depths : List ℕ) (count : ℕ) (lacks : Bool) (a : ℕ) → placeRefusal depths count lacks a ≡ 0 → a ≤ count
+unfolding placeRefusal
+place-low depths count lacks a z = go (ltb count a) refl z
+  where
+    go : (t : Bool) → ltb count a ≡ t → placeNumber t lacks (leb 256 count) (leb 8 (getD depths a 0)) ≡ 0 → a ≤ count
+    go true e q = absurd (omega arith)
+    go false e q = ltb-false count a e
 
 -- a walk through the bucket `b`
 pub walk-of : {w : ℕ} {s : Bytes} {ks marks heads : List ℕ} {ms : List Mark} → Ready w s ks marks heads ms → (b bucket : ℕ) → bucket ≡ b → b < 2048
@@ -254,7 +266,7 @@ module _ (w : ℕ) (s : Bytes) (ks : List ℕ) (complete : List Stored) (current
     entry-by : (high lk many deep al tw : Bool) → ltb count a ≡ high → lacks ≡ lk → leb 256 count ≡ many → leb 8 (getD depths a 0) ≡ deep
         → allowed (schemaOf ks) b v ≡ al → twins w s ks a b v ms ≡ tw
         → EntryOutcome w s ks depths heads count complete current i k a b c l
-        (cond high (refusing 2) (cond lk (refusing 6) (cond many (refusing 3) (cond deep (refusing 3) (cond al (cond tw (refusing 5) (marking w s ks heads a b i l)) (refusing 4))))))
+        (cond (eqb (placeNumber high lk many deep) 0) (cond al (cond tw (refusing 5) (marking w s ks heads a b i l)) (refusing 4)) (refusing (placeNumber high lk many deep)))
     entry-by true lk many deep al tw p₁ p₂ p₃ p₄ p₅ p₆ = inl (record { not = λ z. omega arith; is = entry-same ∙ rw p₁ })
     entry-by false true many deep al tw p₁ p₂ p₃ p₄ p₅ p₆ = inl (record { not = λ z. omega arith; is = entry-same ∙ rw (p₁, p₂) })
     entry-by false false true deep al tw p₁ p₂ p₃ p₄ p₅ p₆ = inl (record { not = λ z. omega arith; is = entry-same ∙ rw (p₁, p₂, p₃) })
@@ -267,7 +279,8 @@ module _ (w : ℕ) (s : Bytes) (ks : List ℕ) (complete : List Stored) (current
         level = level-is (getD depths a 0) (known .levels a low)
 
         rest : (deep al tw : Bool) → leb 8 (getD depths a 0) ≡ deep → allowed (schemaOf ks) b v ≡ al → twins w s ks a b v ms ≡ tw
-            → EntryOutcome w s ks depths heads count complete current i k a b c l (cond deep (refusing 3) (cond al (cond tw (refusing 5) (marking w s ks heads a b i l)) (refusing 4)))
+            → EntryOutcome w s ks depths heads count complete current i k a b c l
+            (cond (eqb (placeNumber false false false deep) 0) (cond al (cond tw (refusing 5) (marking w s ks heads a b i l)) (refusing 4)) (refusing (placeNumber false false false deep)))
         rest true al tw p₄ p₅ p₆ = inl (record { not = λ z. omega arith; is = entry-same ∙ rw (p₁, p₂, p₃, level, p₄) })
         rest false false tw p₄ p₅ p₆ = inl (record { not = λ z. omega arith; is = entry-same ∙ rw (p₁, p₂, p₃, level, p₄, p₅) })
         rest false true true p₄ p₅ p₆ =
@@ -283,14 +296,14 @@ pub entry-outcome : (w : ℕ) (s : Bytes) (ks depths heads : List ℕ) (count : 
     → Counted w s ks depths count lacks (entriesOf (reading ks complete current)) current ms
     → (i : ℕ) {k a b c l : ℕ} (e : frontOf w (drop i s) ≡ Taken k a b c l) → Elsewhere current k
     → EntryOutcome w s ks depths heads count complete current i k a b c l (entryRuling w s ks depths heads count lacks i k a b c l ms)
-unfolding entryRuling ruledOf
+unfolding entryRuling placeRefusal ruledOf
 entry-outcome w s ks depths heads count lacks complete current ms known i {k} {a} {b} {c} {l} e elsewhere = go (inFormOf directoryForms k a b c l) (eqb k 2) refl refl
   where
     go : (f two : Bool) → inFormOf directoryForms k a b c l ≡ f → eqb k 2 ≡ two
         → EntryOutcome w s ks depths heads count complete current i k a b c l
-        (cond f (cond two (cond (ltb count a) (refusing 2) (cond lacks (refusing 6) (cond (leb 256 count) (refusing 3) (cond (leb 8 (getD depths a 0)) (refusing 3)
-        (cond (allowed (schemaOf ks) b (valueOf w l (drop i s))) (cond (twins w s ks a b (valueOf w l (drop i s)) ms) (refusing 5) (marking w s ks heads a b i l)) (refusing 4))))))
-        (refusing 3)) (refusing 2))
+        (cond f (cond two (cond (eqb (placeNumber (ltb count a) lacks (leb 256 count) (leb 8 (getD depths a 0))) 0)
+        (cond (allowed (schemaOf ks) b (valueOf w l (drop i s))) (cond (twins w s ks a b (valueOf w l (drop i s)) ms) (refusing 5) (marking w s ks heads a b i l)) (refusing 4))
+        (refusing (placeNumber (ltb count a) lacks (leb 256 count) (leb 8 (getD depths a 0))))) (refusing 3)) (refusing 2))
     go false two p q = inl (record { not = λ z. omega arith; is = step-form (reading ks complete current) (lineHere w s i e) (sym (formed w s i e) ∙ p) })
     go true false p q = inl (record { not = λ z. omega arith; is = misplaced w s ks complete current i e p elsewhere (eqb-false k 2 q) })
     go true true p q =

@@ -1,15 +1,13 @@
 // An entry line, K 2, and the rulings that entry lines and value lines share.
 use crate::mark;
 use crate::schema;
-use rules::Front;
 use sheet::columns::directory_columns;
 ghost use mathlib.Core.Path.{_≡_};
 ghost use Prim.Native.Nat.{_≤_};
 ghost use lib.ListN.{length};
 ghost use Rattle.directory.specs.Schema.{rankOf};
-ghost use Rattle.directory.specs.Rulings.{Asked, Decides, ruledOf, entryRuling};
+ghost use Rattle.directory.specs.Rulings.{Asked, Decides, ruledOf, placeRefusal, entryRuling};
 ghost use Rattle.directory.specs.Rulings as Rulings;
-ghost use Rattle.directory.specs.Entries.{endNumber};
 
 // A line's refusal; where that is 0 its type's rank, and the bucket and mark of its value.
 pub(crate) struct Ruling {
@@ -65,7 +63,28 @@ pub(crate) fn ruled(
     }
 }
 
-// A line after `count` entries, of which the last lacks its naming value or not.
+// What refuses an entry line after `count` entries whatever its value is, or 0. The entry before it lacks its naming value or not.
+fn misplaced(depths: &[usize], count: usize, lacks: bool, a: u64) -> u64
+    requires { ⌜ (count ≤ 256) × (length (now depths) ≡ 257) ⌝ }
+    ensures { λ r. ⌜ r ≡ placeRefusal (now (depths .entry)) count lacks a ⌝ }
+{
+    if (count as u64) < a {
+        return 2;
+    }
+    if lacks {
+        return 6;
+    }
+    if 256 <= count {
+        return 3;
+    }
+    let parent = a as usize;
+    if 8 <= depths[parent] {
+        return 3;
+    }
+    0
+}
+
+// A line that is no value line, after `count` entries: the only such line that may follow is an entry line.
 pub(crate) fn entry_line(
     s: &[u8],
     w: usize,
@@ -91,18 +110,9 @@ pub(crate) fn entry_line(
     if kind != 2 {
         return refusing(3);
     }
-    if (count as u64) < a {
-        return refusing(2);
-    }
-    if lacks {
-        return refusing(6);
-    }
-    if 256 <= count {
-        return refusing(3);
-    }
-    let parent = a as usize;
-    if 8 <= depths[parent] {
-        return refusing(3);
+    let refusal = misplaced(depths, count, lacks, a);
+    if refusal != 0 {
+        return refusing(refusal);
     }
     ruled(
         s,
@@ -110,32 +120,10 @@ pub(crate) fn entry_line(
         schema,
         schema::rank(schema, 0, b),
         b,
-        parent,
+        a as usize,
         marks,
         heads,
         at,
         len,
     )
-}
-
-// The refusal where no line stands, or 0.
-pub(crate) fn ended(front: Front, lacks: bool) -> u64
-    ensures { λ r. ⌜ r ≡ endNumber front lacks ⌝ }
-{
-    match front {
-        Front::Taken {
-            kind: _,
-            a: _,
-            b: _,
-            c: _,
-            length: _,
-        } => 2,
-        Front::NotInForm => 2,
-        Front::End => {
-            if lacks {
-                return 6;
-            }
-            0
-        }
-    }
 }

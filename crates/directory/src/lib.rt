@@ -9,7 +9,7 @@ use rules::Front;
 ghost use mathlib.Core.Path.{_≡_};
 ghost use Prim.Native.Nat.{_≤_};
 ghost use Rattle.directory.specs.Judged.{Judged};
-ghost use Rattle.directory.specs.Entries.{Opened, refusedWith, nothingNoted};
+ghost use Rattle.directory.specs.Entries.{Opened, endNumber, refusedWith, nothingNoted};
 
 pub struct Notes {
     pub refusal: u64,
@@ -47,6 +47,28 @@ fn refused(notes: Notes, number: u64) -> Notes
     r
 }
 
+// The refusal where no line stands, or 0.
+fn ended(front: Front, lacks: bool) -> u64
+    ensures { λ r. ⌜ r ≡ endNumber front lacks ⌝ }
+{
+    match front {
+        Front::Taken {
+            kind: _,
+            a: _,
+            b: _,
+            c: _,
+            length: _,
+        } => 2,
+        Front::NotInForm => 2,
+        Front::End => {
+            if lacks {
+                return 6;
+            }
+            0
+        }
+    }
+}
+
 // The entries, from the line `first` at `from` on.
 fn entries(s: &[u8], w: usize, schema: &[u64], begun: Notes, from: usize, first: Front) -> Notes
     requires { ⌜ Opened w (now s) (now schema) begun from first ⌝ }
@@ -69,7 +91,7 @@ fn entries(s: &[u8], w: usize, schema: &[u64], begun: Notes, from: usize, first:
             length,
         } = front
         else {
-            return refused(notes, entry::ended(front, lacks));
+            return refused(notes, ended(front, lacks));
         };
         let count = notes.count;
         let x = entry::entry_line(
@@ -91,13 +113,6 @@ fn entries(s: &[u8], w: usize, schema: &[u64], begun: Notes, from: usize, first:
         if x.refusal != 0 {
             return refused(notes, x.refusal);
         }
-        let p = a as usize;
-        notes.at[count] = i;
-        notes.parents[count] = p;
-        notes.naming[count] = b;
-        notes.lengths[count] = length;
-        notes.count = count + 1;
-        depths[count + 1] = depths[p] + 1;
         let bucket = x.bucket;
         marks[n] = x.mark;
         heads[bucket] = n + 1;
@@ -111,6 +126,13 @@ fn entries(s: &[u8], w: usize, schema: &[u64], begun: Notes, from: usize, first:
         if run.refusal != 0 {
             return refused(notes, run.refusal);
         }
+        let p = a as usize;
+        notes.at[count] = i;
+        notes.parents[count] = p;
+        notes.naming[count] = b;
+        notes.lengths[count] = length;
+        notes.count = count + 1;
+        depths[count + 1] = depths[p] + 1;
         i = run.at;
         front = run.front;
         n = run.marks;

@@ -18,7 +18,7 @@ use Rattle.directory.proofs.entries.Statement.{statement}
 use Rattle.directory.proofs.entries.Tie as tie
 use Rattle.directory.proofs.entries.Reads as reads
 use Rattle.directory.proofs.entries.Lts as lts
-use Rattle.directory.proofs.entry.ended.Reads as ended-reads
+use Rattle.directory.proofs.ended.Reads as ended-reads
 use Rattle.directory.proofs.entry.entry_line.Reads as entry-line-reads
 use Rattle.directory.proofs.refused.Reads as refused-reads
 use Rattle.directory.proofs.values.values.Reads as values-reads
@@ -29,163 +29,163 @@ Inv-loop s w schema from notes₀ depths₀ marks₀ heads₀ n₀ lacks₀ i₀
 abbrev μ-loop : tie.MeasureT-loop
 μ-loop s w schema from notes₀ depths₀ marks₀ heads₀ n₀ lacks₀ i₀ front₀ notes depths marks heads n lacks i front = length s - i
 
--- src/lib.rt:63:5
+-- src/lib.rt:85:5
 loop-holds : tie.Need-loop-holds Inv-loop μ-loop
 loop-holds c = ([], none, [], standing-start (c .before .before .pre))
 
--- src/lib.rt:65:13
+-- src/lib.rt:87:13
 enum-known-front : tie.Need-enum-known-front Inv-loop μ-loop
 enum-known-front c = search needs
 
--- src/lib.rt:72:35
+-- src/lib.rt:94:35
 ended-requires : tie.Need-ended-requires Inv-loop μ-loop
 ended-requires c κs = search needs
 
--- src/lib.rt:72:13
+-- src/lib.rt:94:13
 refused-requires : tie.Need-refused-requires Inv-loop μ-loop
 refused-requires c κs = search needs
 
--- src/lib.rt:72:13
+-- src/lib.rt:94:13
 returns : tie.Need-returns Inv-loop μ-loop
 returns c = subst (λ (r : Notes). Judged (c .before .before .before .before .before .before .args .w) (now (c .before .before .before .before .before .before .args .s)) r) (sym (c .refused .ensures ∙ ap (refusedWith (c .before .before .before .loop .notes)) (c .before .ended .ensures))) (standing-ended (c .before .before .before .loop .inv .3) (not-taken _ (c .before .before .match .keys2)))
 
--- src/lib.rt:79:13
+-- src/lib.rt:101:13
 slice-aggregate-entry-line : tie.Need-slice-aggregate-entry-line Inv-loop μ-loop
 slice-aggregate-entry-line c = let st = c .before .before .before .before .loop .inv .3 in omega (arith, st .sized, st .ready .chain .marked, st .ready .chain .buckets)
 
--- src/lib.rt:80:13
+-- src/lib.rt:102:13
 slice-aggregate-entry-line-2 : tie.Need-slice-aggregate-entry-line-2 Inv-loop μ-loop
 slice-aggregate-entry-line-2 c = let st = c .before .before .before .before .before .loop .inv .3 in omega (arith, st .sized, st .ready .chain .marked, st .ready .chain .buckets)
 
--- src/lib.rt:81:13
+-- src/lib.rt:103:13
 slice-aggregate-entry-line-3 : tie.Need-slice-aggregate-entry-line-3 Inv-loop μ-loop
 slice-aggregate-entry-line-3 c = let st = c .before .before .before .before .before .before .loop .inv .3 in omega (arith, st .sized, st .ready .chain .marked, st .ready .chain .buckets)
 
--- src/lib.rt:75:13
+-- src/lib.rt:97:13
 entry-line-requires : tie.Need-entry-line-requires Inv-loop μ-loop
 entry-line-requires c κs = let st = c .before .before .before .before .before .before .loop .inv .3 in let f = taken-fits _ (now (c .before .before .before .before .before .before .before .before .before .args .s)) (c .before .before .before .before .before .before .loop .i) (sym (st .stands) ∙ (c .before .before .before .before .front .given .1)) in (record { all = c .before .before .before .before .before .before .loop .inv .2; ready = st .ready; within = record { size = f .0; line = f .1 } }, st .counted .most, st .sized .levels)
 
--- src/lib.rt:92:13
+-- src/lib.rt:114:13
 refused-requires-2 : tie.Need-refused-requires-2 Inv-loop μ-loop
 refused-requires-2 c κs = search needs
 
--- src/lib.rt:92:13
+-- src/lib.rt:114:13
 returns-2 : tie.Need-returns-2 Inv-loop μ-loop
 returns-2 c = let st = c .before .before .before .before .before .before .before .before .before .before .loop .inv .3 in answer-refused _ _ (st .ready .sheet) _ _ (ap (λ (r : Notes). r .refusal) (c .refused2 .ensures)) (standing-refused st (c .before .before .before .before .before .before .before .before .front .given .1) (c .before .before .before .entry-line .ensures (c .before .before .before .before .before .before .before .before .before .before .loop .inv .2) (st .ready)) (c .before .if1 .taken))
 
--- src/lib.rt:95:9
-mul-notes : tie.Need-mul-notes Inv-loop μ-loop
-mul-notes c = let st = c .before .before .before .before .before .before .before .before .before .loop .inv .3 in omega (arith, standing-room st (c .before .before .before .before .before .before .before .front .given .1) (c .before .before .entry-line .ensures (c .before .before .before .before .before .before .before .before .before .loop .inv .2) (st .ready)) (c .if1 .left), st .sized)
-
--- src/lib.rt:95:9
-element-write-notes : tie.Need-element-write-notes Inv-loop μ-loop
-element-write-notes c = let st = c .before .before .before .before .before .before .before .before .before .loop .inv .3 in omega (arith, standing-room st (c .before .before .before .before .before .before .before .front .given .1) (c .before .before .entry-line .ensures (c .before .before .before .before .before .before .before .before .before .loop .inv .2) (st .ready)) (c .if1 .left), st .sized)
-
--- src/lib.rt:96:9
-mul-notes-2 : tie.Need-mul-notes-2 Inv-loop μ-loop
-mul-notes-2 c = let st = c .before .before .before .before .before .before .before .before .before .loop .inv .3 in omega (arith, standing-room st (c .before .before .before .before .before .before .before .front .given .1) (c .before .before .entry-line .ensures (c .before .before .before .before .before .before .before .before .before .loop .inv .2) (st .ready)) (c .if1 .left), st .sized)
-
--- src/lib.rt:96:9
-element-write-notes-2 : tie.Need-element-write-notes-2 Inv-loop μ-loop
-element-write-notes-2 c = let st = c .before .before .before .before .before .before .before .before .before .loop .inv .3 in omega (arith, standing-room st (c .before .before .before .before .before .before .before .front .given .1) (c .before .before .entry-line .ensures (c .before .before .before .before .before .before .before .before .before .loop .inv .2) (st .ready)) (c .if1 .left), st .sized)
-
--- src/lib.rt:97:9
-mul-notes-3 : tie.Need-mul-notes-3 Inv-loop μ-loop
-mul-notes-3 c = let st = c .before .before .before .before .before .before .before .before .before .loop .inv .3 in omega (arith, standing-room st (c .before .before .before .before .before .before .before .front .given .1) (c .before .before .entry-line .ensures (c .before .before .before .before .before .before .before .before .before .loop .inv .2) (st .ready)) (c .if1 .left), st .sized)
-
--- src/lib.rt:97:9
-element-write-notes-3 : tie.Need-element-write-notes-3 Inv-loop μ-loop
-element-write-notes-3 c = let st = c .before .before .before .before .before .before .before .before .before .loop .inv .3 in omega (arith, standing-room st (c .before .before .before .before .before .before .before .front .given .1) (c .before .before .entry-line .ensures (c .before .before .before .before .before .before .before .before .before .loop .inv .2) (st .ready)) (c .if1 .left), st .sized)
-
--- src/lib.rt:98:9
-mul-notes-4 : tie.Need-mul-notes-4 Inv-loop μ-loop
-mul-notes-4 c = let st = c .before .before .before .before .before .before .before .before .before .loop .inv .3 in omega (arith, standing-room st (c .before .before .before .before .before .before .before .front .given .1) (c .before .before .entry-line .ensures (c .before .before .before .before .before .before .before .before .before .loop .inv .2) (st .ready)) (c .if1 .left), st .sized)
-
--- src/lib.rt:98:9
-element-write-notes-4 : tie.Need-element-write-notes-4 Inv-loop μ-loop
-element-write-notes-4 c = let st = c .before .before .before .before .before .before .before .before .before .loop .inv .3 in omega (arith, standing-room st (c .before .before .before .before .before .before .before .front .given .1) (c .before .before .entry-line .ensures (c .before .before .before .before .before .before .before .before .before .loop .inv .2) (st .ready)) (c .if1 .left), st .sized)
-
--- src/lib.rt:99:23
-add-notes : tie.Need-add-notes Inv-loop μ-loop
-add-notes c = let st = c .before .before .before .before .before .before .before .before .before .loop .inv .3 in omega (arith, standing-room st (c .before .before .before .before .before .before .before .front .given .1) (c .before .before .entry-line .ensures (c .before .before .before .before .before .before .before .before .before .loop .inv .2) (st .ready)) (c .if1 .left), st .sized)
-
--- src/lib.rt:100:29
-mul-depths : tie.Need-mul-depths Inv-loop μ-loop
-mul-depths c = let st = c .before .before .before .before .before .before .before .before .before .loop .inv .3 in omega (arith, standing-room st (c .before .before .before .before .before .before .before .front .given .1) (c .before .before .entry-line .ensures (c .before .before .before .before .before .before .before .before .before .loop .inv .2) (st .ready)) (c .if1 .left), st .sized)
-
--- src/lib.rt:100:29
-array-read-depths : tie.Need-array-read-depths Inv-loop μ-loop
-array-read-depths c = let st = c .before .before .before .before .before .before .before .before .before .loop .inv .3 in omega (arith, standing-room st (c .before .before .before .before .before .before .before .front .given .1) (c .before .before .entry-line .ensures (c .before .before .before .before .before .before .before .before .before .loop .inv .2) (st .ready)) (c .if1 .left), st .sized)
-
--- src/lib.rt:100:29
-add-depths : tie.Need-add-depths Inv-loop μ-loop
-add-depths c = let st = c .before .before .before .before .before .before .before .before .before .loop .inv .3 in omega (arith, standing-room st (c .before .before .before .before .before .before .before .front .given .1) (c .before .before .entry-line .ensures (c .before .before .before .before .before .before .before .before .before .loop .inv .2) (st .ready)) (c .if1 .left), st .sized)
-
--- src/lib.rt:100:16
-add-depths-2 : tie.Need-add-depths-2 Inv-loop μ-loop
-add-depths-2 c = let st = c .before .before .before .before .before .before .before .before .before .loop .inv .3 in omega (arith, standing-room st (c .before .before .before .before .before .before .before .front .given .1) (c .before .before .entry-line .ensures (c .before .before .before .before .before .before .before .before .before .loop .inv .2) (st .ready)) (c .if1 .left), st .sized)
-
--- src/lib.rt:100:9
-mul-depths-2 : tie.Need-mul-depths-2 Inv-loop μ-loop
-mul-depths-2 c = let st = c .before .before .before .before .before .before .before .before .before .loop .inv .3 in omega (arith, standing-room st (c .before .before .before .before .before .before .before .front .given .1) (c .before .before .entry-line .ensures (c .before .before .before .before .before .before .before .before .before .loop .inv .2) (st .ready)) (c .if1 .left), st .sized)
-
--- src/lib.rt:100:9
-array-write-depths : tie.Need-array-write-depths Inv-loop μ-loop
-array-write-depths c = let st = c .before .before .before .before .before .before .before .before .before .loop .inv .3 in omega (arith, standing-room st (c .before .before .before .before .before .before .before .front .given .1) (c .before .before .entry-line .ensures (c .before .before .before .before .before .before .before .before .before .loop .inv .2) (st .ready)) (c .if1 .left), st .sized)
-
--- src/lib.rt:102:9
+-- src/lib.rt:117:9
 mul-marks : tie.Need-mul-marks Inv-loop μ-loop
 mul-marks c = let st = c .before .before .before .before .before .before .before .before .before .loop .inv .3 in omega (arith, standing-room st (c .before .before .before .before .before .before .before .front .given .1) (c .before .before .entry-line .ensures (c .before .before .before .before .before .before .before .before .before .loop .inv .2) (st .ready)) (c .if1 .left), st .sized, st .ready .chain .marked, st .ready .chain .buckets)
 
--- src/lib.rt:102:9
+-- src/lib.rt:117:9
 array-write-marks : tie.Need-array-write-marks Inv-loop μ-loop
 array-write-marks c = let st = c .before .before .before .before .before .before .before .before .before .loop .inv .3 in omega (arith, standing-room st (c .before .before .before .before .before .before .before .front .given .1) (c .before .before .entry-line .ensures (c .before .before .before .before .before .before .before .before .before .loop .inv .2) (st .ready)) (c .if1 .left), st .sized, st .ready .chain .marked, st .ready .chain .buckets)
 
--- src/lib.rt:103:25
+-- src/lib.rt:118:25
 add-heads : tie.Need-add-heads Inv-loop μ-loop
 add-heads c = let st = c .before .before .before .before .before .before .before .before .before .loop .inv .3 in omega (arith, standing-room st (c .before .before .before .before .before .before .before .front .given .1) (c .before .before .entry-line .ensures (c .before .before .before .before .before .before .before .before .before .loop .inv .2) (st .ready)) (c .if1 .left), st .sized, st .ready .chain .marked, st .ready .chain .buckets)
 
--- src/lib.rt:103:9
+-- src/lib.rt:118:9
 mul-heads : tie.Need-mul-heads Inv-loop μ-loop
 mul-heads c = let st = c .before .before .before .before .before .before .before .before .before .loop .inv .3 in omega (arith, standing-room st (c .before .before .before .before .before .before .before .front .given .1) (c .before .before .entry-line .ensures (c .before .before .before .before .before .before .before .before .before .loop .inv .2) (st .ready)) (c .if1 .left), st .sized, st .ready .chain .marked, st .ready .chain .buckets)
 
--- src/lib.rt:103:9
+-- src/lib.rt:118:9
 array-write-heads : tie.Need-array-write-heads Inv-loop μ-loop
 array-write-heads c = let st = c .before .before .before .before .before .before .before .before .before .loop .inv .3 in omega (arith, standing-room st (c .before .before .before .before .before .before .before .front .given .1) (c .before .before .entry-line .ensures (c .before .before .before .before .before .before .before .before .before .loop .inv .2) (st .ready)) (c .if1 .left), st .sized, st .ready .chain .marked, st .ready .chain .buckets)
 
--- src/lib.rt:105:21
-add-t49 : tie.Need-add-t49 Inv-loop μ-loop
-add-t49 c = let st = c .before .before .before .before .before .before .before .before .before .loop .inv .3 in omega (arith, standing-room st (c .before .before .before .before .before .before .before .front .given .1) (c .before .before .entry-line .ensures (c .before .before .before .before .before .before .before .before .before .loop .inv .2) (st .ready)) (c .if1 .left), st .sized)
+-- src/lib.rt:120:21
+add-notes : tie.Need-add-notes Inv-loop μ-loop
+add-notes c = let st = c .before .before .before .before .before .before .before .before .before .loop .inv .3 in omega (arith, standing-room st (c .before .before .before .before .before .before .before .front .given .1) (c .before .before .entry-line .ensures (c .before .before .before .before .before .before .before .before .before .loop .inv .2) (st .ready)) (c .if1 .left), st .sized)
 
--- src/lib.rt:110:51
+-- src/lib.rt:125:51
 add-values : tie.Need-add-values Inv-loop μ-loop
 add-values c = let st = c .before .before .before .before .before .before .before .before .before .loop .inv .3 in omega (arith, standing-room st (c .before .before .before .before .before .before .before .front .given .1) (c .before .before .entry-line .ensures (c .before .before .before .before .before .before .before .before .before .loop .inv .2) (st .ready)) (c .if1 .left), st .sized, st .ready .chain .marked, st .ready .chain .buckets)
 
--- src/lib.rt:110:58
+-- src/lib.rt:125:58
 slice-aggregate-values : tie.Need-slice-aggregate-values Inv-loop μ-loop
 slice-aggregate-values c = let st = c .before .before .before .before .before .before .before .before .before .before .loop .inv .3 in omega (arith, (standing-begun st (c .before .before .before .before .before .before .before .before .front .given .1) (c .before .before .before .entry-line .ensures (c .before .before .before .before .before .before .before .before .before .before .loop .inv .2) (st .ready)) (c .before .if1 .left)) .ready .chain .marked)
 
--- src/lib.rt:110:70
+-- src/lib.rt:125:70
 slice-aggregate-values-2 : tie.Need-slice-aggregate-values-2 Inv-loop μ-loop
 slice-aggregate-values-2 c = let st = c .before .before .before .before .before .before .before .before .before .before .before .loop .inv .3 in omega (arith, (standing-begun st (c .before .before .before .before .before .before .before .before .before .front .given .1) (c .before .before .before .before .entry-line .ensures (c .before .before .before .before .before .before .before .before .before .before .before .loop .inv .2) (st .ready)) (c .before .before .if1 .left)) .ready .chain .buckets)
 
--- src/lib.rt:110:13
+-- src/lib.rt:125:13
 values-requires : tie.Need-values-requires Inv-loop μ-loop
 values-requires c κs = let st = c .before .before .before .before .before .before .before .before .before .before .before .loop .inv .3 in record { complete = _; entry = _; all = _; width = c .before .before .before .before .before .before .before .before .before .before .before .before .before .before .pre .width; begun = standing-begun st (c .before .before .before .before .before .before .before .before .before .front .given .1) (c .before .before .before .before .entry-line .ensures (c .before .before .before .before .before .before .before .before .before .before .before .loop .inv .2) (st .ready)) (c .before .before .if1 .left) }
 
--- src/lib.rt:112:13
+-- src/lib.rt:127:13
 refused-requires-3 : tie.Need-refused-requires-3 Inv-loop μ-loop
 refused-requires-3 c κs = search needs
 
--- src/lib.rt:112:13
+-- src/lib.rt:127:13
 returns-3 : tie.Need-returns-3 Inv-loop μ-loop
 returns-3 c = let st = c .before .before .before .before .before .before .before .before .before .before .before .before .before .before .before .before .before .loop .inv .3 in answer-refused _ _ (st .ready .sheet) _ _ (ap (λ (r : Notes). r .refusal) (c .refused3 .ensures)) (standing-lost st (c .before .before .before .before .before .before .before .before .before .before .before .before .before .before .before .front .given .1) (c .before .before .before .before .before .before .before .before .before .before .entry-line .ensures (c .before .before .before .before .before .before .before .before .before .before .before .before .before .before .before .before .before .loop .inv .2) (st .ready)) (c .before .before .before .before .before .before .before .before .if1 .left) (c .before .before .before .before .before .values .ensures _ _ _ (standing-begun st (c .before .before .before .before .before .before .before .before .before .before .before .before .before .before .before .front .given .1) (c .before .before .before .before .before .before .before .before .before .before .entry-line .ensures (c .before .before .before .before .before .before .before .before .before .before .before .before .before .before .before .before .before .loop .inv .2) (st .ready)) (c .before .before .before .before .before .before .before .before .if1 .left))) (c .before .if2 .taken))
 
--- src/lib.rt:63:5
+-- src/lib.rt:130:9
+mul-notes : tie.Need-mul-notes Inv-loop μ-loop
+mul-notes c = let st = c .before .before .before .before .before .before .before .before .before .before .before .before .before .before .before .before .loop .inv .3 in omega (arith, standing-room st (c .before .before .before .before .before .before .before .before .before .before .before .before .before .before .front .given .1) (c .before .before .before .before .before .before .before .before .before .entry-line .ensures (c .before .before .before .before .before .before .before .before .before .before .before .before .before .before .before .before .loop .inv .2) (st .ready)) (c .before .before .before .before .before .before .before .if1 .left), st .sized)
+
+-- src/lib.rt:130:9
+element-write-notes : tie.Need-element-write-notes Inv-loop μ-loop
+element-write-notes c = let st = c .before .before .before .before .before .before .before .before .before .before .before .before .before .before .before .before .loop .inv .3 in omega (arith, standing-room st (c .before .before .before .before .before .before .before .before .before .before .before .before .before .before .front .given .1) (c .before .before .before .before .before .before .before .before .before .entry-line .ensures (c .before .before .before .before .before .before .before .before .before .before .before .before .before .before .before .before .loop .inv .2) (st .ready)) (c .before .before .before .before .before .before .before .if1 .left), st .sized)
+
+-- src/lib.rt:131:9
+mul-notes-2 : tie.Need-mul-notes-2 Inv-loop μ-loop
+mul-notes-2 c = let st = c .before .before .before .before .before .before .before .before .before .before .before .before .before .before .before .before .loop .inv .3 in omega (arith, standing-room st (c .before .before .before .before .before .before .before .before .before .before .before .before .before .before .front .given .1) (c .before .before .before .before .before .before .before .before .before .entry-line .ensures (c .before .before .before .before .before .before .before .before .before .before .before .before .before .before .before .before .loop .inv .2) (st .ready)) (c .before .before .before .before .before .before .before .if1 .left), st .sized)
+
+-- src/lib.rt:131:9
+element-write-notes-2 : tie.Need-element-write-notes-2 Inv-loop μ-loop
+element-write-notes-2 c = let st = c .before .before .before .before .before .before .before .before .before .before .before .before .before .before .before .before .loop .inv .3 in omega (arith, standing-room st (c .before .before .before .before .before .before .before .before .before .before .before .before .before .before .front .given .1) (c .before .before .before .before .before .before .before .before .before .entry-line .ensures (c .before .before .before .before .before .before .before .before .before .before .before .before .before .before .before .before .loop .inv .2) (st .ready)) (c .before .before .before .before .before .before .before .if1 .left), st .sized)
+
+-- src/lib.rt:132:9
+mul-notes-3 : tie.Need-mul-notes-3 Inv-loop μ-loop
+mul-notes-3 c = let st = c .before .before .before .before .before .before .before .before .before .before .before .before .before .before .before .before .loop .inv .3 in omega (arith, standing-room st (c .before .before .before .before .before .before .before .before .before .before .before .before .before .before .front .given .1) (c .before .before .before .before .before .before .before .before .before .entry-line .ensures (c .before .before .before .before .before .before .before .before .before .before .before .before .before .before .before .before .loop .inv .2) (st .ready)) (c .before .before .before .before .before .before .before .if1 .left), st .sized)
+
+-- src/lib.rt:132:9
+element-write-notes-3 : tie.Need-element-write-notes-3 Inv-loop μ-loop
+element-write-notes-3 c = let st = c .before .before .before .before .before .before .before .before .before .before .before .before .before .before .before .before .loop .inv .3 in omega (arith, standing-room st (c .before .before .before .before .before .before .before .before .before .before .before .before .before .before .front .given .1) (c .before .before .before .before .before .before .before .before .before .entry-line .ensures (c .before .before .before .before .before .before .before .before .before .before .before .before .before .before .before .before .loop .inv .2) (st .ready)) (c .before .before .before .before .before .before .before .if1 .left), st .sized)
+
+-- src/lib.rt:133:9
+mul-notes-4 : tie.Need-mul-notes-4 Inv-loop μ-loop
+mul-notes-4 c = let st = c .before .before .before .before .before .before .before .before .before .before .before .before .before .before .before .before .loop .inv .3 in omega (arith, standing-room st (c .before .before .before .before .before .before .before .before .before .before .before .before .before .before .front .given .1) (c .before .before .before .before .before .before .before .before .before .entry-line .ensures (c .before .before .before .before .before .before .before .before .before .before .before .before .before .before .before .before .loop .inv .2) (st .ready)) (c .before .before .before .before .before .before .before .if1 .left), st .sized)
+
+-- src/lib.rt:133:9
+element-write-notes-4 : tie.Need-element-write-notes-4 Inv-loop μ-loop
+element-write-notes-4 c = let st = c .before .before .before .before .before .before .before .before .before .before .before .before .before .before .before .before .loop .inv .3 in omega (arith, standing-room st (c .before .before .before .before .before .before .before .before .before .before .before .before .before .before .front .given .1) (c .before .before .before .before .before .before .before .before .before .entry-line .ensures (c .before .before .before .before .before .before .before .before .before .before .before .before .before .before .before .before .loop .inv .2) (st .ready)) (c .before .before .before .before .before .before .before .if1 .left), st .sized)
+
+-- src/lib.rt:134:23
+add-notes-2 : tie.Need-add-notes-2 Inv-loop μ-loop
+add-notes-2 c = let st = c .before .before .before .before .before .before .before .before .before .before .before .before .before .before .before .before .loop .inv .3 in omega (arith, standing-room st (c .before .before .before .before .before .before .before .before .before .before .before .before .before .before .front .given .1) (c .before .before .before .before .before .before .before .before .before .entry-line .ensures (c .before .before .before .before .before .before .before .before .before .before .before .before .before .before .before .before .loop .inv .2) (st .ready)) (c .before .before .before .before .before .before .before .if1 .left), st .sized)
+
+-- src/lib.rt:135:29
+mul-depths : tie.Need-mul-depths Inv-loop μ-loop
+mul-depths c = let st = c .before .before .before .before .before .before .before .before .before .before .before .before .before .before .before .before .loop .inv .3 in omega (arith, standing-room st (c .before .before .before .before .before .before .before .before .before .before .before .before .before .before .front .given .1) (c .before .before .before .before .before .before .before .before .before .entry-line .ensures (c .before .before .before .before .before .before .before .before .before .before .before .before .before .before .before .before .loop .inv .2) (st .ready)) (c .before .before .before .before .before .before .before .if1 .left), st .sized)
+
+-- src/lib.rt:135:29
+array-read-depths : tie.Need-array-read-depths Inv-loop μ-loop
+array-read-depths c = let st = c .before .before .before .before .before .before .before .before .before .before .before .before .before .before .before .before .loop .inv .3 in omega (arith, standing-room st (c .before .before .before .before .before .before .before .before .before .before .before .before .before .before .front .given .1) (c .before .before .before .before .before .before .before .before .before .entry-line .ensures (c .before .before .before .before .before .before .before .before .before .before .before .before .before .before .before .before .loop .inv .2) (st .ready)) (c .before .before .before .before .before .before .before .if1 .left), st .sized)
+
+-- src/lib.rt:135:29
+add-depths : tie.Need-add-depths Inv-loop μ-loop
+add-depths c = let st = c .before .before .before .before .before .before .before .before .before .before .before .before .before .before .before .before .loop .inv .3 in omega (arith, standing-room st (c .before .before .before .before .before .before .before .before .before .before .before .before .before .before .front .given .1) (c .before .before .before .before .before .before .before .before .before .entry-line .ensures (c .before .before .before .before .before .before .before .before .before .before .before .before .before .before .before .before .loop .inv .2) (st .ready)) (c .before .before .before .before .before .before .before .if1 .left), st .sized)
+
+-- src/lib.rt:135:16
+add-depths-2 : tie.Need-add-depths-2 Inv-loop μ-loop
+add-depths-2 c = let st = c .before .before .before .before .before .before .before .before .before .before .before .before .before .before .before .before .loop .inv .3 in omega (arith, standing-room st (c .before .before .before .before .before .before .before .before .before .before .before .before .before .before .front .given .1) (c .before .before .before .before .before .before .before .before .before .entry-line .ensures (c .before .before .before .before .before .before .before .before .before .before .before .before .before .before .before .before .loop .inv .2) (st .ready)) (c .before .before .before .before .before .before .before .if1 .left), st .sized)
+
+-- src/lib.rt:135:9
+mul-depths-2 : tie.Need-mul-depths-2 Inv-loop μ-loop
+mul-depths-2 c = let st = c .before .before .before .before .before .before .before .before .before .before .before .before .before .before .before .before .loop .inv .3 in omega (arith, standing-room st (c .before .before .before .before .before .before .before .before .before .before .before .before .before .before .front .given .1) (c .before .before .before .before .before .before .before .before .before .entry-line .ensures (c .before .before .before .before .before .before .before .before .before .before .before .before .before .before .before .before .loop .inv .2) (st .ready)) (c .before .before .before .before .before .before .before .if1 .left), st .sized)
+
+-- src/lib.rt:135:9
+array-write-depths : tie.Need-array-write-depths Inv-loop μ-loop
+array-write-depths c = let st = c .before .before .before .before .before .before .before .before .before .before .before .before .before .before .before .before .loop .inv .3 in omega (arith, standing-room st (c .before .before .before .before .before .before .before .before .before .before .before .before .before .before .front .given .1) (c .before .before .before .before .before .before .before .before .before .entry-line .ensures (c .before .before .before .before .before .before .before .before .before .before .before .before .before .before .before .before .loop .inv .2) (st .ready)) (c .before .before .before .before .before .before .before .if1 .left), st .sized)
+
+-- src/lib.rt:85:5
 loop-less : tie.Need-loop-less Inv-loop μ-loop
 loop-less c = let st = c .before .before .before .before .before .before .before .before .before .before .before .before .before .before .before .before .before .loop .inv .3 in let v = (c .before .before .before .before .before .values .ensures _ _ _ (standing-begun st (c .before .before .before .before .before .before .before .before .before .before .before .before .before .before .before .front .given .1) (c .before .before .before .before .before .before .before .before .before .before .entry-line .ensures (c .before .before .before .before .before .before .before .before .before .before .before .before .before .before .before .before .before .loop .inv .2) (st .ready)) (c .before .before .before .before .before .before .before .before .if1 .left))) .stopped (c .before .if2 .left) in omega (arith, v .1 .start, v .1 .within, st .within)
 
--- src/lib.rt:63:5
+-- src/lib.rt:85:5
 loop-again : tie.Need-loop-again Inv-loop μ-loop
 loop-again c = let st = c .before .before .before .before .before .before .before .before .before .before .before .before .before .before .before .before .before .loop .inv .3 in let v = (c .before .before .before .before .before .values .ensures _ _ _ (standing-begun st (c .before .before .before .before .before .before .before .before .before .before .before .before .before .before .before .front .given .1) (c .before .before .before .before .before .before .before .before .before .before .entry-line .ensures (c .before .before .before .before .before .before .before .before .before .before .before .before .before .before .before .before .before .loop .inv .2) (st .ready)) (c .before .before .before .before .before .before .before .before .if1 .left))) .stopped (c .before .if2 .left) in (_, _, v .0, standing-on st (c .before .before .before .before .before .before .before .before .before .before .before .before .before .before .before .front .given .1) (c .before .before .before .before .before .before .before .before .before .before .entry-line .ensures (c .before .before .before .before .before .before .before .before .before .before .before .before .before .before .before .before .before .loop .inv .2) (st .ready)) (c .before .before .before .before .before .before .before .before .if1 .left) (v .1))
 
@@ -206,6 +206,18 @@ entries-spec =
     entry-line-requires
     refused-requires-2
     returns-2
+    mul-marks
+    array-write-marks
+    add-heads
+    mul-heads
+    array-write-heads
+    add-notes
+    add-values
+    slice-aggregate-values
+    slice-aggregate-values-2
+    values-requires
+    refused-requires-3
+    returns-3
     mul-notes
     element-write-notes
     mul-notes-2
@@ -214,24 +226,12 @@ entries-spec =
     element-write-notes-3
     mul-notes-4
     element-write-notes-4
-    add-notes
+    add-notes-2
     mul-depths
     array-read-depths
     add-depths
     add-depths-2
     mul-depths-2
     array-write-depths
-    mul-marks
-    array-write-marks
-    add-heads
-    mul-heads
-    array-write-heads
-    add-t49
-    add-values
-    slice-aggregate-values
-    slice-aggregate-values-2
-    values-requires
-    refused-requires-3
-    returns-3
     loop-less
     loop-again)
