@@ -1,1 +1,3 @@
 pub mod Read
+pub mod Kinds
+pub mod Columns

@@ -7,7 +7,7 @@ use native.Mathlib.Omega.{arith}
 use native.Mathlib.Nat.{pow-suc}
 use lib.Dec.{leb, ltb, eqb}
 use lib.ListN.{length, getD, take, drop, length-append, length-drop, drop-of-length-le}
-use lib.Seq.{take-at, drop-at, getD-at, drop-drop}
+use lib.Seq.{length-take-le, take-at, drop-at, getD-at, drop-drop}
 use borrow.Author.Tests.{eq-eqb, ne-eqb, le-leb, lt-leb, lt-ltb, le-ltb, ltb-true, leb-true, eqb-true, eqb-false}
 use Rattle.rules.specs.Lists.{gather}
 use Rattle.rules.specs.Sheet.{Bytes, Line, line, strip, digits, numeral, columnOf, columnAt, whole, frontOf, valueOf, restOf, Sheet, end, broken, row, byFront, linesWithin, lines, leading, column, numbers, lineBytes, print}
@@ -114,6 +114,9 @@ module _ (w : ℕ) (s : Bytes) (i : ℕ) where
 
   pub taken-fits : {k a b c l : ℕ} → frontOf w (drop i s) ≡ Taken k a b c l → (l ≤ 64) × (i + (5 * w + 1 + l) ≤ length s)
   taken-fits e = let h = front-fits w (drop i s) e in omega (arith, h .0, simp length-drop at (h .1))
+
+  pub taken-length : {k a b c l : ℕ} → frontOf w (drop i s) ≡ Taken k a b c l → length (valueOf w l (drop i s)) ≡ l
+  taken-length {l = l} e = let h = front-fits w (drop i s) e in length-take-le l (drop (5 * w) (drop i s)) (rw length-drop (omega (arith, h .1)))
 
 -- ---- lengths
 

@@ -9,7 +9,7 @@ use Rattle.sheet.proofs.front.Statement.{statement}
 use Rattle.sheet.proofs.front.Tie as tie
 use Rattle.sheet.proofs.front.Reads as reads
 use Rattle.sheet.proofs.front.Lts as lts
-use Rattle.sheet.proofs.column_at.Reads as column-at-reads
+use Rattle.sheet.proofs.column.column_at.Reads as column-at-reads
 use Rattle.sheet.proofs.framed.Reads as framed-reads
 
 -- src/lib.rt:96:9

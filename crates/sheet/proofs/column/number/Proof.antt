@@ -1,0 +1,80 @@
+-- The digits before `i` are in `v`, which has at most `i` digits.
+use Prim.Native.Nat.{ℕ, _+_, _-_, _*_, _^_, _≤_, _<_}
+use mathlib.Core.Path.{_≡_, refl, sym, _∙_}
+use native.Mathlib.Omega.{arith}
+use lib.ListN.{length, drop}
+use Rattle.rules.specs.Sheet.{digits}
+use Rattle.sheet.specs.Read.{digits-low, digits-high, digits-on, digits-end, digit-room, power-room, power-positive}
+use borrow.Author.Needs.{needs}
+use Rattle.sheet.proofs.column.number.Statement.{statement}
+use Rattle.sheet.proofs.column.number.Tie as tie
+use Rattle.sheet.proofs.column.number.Reads as reads
+use Rattle.sheet.proofs.column.number.Lts as lts
+
+abbrev Inv-loop : tie.InvT-loop
+Inv-loop s from v₀ i₀ v i = (i ≤ length s) × (v < 10 ^ i) × (digits v (drop i s) ≡ digits 0 (drop from s))
+
+abbrev μ-loop : tie.MeasureT-loop
+μ-loop s from v₀ i₀ v i = length s - i
+
+-- src/lib.rt:31:5
+loop-holds : tie.Need-loop-holds Inv-loop μ-loop
+loop-holds c = (search needs, power-positive _, refl)
+
+-- src/lib.rt:32:17
+shared-slice-read-b : tie.Need-shared-slice-read-b Inv-loop μ-loop
+shared-slice-read-b c = search needs
+
+-- src/lib.rt:34:13
+returns : tie.Need-returns Inv-loop μ-loop
+returns c = sym (digits-low _ _ (c .before .before .loop-test .taken) _ (c .if1 .taken)) ∙ c .before .before .before .loop .inv .2
+
+-- src/lib.rt:37:13
+returns-2 : tie.Need-returns-2 Inv-loop μ-loop
+returns-2 c = sym (digits-high _ _ (c .before .before .before .loop-test .taken) _ (c .if2 .taken)) ∙ c .before .before .before .before .loop .inv .2
+
+-- src/lib.rt:39:13
+mul-v : tie.Need-mul-v Inv-loop μ-loop
+mul-v c = omega (arith, power-room _ _ 17 (c .before .before .before .before .loop .inv .1) (omega arith))
+
+-- src/lib.rt:39:23
+cast-v : tie.Need-cast-v Inv-loop μ-loop
+cast-v c = search needs
+
+-- src/lib.rt:39:13
+add-v : tie.Need-add-v Inv-loop μ-loop
+add-v c = omega (arith, power-room _ _ 17 (c .before .before .before .before .loop .inv .1) (omega arith))
+
+-- src/lib.rt:40:9
+add-i : tie.Need-add-i Inv-loop μ-loop
+add-i c = search needs
+
+-- src/lib.rt:31:5
+loop-less : tie.Need-loop-less Inv-loop μ-loop
+loop-less c = search needs
+
+-- src/lib.rt:31:5
+loop-again : tie.Need-loop-again Inv-loop μ-loop
+loop-again c = (search needs, digit-room _ _ _ (c .before .before .before .before .loop .inv .1) (omega arith), sym (digits-on _ _ (c .before .before .before .loop-test .taken) _ (c .before .if1 .left) (c .if2 .left)) ∙ c .before .before .before .before .loop .inv .2)
+
+-- src/lib.rt:25:1
+returns-3 : tie.Need-returns-3 Inv-loop μ-loop
+returns-3 c = sym (digits-end _ _ _ (c .loop-test .left)) ∙ c .before .loop .inv .2
+
+pub number-spec : {M : Type 1} → statement M
+number-spec =
+    tie.close
+    (tie.spec
+    Inv-loop
+    μ-loop
+    loop-holds
+    shared-slice-read-b
+    returns
+    returns-2
+    mul-v
+    cast-v
+    add-v
+    add-i
+    loop-less
+    loop-again
+    returns-3)

@@ -1,0 +1,57 @@
+-- The three ways of a numeral: nothing after the spaces, a zero with more after it, or digits.
+use denote.Ref.{now}
+use mathlib.Core.Path.{sym, _∙_}
+use mathlib.Core.Logic.{⊎-elim}
+use native.Mathlib.Omega.{arith}
+use Rattle.sheet.specs.Read.{column-empty, column-zero, column-one, column-many}
+use borrow.Author.Needs.{needs}
+use Rattle.sheet.proofs.column.numeral.Statement.{statement}
+use Rattle.sheet.proofs.column.numeral.Tie as tie
+use Rattle.sheet.proofs.column.numeral.Reads as reads
+use Rattle.sheet.proofs.column.numeral.Lts as lts
+use Rattle.sheet.proofs.column.number.Reads as number-reads
+use Rattle.sheet.proofs.column.spaces.Reads as spaces-reads
+
+-- src/lib.rt:50:9
+spaces-requires : tie.Need-spaces-requires
+spaces-requires c κs = search needs
+
+-- src/lib.rt:52:9
+returns : tie.Need-returns
+returns c = sym (column-empty (now (c .before .before .before .args .s)) (c .before .spaces .result) (c .before .spaces .ensures .1) (omega arith))
+
+-- src/lib.rt:54:8
+shared-slice-read-if2 : tie.Need-shared-slice-read-if2
+shared-slice-read-if2 c = search needs
+
+-- src/lib.rt:55:12
+add-if3 : tie.Need-add-if3
+add-if3 c = search needs
+
+-- src/lib.rt:56:13
+returns-2 : tie.Need-returns-2
+returns-2 c = sym (column-zero _ _ (c .before .before .before .before .spaces .ensures .1) (c .before .if2 .taken) (c .if3 .taken))
+
+-- src/lib.rt:59:5
+number-requires : tie.Need-number-requires
+number-requires c κs = search needs
+
+-- src/lib.rt:46:1
+returns-3 : tie.Need-returns-3
+returns-3 c =
+    let l = now (c .before .before .before .before .before .before .args .s) in
+    let k = c .before .before .before .before .spaces .result in
+    let e = c .before .before .before .before .spaces .ensures .1 in
+    c .number .ensures ∙ sym (⊎-elim (λ w. column-one l k e (omega arith) (w .1 .left)) (λ w. column-many l k e (omega arith) (w .left)) (c .before .if2 .came))
+
+pub numeral-spec : {M : Type 1} → statement M
+numeral-spec =
+    tie.close
+    (tie.spec
+    spaces-requires
+    returns
+    shared-slice-read-if2
+    add-if3
+    returns-2
+    number-requires
+    returns-3)

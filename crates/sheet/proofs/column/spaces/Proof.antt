@@ -1,0 +1,60 @@
+-- The spaces before `i` are stripped; the loop stops at the first other byte, or at the end.
+use Prim.Native.Nat.{ℕ, _+_, _-_, _≤_, _<_}
+use mathlib.Core.Path.{_≡_, refl, sym, _∙_}
+use native.Mathlib.Omega.{arith}
+use lib.ListN.{length, drop, drop-of-length-le}
+use Rattle.rules.specs.Sheet.{strip}
+use Rattle.sheet.specs.Read.{strip-space, strip-stop, strip-end}
+use borrow.Author.Needs.{needs}
+use Rattle.sheet.proofs.column.spaces.Statement.{statement}
+use Rattle.sheet.proofs.column.spaces.Tie as tie
+use Rattle.sheet.proofs.column.spaces.Reads as reads
+use Rattle.sheet.proofs.column.spaces.Lts as lts
+
+abbrev Inv-loop : tie.InvT-loop
+Inv-loop s i₀ i = (i ≤ length s) × (strip (drop i s) ≡ strip s)
+
+abbrev μ-loop : tie.MeasureT-loop
+μ-loop s i₀ i = length s - i
+
+-- src/lib.rt:15:5
+loop-holds : tie.Need-loop-holds Inv-loop μ-loop
+loop-holds c = search needs
+
+-- src/lib.rt:16:12
+shared-slice-read-if1 : tie.Need-shared-slice-read-if1 Inv-loop μ-loop
+shared-slice-read-if1 c = search needs
+
+-- src/lib.rt:17:13
+returns : tie.Need-returns Inv-loop μ-loop
+returns c = (search needs, sym (strip-stop _ _ (c .before .before .loop-test .taken) (c .if1 .taken)) ∙ c .before .before .before .loop .inv .1)
+
+-- src/lib.rt:19:9
+add-i : tie.Need-add-i Inv-loop μ-loop
+add-i c = search needs
+
+-- src/lib.rt:15:5
+loop-less : tie.Need-loop-less Inv-loop μ-loop
+loop-less c = search needs
+
+-- src/lib.rt:15:5
+loop-again : tie.Need-loop-again Inv-loop μ-loop
+loop-again c = (search needs, sym (strip-space _ _ (c .before .before .loop-test .taken) (c .if1 .left)) ∙ c .before .before .before .loop .inv .1)
+
+-- src/lib.rt:11:1
+returns-2 : tie.Need-returns-2 Inv-loop μ-loop
+returns-2 c = (search needs, (drop-of-length-le _ (c .loop-test .left) ∙ sym (strip-end _ _ (c .loop-test .left))) ∙ c .before .loop .inv .1)
+
+pub spaces-spec : {M : Type 1} → statement M
+spaces-spec =
+    tie.close
+    (tie.spec
+    Inv-loop
+    μ-loop
+    loop-holds
+    shared-slice-read-if1
+    returns
+    add-i
+    loop-less
+    loop-again
+    returns-2)
