@@ -1,0 +1,18 @@
+-- By the test.
+use borrow.Author.Tests.{le-leb, lt-leb}
+use Rattle.permissions.specs.Steps.{rankOf}
+use Rattle.permissions.proofs.row.rank.Statement.{statement}
+use Rattle.permissions.proofs.row.rank.Tie as tie
+use Rattle.permissions.proofs.row.rank.Reads as reads
+use Rattle.permissions.proofs.row.rank.Lts as lts
+
+returns : tie.Need-returns
+unfolding rankOf
+returns c = rw (le-leb 2 _ (c .if1 .taken))
+
+returns-2 : tie.Need-returns-2
+unfolding rankOf
+returns-2 c = rw (lt-leb 2 _ (c .if1 .left))
+
+pub rank-spec : {M : Type 1} → statement M
+rank-spec = tie.close (tie.spec returns returns-2)

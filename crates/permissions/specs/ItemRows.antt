@@ -1,0 +1,101 @@
+-- The two rows of an item note the item which the rules give.
+use Prim.Native.Nat.{ℕ, zero, suc, _≤_, _<_}
+use mathlib.Core.Path.{_≡_, refl, sym, _∙_}
+use mathlib.Core.Bool.{Bool, true, false, _||_, cond}
+use native.Mathlib.Omega.{arith}
+use native.Mathlib.Nat.{not-suc-le-zero, le-of-suc-le-suc}
+use lib.Dec.{eqb, leb}
+use lib.ListN.{length, getD, length-take}
+use borrow.Author.Tests.{leb-false}
+use Rattle.rules.specs.Sheet.{Bytes}
+use Rattle.rules.specs.Decision.{rank, explicit}
+use Rattle.rules.specs.Laws.Decision.{weight}
+use Rattle.permissions.specs.Noted.{Bounded, Row, bit}
+use Rattle.permissions.specs.Steps.{rankOf, explicitOf, weightOf, rightsRow, scopesRow}
+use Rattle.permissions.specs.Item.{itemOf, TookItem}
+use Rattle.permissions.specs.declared.item.Lines.{Lines}
+
+-- ---- the weight of an item from its numbers
+
+explicit-by : (a b : Bool) → _≡_ {A = ℕ} (cond (a || b) 1 0) (cond a 1 (cond b 1 0))
+explicit-by true b = refl
+explicit-by false b = refl
+
+weight-is : (w : ℕ) (p : Bytes) (i : Lines) → weight (itemOf w p i) ≡ weightOf (i .head .a) (i .user .a) (i .target .a)
+unfolding weight rank explicit itemOf weightOf rankOf explicitOf
+weight-is w p i = rw (explicit-by (eqb (i .target .a) 3) (eqb (i .target .a) 5))
+
+pub rank-small : (who : ℕ) → rankOf who ≤ 2
+unfolding rankOf
+rank-small who = go (leb 2 who) refl
+  where
+    go : (t : Bool) → leb 2 who ≡ t → cond t 2 who ≤ 2
+    go true e = omega arith
+    go false e = omega (arith, leb-false 2 who e)
+
+pub explicit-small : (what : ℕ) → explicitOf what ≤ 1
+unfolding explicitOf
+explicit-small what = go (eqb what 3) (eqb what 5)
+  where
+    go : (a b : Bool) → cond a 1 (cond b 1 0) ≤ 1
+    go true b = omega arith
+    go false true = omega arith
+    go false false = omega arith
+
+pub weight-small : (precedence who what : ℕ) → precedence ≤ 255 → weightOf precedence who what ≤ 1535
+unfolding weightOf
+weight-small precedence who what h = omega (arith, rank-small who, explicit-small what)
+
+-- ---- the rows
+
+pub rights-long : (i : Lines) → length (rightsRow i) ≡ 8
+unfolding rightsRow
+rights-long i = refl
+
+pub scopes-long : (i : Lines) → length (scopesRow i) ≡ 6
+unfolding scopesRow
+scopes-long i = refl
+
+bit-is : (n : ℕ) → n ≤ 1 → n ≡ bit (eqb n 1)
+bit-is zero h = refl
+bit-is (suc zero) h = refl
+bit-is (suc (suc n)) h = absurd (not-suc-le-zero (le-of-suc-le-suc h))
+
+module _ (w : ℕ) (p : Bytes) (i : Lines) (t : TookItem w p i) where
+  bounded : Bounded (itemOf w p i)
+  unfolding itemOf
+  bounded = record {
+    precedence = t .precedence;
+    weight = rw (weight-is w p i) (weight-small (i .head .a) (i .user .a) (i .target .a) (t .precedence));
+    level = t .level;
+    base = omega (arith, t .base-count, t .base-few);
+    who = t .who;
+    user = omega (arith, t .user-count, t .user-few);
+    what = t .what;
+    type = t .type;
+    value = simp length-take (omega (arith, t .value-length));
+    permissions = t .permissions;
+  }
+
+  pub row-is : (right scope : ℕ → ℕ) → ((j : ℕ) → j < 8 → right j ≡ getD (rightsRow i) j 0) → ((j : ℕ) → j < 6 → scope j ≡ getD (scopesRow i) j 0)
+      → Row w p (itemOf w p i) right scope
+  unfolding itemOf rightsRow scopesRow
+  row-is right scope r s = record {
+    bounded = bounded;
+    weight = r 0 (omega arith) ∙ sym (weight-is w p i);
+    level = r 1 (omega arith);
+    grants = r 2 (omega arith) ∙ bit-is (i .head .c) (t .grants);
+    what = r 3 (omega arith);
+    type = r 4 (omega arith);
+    permissions = r 5 (omega arith);
+    value = rw (r 6 (omega arith), r 7 (omega arith));
+    value-within = rw (r 6 (omega arith), r 7 (omega arith)) (t .value-within);
+    below = s 0 (omega arith) ∙ bit-is (i .base .a) (t .below);
+    base = rw (s 1 (omega arith), s 2 (omega arith));
+    base-parts = s 2 (omega arith) ∙ sym (t .base-count);
+    base-within = rw (s 1 (omega arith)) (t .base-within);
+    who = s 3 (omega arith);
+    user = rw (s 4 (omega arith), s 5 (omega arith));
+    user-parts = s 5 (omega arith) ∙ sym (t .user-count);
+    user-within = rw (s 4 (omega arith)) (t .user-within);
+  }

@@ -1,0 +1,96 @@
+// The permission sheet, judged in one pass: its refusal number, or its items as rows of numbers. Names and values are noted by their
+// positions on the sheet, so that a question about a permission reads numbers and seldom bytes.
+mod item;
+mod line;
+mod row;
+
+ghost use mathlib.Core.Path.{_≡_};
+ghost use Prim.Native.Nat.{_≤_};
+ghost use Rattle.permissions.specs.Noted.{Judged};
+ghost use Rattle.permissions.specs.Noted as Noted;
+
+// The places of an item's numbers in its row of rights, and the length of the row.
+pub const WEIGHT: usize = 0;
+
+pub const LEVEL: usize = 1;
+
+pub const GRANTS: usize = 2;
+
+pub const WHAT: usize = 3;
+
+pub const TYPE: usize = 4;
+
+pub const PERMISSIONS: usize = 5;
+
+pub const VALUE: usize = 6;
+
+pub const LENGTH: usize = 7;
+
+pub const RIGHTS: usize = 8;
+
+// The places of its numbers in its row of scopes, and the length of the row.
+pub const BELOW: usize = 0;
+
+pub const BASE: usize = 1;
+
+pub const BASE_PARTS: usize = 2;
+
+pub const WHO: usize = 3;
+
+pub const USER: usize = 4;
+
+pub const USER_PARTS: usize = 5;
+
+pub const SCOPES: usize = 6;
+
+// The refusal number (0: none), and the items: 256 rows of rights and 256 rows of scopes.
+pub struct Items {
+    pub refusal: u64,
+    pub count: usize,
+    pub rights: [u64; 2048],
+    pub scopes: [u64; 1536],
+}
+
+// No items, but a refusal number.
+fn refused(number: u64) -> Items
+    ensures { λ r. ⌜ r ≡ Noted.refused number ⌝ }
+{
+    Items {
+        refusal: number,
+        count: 0,
+        rights: [0; 2048],
+        scopes: [0; 1536],
+    }
+}
+
+// The permission sheet `p`, in columns of `w` bytes, judged against the schema.
+pub fn judge(p: &[u8], w: usize, schema: &[u64]) -> Items
+    requires { ⌜ w ≤ 18 ⌝ }
+    ensures { λ r. ⌜ Judged w (now (p .entry)) (now (schema .entry)) r ⌝ }
+{
+    if 65536 < p.len() {
+        return refused(11);
+    }
+    let mut rights: [u64; 2048] = [0; 2048];
+    let mut scopes: [u64; 1536] = [0; 1536];
+    let mut count: usize = 0;
+    let mut at: usize = 0;
+    while at < p.len() {
+        if 256 <= count {
+            return refused(line::surplus_at(p, at, w));
+        }
+        let lines = item::item_at(p, at, w, schema);
+        if lines.mask.refusal != 0 {
+            return refused(lines.mask.refusal);
+        }
+        row::note(&mut rights, &mut scopes, count, lines);
+        count += 1;
+        at = lines.mask.next;
+    }
+    Items {
+        refusal: 0,
+        count,
+        rights,
+        scopes,
+    }
+}

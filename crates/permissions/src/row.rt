@@ -1,0 +1,91 @@
+// The rows of an item's numbers, and their places in the arrays of all rows.
+use super::item::Lines;
+ghost use mathlib.Core.Path.{_≡_};
+ghost use Prim.Native.Nat.{_+_, _*_, _≤_, _<_};
+ghost use lib.ListN.{length};
+ghost use Rattle.permissions.specs.Steps.{rankOf, explicitOf, weightOf, rightsRow, scopesRow, putAt};
+
+// "Named or the entry itself, then at or below a name, then all users".
+fn rank(who: u64) -> u64
+    ensures { λ r. ⌜ r ≡ rankOf who ⌝ }
+{
+    if 2 <= who {
+        return 2;
+    }
+    who
+}
+
+// "Names the type (3) or the value (5) explicitly".
+fn explicit(what: u64) -> u64
+    ensures { λ r. ⌜ r ≡ explicitOf what ⌝ }
+{
+    if what == 3 {
+        return 1;
+    }
+    if what == 5 {
+        return 1;
+    }
+    0
+}
+
+// Precedence, then rank, then explicitness as one number.
+fn weight(precedence: u64, who: u64, what: u64) -> u64
+    requires { ⌜ precedence ≤ 255 ⌝ }
+    ensures { λ r. ⌜ r ≡ weightOf precedence who what ⌝ }
+{
+    (precedence * 3 + rank(who)) * 2 + explicit(what)
+}
+
+// What a question about a permission touches.
+fn rights_row(lines: Lines) -> [u64; 8]
+    requires { ⌜ lines .head .a ≤ 255 ⌝ }
+    ensures { λ r. ⌜ r ≡ rightsRow lines ⌝ }
+{
+    let mut row: [u64; 8] = [0; 8];
+    row[super::WEIGHT] = weight(lines.head.a, lines.user.a, lines.target.a);
+    row[super::LEVEL] = lines.head.b;
+    row[super::GRANTS] = lines.head.c;
+    row[super::WHAT] = lines.target.a;
+    row[super::TYPE] = lines.target.b;
+    row[super::PERMISSIONS] = lines.mask.a;
+    row[super::VALUE] = lines.target.at as u64;
+    row[super::LENGTH] = lines.target.length as u64;
+    row
+}
+
+// Which entries and which users it is for.
+fn scopes_row(lines: Lines) -> [u64; 6]
+    ensures { λ r. ⌜ r ≡ scopesRow lines ⌝ }
+{
+    let mut row: [u64; 6] = [0; 6];
+    row[super::BELOW] = lines.base.a;
+    row[super::BASE] = lines.base.next as u64;
+    row[super::BASE_PARTS] = lines.base.b;
+    row[super::WHO] = lines.user.a;
+    row[super::USER] = lines.user.next as u64;
+    row[super::USER_PARTS] = lines.user.b;
+    row
+}
+
+// `row` into `rows` from `at` on.
+fn put(rows: &mut [u64], at: usize, row: &[u64])
+    requires { ⌜ at + length (now row) ≤ length (now rows) ⌝ }
+    ensures { λ _. ⌜ now (rows .exit) ≡ putAt (now (rows .entry)) at (now (row .entry)) ⌝ }
+{
+    let mut i: usize = 0;
+    while i < row.len() {
+        rows[at + i] = row[i];
+        i += 1;
+    }
+}
+
+// The rows of item number `k` (from 0) into the arrays.
+pub fn note(rights: &mut [u64], scopes: &mut [u64], k: usize, lines: Lines)
+    requires { ⌜ (k < 256) × (length (now rights) ≡ 2048) × (length (now scopes) ≡ 1536) × (lines .head .a ≤ 255) ⌝ }
+    ensures { λ _. ⌜ (now (rights .exit) ≡ putAt (now (rights .entry)) (k * 8) (rightsRow lines)) × (now (scopes .exit) ≡ putAt (now (scopes .entry)) (k * 6) (scopesRow lines)) ⌝ }
+{
+    let right = rights_row(lines);
+    let scope = scopes_row(lines);
+    put(rights, k * super::RIGHTS, &right);
+    put(scopes, k * super::SCOPES, &scope);
+}
