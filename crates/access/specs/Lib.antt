@@ -1,0 +1,4 @@
+pub mod Entries
+pub mod Chosen
+pub mod Reach
+pub mod Grants
