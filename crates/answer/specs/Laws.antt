@@ -1,0 +1,134 @@
+-- Laws of `Emit`: lines after lines are lines, all are written where all fit, and nothing changes in an empty buffer.
+use Prim.Native.Nat.{ℕ, _+_, _*_, _≤_, _<_}
+use native.Mathlib.Nat.{zero-add}
+use mathlib.Core.Path.{_≡_, refl, sym, ap, _∙_}
+use mathlib.Core.List.{List, [], _∷_, _++_, append-assoc, append-nil}
+use native.Mathlib.Omega.{arith}
+use native.Mathlib.Decide.{decLt}
+use lib.ListN.{length, take, drop, length-append, length-drop, take-append-drop}
+use lib.Seq.{length-take-le}
+use borrow.Author.Tests.{lt-ltb, le-ltb}
+use Rattle.rules.specs.Sheet.{Bytes, Line, lineBytes, print}
+use Rattle.rules.specs.Laws.Sheet.{line-length}
+use Rattle.sheet.specs.Put.{putAt}
+use Rattle.sheet.specs.Laws.Put.{put-append}
+use Rattle.answer.specs.Emit.{emitAt, emitLines, Emits}
+
+-- ---- one part
+
+put-none : (d : Bytes) (at : ℕ) → putAt d at [] ≡ d
+unfolding putAt
+put-none d at = let e : at + 0 ≡ at = omega arith in rw (append-nil (take at d), e) (take-append-drop at d)
+
+put-length : (d : Bytes) (at : ℕ) (s : Bytes) → at + length s ≤ length d → length (putAt d at s) ≡ length d
+unfolding putAt
+put-length d at s h =
+    let t : length (take at d) ≡ at = length-take-le at d (omega arith) in
+    length-append (take at d ++ s) (drop (at + length s) d) ∙ rw (length-append (take at d) s, t, length-drop (at + length s) d) (omega arith)
+
+-- a part from the first byte on
+pub put-front : (d s : Bytes) → putAt d 0 s ≡ s ++ drop (length s) d
+unfolding putAt
+put-front d s = rw (zero-add (length s))
+
+pub emit-fits : (d : Bytes) (at : ℕ) (s : Bytes) → at + length s ≤ length d → emitAt d at s ≡ putAt d at s
+unfolding emitAt
+emit-fits d at s h = rw (le-ltb (length d) (at + length s) h)
+
+pub emit-not : (d : Bytes) (at : ℕ) (s : Bytes) → length d < at + length s → emitAt d at s ≡ d
+unfolding emitAt
+emit-not d at s h = rw (lt-ltb (length d) (at + length s) h)
+
+emit-length : (d : Bytes) (at : ℕ) (s : Bytes) → length (emitAt d at s) ≡ length d
+emit-length d at s = go (decLt (length d) (at + length s))
+  where
+    go : Dec (length d < at + length s) → length (emitAt d at s) ≡ length d
+    go (yes h) = ap length (emit-not d at s h)
+    go (no h) = ap length (emit-fits d at s (omega arith)) ∙ put-length d at s (omega arith)
+
+-- ---- lines after lines
+
+print-append : (w : ℕ) (xs ys : List Line) → print w (xs ++ ys) ≡ print w xs ++ print w ys
+unfolding print
+print-append w [] ys = refl
+print-append w (x ∷ xs) ys = ap (λ (r : Bytes). lineBytes w x ++ r) (print-append w xs ys) ∙ sym (append-assoc (lineBytes w x) (print w xs) (print w ys))
+
+print-cons : (w : ℕ) (x : Line) (ls : List Line) → length (print w (x ∷ ls)) ≡ length (lineBytes w x) + length (print w ls)
+unfolding print
+print-cons w x ls = length-append (lineBytes w x) (print w ls)
+
+print-none : (w : ℕ) → print w [] ≡ []
+unfolding print
+print-none w = refl
+
+print-more : (w : ℕ) (x : Line) (ls : List Line) → print w (x ∷ ls) ≡ lineBytes w x ++ print w ls
+unfolding print
+print-more w x ls = refl
+
+lines-append : (w : ℕ) (d : Bytes) (at : ℕ) (xs ys : List Line) → emitLines w d at (xs ++ ys) ≡ emitLines w (emitLines w d at xs) (at + length (print w xs)) ys
+unfolding emitLines
+lines-append w d at [] ys = let z : at + length (print w []) ≡ at = rw (print-none w) (omega arith) in rw z
+lines-append w d at (x ∷ xs) ys =
+    let n : (at + length (lineBytes w x)) + length (print w xs) ≡ at + length (print w (x ∷ xs)) = rw (print-cons w x xs) (omega arith) in
+    lines-append w (emitAt d at (lineBytes w x)) (at + length (lineBytes w x)) xs ys ∙ rw n
+
+module _ (w : ℕ) (d : Bytes) (at : ℕ) where
+  pub emits-none : Emits w d at [] d at
+  unfolding emitLines print
+  emits-none = record { bytes = refl; next = omega arith }
+
+  pub emits-one : (x : Line) {d′ : Bytes} {r : ℕ} → d′ ≡ emitAt d at (lineBytes w x) → r ≡ at + length (lineBytes w x) → Emits w d at (x ∷ []) d′ r
+  unfolding emitLines
+  emits-one x e n =
+      let q : print w (x ∷ []) ≡ lineBytes w x = print-more w x [] ∙ rw (print-none w) (append-nil (lineBytes w x)) in
+      let l : length (print w (x ∷ [])) ≡ length (lineBytes w x) = ap length q in
+      record { bytes = e; next = omega (arith, n, l) }
+
+  pub emits-append : (xs ys : List Line) {d₁ d₂ : Bytes} {n r : ℕ} → Emits w d at xs d₁ n → Emits w d₁ n ys d₂ r → Emits w d at (xs ++ ys) d₂ r
+  emits-append xs ys {d₁} {d₂} {n} {r} p q = record {
+    bytes = q .bytes ∙ rw (p .bytes, p .next) (sym (lines-append w d at xs ys));
+    next = let l : length (print w (xs ++ ys)) ≡ length (print w xs) + length (print w ys) = ap length (print-append w xs ys) ∙ length-append (print w xs) (print w ys) in
+        omega (arith, l, p .next, q .next);
+  }
+
+  -- a line that fits is written
+  pub emits-written : (x : Line) {d′ : Bytes} {r : ℕ} → at + (5 * w + 1 + length (x .bytes)) ≤ length d → d′ ≡ putAt d at (lineBytes w x)
+      → r ≡ at + (5 * w + 1 + length (x .bytes)) → Emits w d at (x ∷ []) d′ r
+  emits-written x h e n =
+      let l : length (lineBytes w x) ≡ 5 * w + 1 + length (x .bytes) = line-length w x in
+      emits-one x (e ∙ sym (emit-fits d at (lineBytes w x) (omega arith))) (omega arith)
+
+  -- a line that does not fit is not, and the place is moved all the same
+  pub emits-not : (x : Line) {r : ℕ} → length d < at + (5 * w + 1 + length (x .bytes)) → r ≡ at + (5 * w + 1 + length (x .bytes)) → Emits w d at (x ∷ []) d r
+  emits-not x h n =
+      let l : length (lineBytes w x) ≡ 5 * w + 1 + length (x .bytes) = line-length w x in
+      emits-one x (sym (emit-not d at (lineBytes w x) (omega arith))) (omega arith)
+
+-- ---- all of them, or none
+
+pub lines-length : (w : ℕ) (d : Bytes) (at : ℕ) (ls : List Line) → length (emitLines w d at ls) ≡ length d
+unfolding emitLines
+lines-length w d at [] = refl
+lines-length w d at (x ∷ ls) = lines-length w (emitAt d at (lineBytes w x)) (at + length (lineBytes w x)) ls ∙ emit-length d at (lineBytes w x)
+
+-- where all lines fit, all are written
+pub emit-all : (w : ℕ) (d : Bytes) (at : ℕ) (ls : List Line) → at + length (print w ls) ≤ length d → emitLines w d at ls ≡ putAt d at (print w ls)
+unfolding emitLines
+emit-all w d at [] h = rw (print-none w) (sym (put-none d at))
+emit-all w d at (x ∷ ls) h =
+    let s = lineBytes w x in
+    let l : length (print w (x ∷ ls)) ≡ length s + length (print w ls) = print-cons w x ls in
+    let f : at + length s ≤ length d = omega arith in
+    ap (λ (y : Bytes). emitLines w y (at + length s) ls) (emit-fits d at s f)
+    ∙ emit-all w (putAt d at s) (at + length s) ls (rw (put-length d at s f) (omega arith))
+    ∙ put-append d at s (print w ls) (at + length s) refl f
+    ∙ ap (putAt d at) (sym (print-more w x ls))
+
+-- an empty buffer does not change: a line has at least one byte
+pub emit-empty : (w : ℕ) (d : Bytes) (at : ℕ) (ls : List Line) → length d ≡ 0 → emitLines w d at ls ≡ d
+unfolding emitLines
+emit-empty w d at [] e = refl
+emit-empty w d at (x ∷ ls) e =
+    let l : length (lineBytes w x) ≡ 5 * w + 1 + length (x .bytes) = line-length w x in
+    let f : emitAt d at (lineBytes w x) ≡ d = emit-not d at (lineBytes w x) (omega arith) in
+    rw f (emit-empty w d (at + length (lineBytes w x)) ls e)
