@@ -1,4 +1,5 @@
 pub mod Entries
 pub mod Chosen
+pub mod World
 pub mod Reach
 pub mod Grants
