@@ -1,3 +1,4 @@
 pub mod Reply
 pub mod Refusals
 pub mod Judges
+pub mod Selection
