@@ -91,6 +91,14 @@ module _ (w : ℕ) (d : Bytes) (at : ℕ) where
         omega (arith, l, p .next, q .next);
   }
 
+  -- the place after one line
+  pub emits-length : (x : Line) {d′ : Bytes} {r : ℕ} → Emits w d at (x ∷ []) d′ r → r ≡ at + (5 * w + 1 + length (x .bytes))
+  emits-length x p =
+      let l : length (lineBytes w x) ≡ 5 * w + 1 + length (x .bytes) = line-length w x in
+      let m : length (print w (x ∷ [])) ≡ length (lineBytes w x) + length (print w []) = print-cons w x [] in
+      let z : length (print w []) ≡ 0 = ap length (print-none w) in
+      omega (arith, l, m, z, p .next)
+
   -- a line that fits is written
   pub emits-written : (x : Line) {d′ : Bytes} {r : ℕ} → at + (5 * w + 1 + length (x .bytes)) ≤ length d → d′ ≡ putAt d at (lineBytes w x)
       → r ≡ at + (5 * w + 1 + length (x .bytes)) → Emits w d at (x ∷ []) d′ r
