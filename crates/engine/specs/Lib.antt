@@ -2,3 +2,4 @@ pub mod Reply
 pub mod Refusals
 pub mod Judges
 pub mod Selection
+pub mod Write
