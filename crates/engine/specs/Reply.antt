@@ -1,6 +1,6 @@
 -- Document 01, "Who is refused, and why": what is returned and what the lent buffer holds, from a verdict over the answer's bytes.
-use Prim.Native.Nat.{ℕ}
-use mathlib.Core.List.{List, _++_}
+use mathlib.Core.List.{_++_}
+use mathlib.Core.Path.{_≡_}
 use lib.ListN.{length, drop}
 use Rattle.rules.specs.Sheet.{Bytes}
 use Rattle.rules.specs.Judge.{Verdict, accept, refuse}
@@ -15,3 +15,8 @@ replyOf (refuse n) = record { refusal = n; length = 0 }
 unfoldable pub leftOf : Verdict Bytes → Bytes → Bytes
 leftOf (accept bs) out = bs ++ drop (length bs) out
 leftOf (refuse n) out = out
+
+-- both: what is returned, and what the buffer holds
+pub record Replies (v : Verdict Bytes) (before : Bytes) (r : Reply) (after : Bytes) : Type 0 where
+  pub reply : r ≡ replyOf v
+  pub left : after ≡ leftOf v before
