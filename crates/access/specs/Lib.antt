@@ -1,5 +1,6 @@
 pub mod Entries
 pub mod Chosen
 pub mod World
+pub mod Names
 pub mod Reach
 pub mod Grants
