@@ -3,4 +3,5 @@ pub mod Chosen
 pub mod World
 pub mod Names
 pub mod Reach
+pub mod Scopes
 pub mod Grants
