@@ -3,3 +3,4 @@ pub mod entries;
 pub mod grant;
 pub mod names;
 pub mod reach;
+pub mod scope;
