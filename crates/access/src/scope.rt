@@ -140,10 +140,10 @@ fn spread(parents: &[usize], who: u64, below: u64, b: usize, o: usize) -> usize
     requires { ⌜ (b ≤ 256) × (o ≤ 256) ⌝ }
     ensures { λ r. ⌜ r ≡ spreadBy (now (parents .entry)) who below b o ⌝ }
 {
-    if who == 2 {
-        return own_reach(parents, below, b, o);
+    if who != 2 {
+        return base_reach(below, b);
     }
-    base_reach(below, b)
+    own_reach(parents, below, b, o)
 }
 
 // The reach of an item that is for the requester: its base of `n` parts at position `base` resolved.

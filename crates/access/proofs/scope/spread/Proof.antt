@@ -9,20 +9,20 @@ use Rattle.access.proofs.scope.base_reach.Reads as base-reach-reads
 use Rattle.access.proofs.scope.own_reach.Reads as own-reach-reads
 
 -- src/scope.rt:144:9
-own-reach-requires : tie.Need-own-reach-requires
-own-reach-requires c κs = search needs
-
--- src/scope.rt:144:9
-returns : tie.Need-returns
-returns c = unfold spreadBy in rw (eq-eqb _ _ (c .before .if1 .taken)) (c .own-reach .ensures)
-
--- src/scope.rt:146:5
 base-reach-requires : tie.Need-base-reach-requires
 base-reach-requires c κs = search needs
 
+-- src/scope.rt:144:9
+returns : tie.Need-returns
+returns c = unfold spreadBy in rw (ne-eqb _ _ (c .before .if1 .taken)) (c .base-reach .ensures)
+
+-- src/scope.rt:146:5
+own-reach-requires : tie.Need-own-reach-requires
+own-reach-requires c κs = search needs
+
 -- src/scope.rt:139:1
 returns-2 : tie.Need-returns-2
-returns-2 c = unfold spreadBy in rw (ne-eqb _ _ (c .before .if1 .left)) (c .base-reach .ensures)
+returns-2 c = unfold spreadBy in rw (eq-eqb _ _ (c .before .if1 .left)) (c .own-reach .ensures)
 
 pub spread-spec : {M : Type 1} → statement M
-spread-spec = tie.close (tie.spec own-reach-requires returns base-reach-requires returns-2)
+spread-spec = tie.close (tie.spec base-reach-requires returns own-reach-requires returns-2)
