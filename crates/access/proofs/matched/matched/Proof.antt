@@ -62,7 +62,7 @@ loop-again : tie.Need-loop-again Inv-loop μ-loop
 loop-again c = let a = c .before .before .before .before .before .before .before .before .before .before .before .before .before .before .before .before .before .before .before .before .args in
     let L = c .before .before .before .before .before .before .before .before .loop in (
       search needs,
-      c .before .before .disclosed .ensures .0 (length (now (a .at))) (c .before .before .before .before .before .before .child-at .ensures .0) (L .inv .1),
+      c .before .before .disclosed .ensures .0 (length (now (a .at))) (c .before .before .before .before .before .before .child-at .ensures .0) (omega (arith, L .inv .1, c .before .before .before .before .before .before .child-at .ensures .0)),
       way-on (now (a .schema)) (a .w) (now (a .d)) (now (a .at)) (now (a .parents)) (now (a .naming)) (now (a .lengths)) (now (a .rights)) (now (a .reach)) (now (a .q)) (a .place) (a .parts) (L .left) (L .last) (L .from) (L .j) (L .inv .2) (c .before .before .before .before .before .before .before .loop-test .taken) _ (c .before .before .before .before .before .before .child-at .ensures .1) (c .before .before .before .before .if2 .left) (c .before .before .before .before .before .before .child-at .ensures .0) _ (c .before .before .disclosed .ensures .1),
     )
 
