@@ -1,3 +1,4 @@
 pub mod Plan
 pub mod Lent
 pub mod Outcome
+pub mod Opened
