@@ -2,3 +2,4 @@ pub mod Plan
 pub mod Lent
 pub mod Outcome
 pub mod Opened
+pub mod Read
