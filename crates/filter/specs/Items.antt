@@ -75,7 +75,7 @@ module _ (σ : Setting) (n : Name) (ps : List Part) (t q : ℕ) where
   some-cong f g h =
       someValue-flat σ n ps t q f
       ∙ any-cong (λ (p : Part). eqb (p .type) t && (granted σ n (ofValue (p .type) (p .value)) q && f (p .value))) (λ (p : Part). eqb (p .type) t && (granted σ n (ofValue (p .type) (p .value)) q && g (p .value)))
-          (λ p. ap (λ (b : Bool). eqb (p .type) t && (granted σ n (ofValue (p .type) (p .value)) q && b)) (h (p .value))) ps
+      (λ p. ap (λ (b : Bool). eqb (p .type) t && (granted σ n (ofValue (p .type) (p .value)) q && b)) (h (p .value))) ps
       ∙ sym (someValue-flat σ n ps t q g)
 
   -- no value passes
@@ -104,8 +104,14 @@ module _ (σ : Setting) (ks : List ℕ) (e : σ .schema ≡ schemaOf ks) (t : �
     fits-at : (v : Bytes) → allowed (σ .schema) t v ≡ fits s v
     fits-at v = ap (λ (S : Schema). allowed S t v) e ∙ allowed-at ks t s found v
 
-    pub equal-by : (v u : Bytes) → equal (σ .schema) t v u ≡ equalBy s v u
+    equal-by : (v u : Bytes) → equal (σ .schema) t v u ≡ equalBy s v u
     equal-by v u = ap (λ (S : Schema). equal S t v u) e ∙ equal-at ks t s found v u
+
+    -- an equality item
+    pub held-by : (n : Name) (held : List Part) (q : ℕ) (v : Bytes) (ps : List Piece)
+        → someValue σ (record { name = n; held = heldOf held }) t q (passesBy s 23 ps v) ≡ someValue σ (record { name = n; held = heldOf held }) t q (λ u. equal (σ .schema) t v u)
+    unfolding passesBy
+    held-by n held q v ps = some-cong σ n held t q (λ u. equalBy s v u) (λ u. equal (σ .schema) t v u) (λ u. sym (equal-by v u))
 
     pub defined-by : (k : ℕ) (v : Bytes) (ps : List Piece) → defined σ (assertionBy k t v ps) ≡ definedBy s k ps v
     unfolding defined definedBy
@@ -136,7 +142,7 @@ module _ (σ : Setting) (ks : List ℕ) (e : σ .schema ≡ schemaOf ks) (t : �
             → cond a (fits s v) (cond b (ordered s && fits s v) (cond c (ordered s && fits s v) (cond d true (searchable s && all (λ (p : Piece). fits s (p .bytes)) ps)))) ≡ true
             → satisfied σ (record { name = n; held = heldOf held }) (cond a (equality t v) (cond b (atLeast t v) (cond c (atMost t v) (cond d (present t) (substrings t ps)))))
             ≡ cond d (holds (record { name = n; held = heldOf held }) t) (someValue σ (record { name = n; held = heldOf held }) t FilterMatch
-                (λ u. cond a (equalBy s v u) (cond b (not (isLess (order s u v))) (cond c (not (isLess (order s v u))) (contains text ps u)))))
+            (λ u. cond a (equalBy s v u) (cond b (not (isLess (order s u v))) (cond c (not (isLess (order s v u))) (contains text ps u)))))
         go true b c true x y z h = absurd (true≢false (x refl))
         go true b c false x y z h = some-cong σ n held t FilterMatch (λ u. equal (σ .schema) t v u) (λ u. equalBy s v u) (equal-by v)
         go false true c true x y z h = absurd (true≢false (y refl))
@@ -151,9 +157,9 @@ module _ (σ : Setting) (ks : List ℕ) (e : σ .schema ≡ schemaOf ks) (t : �
     by-none : (test : ℕ → Bool) → ofSyntax (σ .schema) test t ≡ false
     by-none test = by-found test ∙ rw found
 
-    pub equal-unknown : (v u : Bytes) → equal (σ .schema) t v u ≡ false
+    pub held-unknown : (n : Name) (held : List Part) (q : ℕ) (v : Bytes) → someValue σ (record { name = n; held = heldOf held }) t q (λ u. equal (σ .schema) t v u) ≡ false
     unfolding equal
-    equal-unknown v u = by-none (λ s. fits s v && (fits s u && same s v u))
+    held-unknown n held q v = some-none σ n held t q (λ u. ofSyntax (σ .schema) (λ s. fits s v && (fits s u && same s v u)) t) (λ u. by-none (λ s. fits s v && (fits s u && same s v u)))
 
     pub undefined-unknown : (k : ℕ) (v : Bytes) (ps : List Piece) → defined σ (assertionBy k t v ps) ≡ false
     unfolding defined allowed known

@@ -19,24 +19,26 @@ use Rattle.rules.specs.Places.{ValuesAt}
 abbrev pub countsBy : Setting → Name → ℕ → ℕ → (Bytes → Bool) → Part → Bool
 countsBy σ n t q test p = eqb (p .type) t && (granted σ n (ofValue (p .type) (p .value)) q && test (p .value))
 
-module _ (σ : Setting) (n : Name) (t q : ℕ) (test : Bytes → Bool) (of : ℕ) (u : Bytes) where
-  pub counts-other : (of ≡ t → ⊥) → countsBy σ n t q test (part of u) ≡ false
-  counts-other e = rw (ne-eqb of t e)
+module _ (σ : Setting) (n : Name) (t q : ℕ) (test : Bytes → Bool) (of : ℕ) where
+  pub counts-other : (x : Bytes) → (of ≡ t → ⊥) → countsBy σ n t q test (part of x) ≡ false
+  counts-other x e = rw (ne-eqb of t e)
 
-  pub counts-lost : test u ≡ false → countsBy σ n t q test (part of u) ≡ false
-  counts-lost h = rw h (go (eqb of t) (granted σ n (ofValue of u) q))
-    where
-      go : (a b : Bool) → (a && (b && false)) ≡ false
-      go true true = refl
-      go true false = refl
-      go false b = refl
+  -- the bytes were read as `u`
+  module _ (u x : Bytes) (same : u ≡ x) where
+    pub counts-lost : test u ≡ false → countsBy σ n t q test (part of x) ≡ false
+    counts-lost h = rw (← same, h) (go (eqb of t) (granted σ n (ofValue of u) q))
+      where
+        go : (a b : Bool) → (a && (b && false)) ≡ false
+        go true true = refl
+        go true false = refl
+        go false b = refl
 
-  pub counts-granted : of ≡ t → test u ≡ true → countsBy σ n t q test (part of u) ≡ granted σ n (ofValue t u) q
-  counts-granted e h = rw (eq-eqb of t e, h, e) (go (granted σ n (ofValue t u) q))
-    where
-      go : (b : Bool) → (b && true) ≡ b
-      go true = refl
-      go false = refl
+    pub counts-granted : of ≡ t → test u ≡ true → countsBy σ n t q test (part of x) ≡ granted σ n (ofValue t u) q
+    counts-granted e h = rw (← same, eq-eqb of t e, h, e) (go (granted σ n (ofValue t u) q))
+      where
+        go : (b : Bool) → (b && true) ≡ b
+        go true = refl
+        go false = refl
 
 module _ (f : Part → Bool) (d : Bytes) (ps : List Part) (types places sizes : List ℕ) (h : ValuesAt d ps types places sizes) (i : ℕ) where
   module _ (l : i < length types) where

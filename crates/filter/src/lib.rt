@@ -2,3 +2,4 @@
 // the filter's lines are read where they stand on the request.
 pub mod pieces;
 pub mod truth;
+pub mod values;
