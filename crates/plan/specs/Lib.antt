@@ -3,3 +3,4 @@ pub mod Lent
 pub mod Outcome
 pub mod Opened
 pub mod Read
+pub mod Compare
