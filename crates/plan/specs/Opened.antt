@@ -23,10 +23,11 @@ use Rattle.rules.specs.declared.Found.the-variants.{At, Nothing}
 use Rattle.access.specs.Chosen.{Chosen}
 use Rattle.access.specs.Reach.{parents-of, Selected}
 use Rattle.access.specs.World.{World}
+use Rattle.filter.specs.Seen.{Ruled, Seen}
 use Rattle.plan.specs.declared.Plan.{Plan}
 use Rattle.plan.specs.Plan.{planned}
-use Rattle.plan.specs.Lent.{Base}
-use Rattle.plan.specs.Outcome.{absentPlan, refusedPlan, absent-planned, refused-planned}
+use Rattle.plan.specs.Lent.{Base, Sound}
+use Rattle.plan.specs.Outcome.{absentPlan, refusedPlan, absent-planned, refused-planned, absent-sound, refused-sound}
 
 -- the outcome of opening: 0 with Read, else 2 with DiscloseOnError, else 1
 abbrev opening : Bool → Bool → ℕ
@@ -66,6 +67,13 @@ module _ (σ : Setting) (es : List Stored) (schema : List ℕ) (w : ℕ) (d : By
       let m : length parents ≡ length es = world .entries .parents-noted in
       h .chosen σ es k (world .accepted) (parents-of w d es at parents naming lengths (world .entries)) (world .reached) (omega arith) (omega arith)
 
+  -- as the operations are handed them, with lists whose fronts are used
+  pub seen-here : (m n : ℕ) (list types places sizes : List ℕ) → Chosen σ (getD es k blank .name) (take m list) → ValuesAt d (getD es k blank .values) (take n types) (take n places) (take n sizes)
+      → Seen σ (getD es k blank .name) (getD es k blank .values) schema w d p rights (take (m - 0) list) (take (n - 0) types) (take (n - 0) places) (take (n - 0) sizes)
+  seen-here m n list types places sizes h v =
+      rw (front m list, front n types, front n places, front n sizes)
+      record { ruled = record { scopes = scopes; schema-is = world .schema-is; rows = world .rows; chosen = h }; values = v }
+
 pub values-noted : (w : ℕ) (d : Bytes) (es : List Stored) (at parents naming lengths : List ℕ) (k : ℕ) → k < length at → EntriesAt w d es at parents naming lengths → (types places sizes : List ℕ)
     → ValuesAt d (valuesOf (linesAt w d (getD at k 0 + (5 * w + 1 + getD lengths k 0)))) types places sizes → ValuesAt d (getD es k blank .values) types places sizes
 values-noted w d es at parents naming lengths k l h types places sizes v =
@@ -84,6 +92,14 @@ module _ (op o missing : ℕ) where
   pub withheld-refused : (o ≡ 1 → ⊥) → withheldPlan op o missing ≡ refusedPlan op 2
   unfolding withheldPlan
   withheld-refused e = rw (ne-eqb o 1 e)
+
+  pub withheld-sound : (count : ℕ) (hits : List ℕ) → missing ≤ count → Sound count (withheldPlan op o missing) hits
+  unfolding withheldPlan
+  withheld-sound count hits l = go (eqb o 1)
+    where
+      go : (b : Bool) → Sound count (cond b (absentPlan op missing) (refusedPlan op 2)) hits
+      go true = absent-sound count hits op missing l
+      go false = refused-sound count hits op 2
 
 module _ (σ : Setting) (es : List Stored) (ok : Accepted (σ .schema) es) (n : Name) (base : Found) (missing : ℕ) (h : Base σ es n base missing) (op : ℕ) (f : Entry → List Line) where
   by-number : opened σ (map entryOf es) op n f (named σ (map entryOf es) n) ≡ opened σ (map entryOf es) op n f (entryBy es base)
