@@ -1,19 +1,27 @@
 // Compare: is a value of a type of an entry equal to the one given?
 use super::Plan;
+use super::opened::open_entry;
+use super::opened::values;
+use super::opened::withheld;
+use super::outcome::absent;
 use super::outcome::refused;
+use rules::Found;
 ghost use mathlib.Core.Path.{_≡_};
 ghost use Prim.Native.Nat.{ℕ, suc, _≤_, _<_};
-ghost use mathlib.Core.List.{List};
+ghost use mathlib.Core.List.{List, map};
 ghost use lib.ListN.{length, getD};
 ghost use Rattle.rules.specs.Sheet.{Bytes};
 ghost use Rattle.rules.specs.Name.{Name, Part};
 ghost use Rattle.rules.specs.Directory.{Stored, blank, heldOf, entryOf};
 ghost use Rattle.rules.specs.Decision.{Setting};
 ghost use Rattle.rules.specs.Request.{Selection};
+ghost use Rattle.rules.specs.Request as Request;
 ghost use Rattle.rules.specs.Answer as Answer;
+ghost use Rattle.rules.specs.declared.Found.the-variants.{At};
+ghost use Rattle.access.specs.World.{World};
 ghost use Rattle.filter.specs.Seen.{Seen};
 ghost use Rattle.plan.specs.Plan.{planned};
-ghost use Rattle.plan.specs.Lent.{Sound};
+ghost use Rattle.plan.specs.Lent.{Lent, Base, Numbered, Sound};
 ghost use Rattle.plan.specs.Compare.{refusal, comparison, compareOutcome, comparePlan};
 
 // The permissions by their numbers.
@@ -124,4 +132,48 @@ fn compare_open(
         v,
         COMPARE,
     ))
+}
+
+// The plan for the entry of index `k`.
+fn compare_entry(
+    schema: &[u64],
+    w: usize,
+    d: &[u8],
+    at: &[usize],
+    parents: &[usize],
+    lengths: &[usize],
+    p: &[u8],
+    rights: &[u64],
+    reach: &[usize],
+    k: usize,
+    missing: usize,
+    t: u64,
+    v: &[u8],
+    list: &mut [usize],
+    types: &mut [u64],
+    places: &mut [usize],
+    sizes: &mut [usize],
+) -> Plan
+    requires { ⌜ Lent w (now d) (now at) (now parents) (now lengths) (now reach) (now list) (now types) (now places) (now sizes) × (k < length (now at)) ⌝ }
+    ensures { λ r. ⌜ ((count : ℕ) (hits : List ℕ) → missing ≤ count → Sound count r hits) × ((σ : Setting) (es : List Stored) (naming scopes : List ℕ) (n : Name) (s : Selection) (hits : List ℕ) → World σ es (now (schema .entry)) w (now (d .entry)) (now (at .entry)) (now (parents .entry)) naming (now (lengths .entry)) (now (p .entry)) (now (rights .entry)) scopes (now (reach .entry)) → Base σ es n (At (suc k)) missing → planned σ es s r hits ≡ Answer.answer σ (map entryOf es) n (Request.compare t (now (v .entry)))) ⌝ }
+{
+    let o = open_entry(parents, rights, reach, k, list);
+    if o.outcome != 0 {
+        return withheld(2, o.outcome, missing);
+    }
+    let m = o.items;
+    let n = values(w, d, at, lengths, k, types, places, sizes);
+    compare_open(
+        schema,
+        w,
+        d,
+        p,
+        rights,
+        &list[0..m],
+        &types[0..n],
+        &places[0..n],
+        &sizes[0..n],
+        t,
+        v,
+    )
 }

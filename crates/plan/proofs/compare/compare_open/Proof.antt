@@ -27,10 +27,11 @@ refused-requires c κs = search needs
 
 -- src/compare.rt:111:9
 returns : tie.Need-returns
-returns c = let a = c .before .before .before .before .before .before .before .before .before .before .before .before .args in
-    (λ count hits. subst (λ (r : Plan). Sound count r hits) (sym (c .refused .ensures)) (refused-sound count hits 2 (c .before .before .outcome-of .result)),
-    λ σ es k s hits seen. ap (λ (r : Plan). planned σ es s r hits) (c .refused .ensures)
-      ∙ refused-compare σ es s hits (a .t) (now (a .v)) k (c .before .before .outcome-of .result) (c .before .before .outcome-of .ensures σ (getD es k blank .name) (getD es k blank .values) (a .w) (now (a .d)) (now (a .p)) (now (a .places)) (now (a .sizes)) seen) (c .before .if1 .taken))
+returns c = let a = c .before .before .before .before .before .before .before .before .before .before .before .before .args in (
+  λ count hits. subst (λ (r : Plan). Sound count r hits) (sym (c .refused .ensures)) (refused-sound count hits 2 (c .before .before .outcome-of .result)),
+  λ σ es k s hits seen. ap (λ (r : Plan). planned σ es s r hits) (c .refused .ensures)
+      ∙ refused-compare σ es s hits (a .t) (now (a .v)) k (c .before .before .outcome-of .result) (c .before .before .outcome-of .ensures σ (getD es k blank .name) (getD es k blank .values) (a .w) (now (a .d)) (now (a .p)) (now (a .places)) (now (a .sizes)) seen) (c .before .if1 .taken),
+)
 
 -- src/compare.rt:113:14
 held-equal-requires : tie.Need-held-equal-requires
@@ -42,12 +43,13 @@ compared-requires c κs = search needs
 
 -- src/compare.rt:93:1
 returns-2 : tie.Need-returns-2
-returns-2 c = let a = c .before .before .before .before .before .before .before .before .before .before .before .before .before .args in
-    (λ count hits. subst (λ (r : Plan). Sound count r hits) (sym (c .compared .ensures)) (compare-sound count (c .before .held-equal .result) hits),
-    λ σ es k s hits seen. ap (λ (r : Plan). planned σ es s r hits) (c .compared .ensures)
+returns-2 c = let a = c .before .before .before .before .before .before .before .before .before .before .before .before .before .args in (
+  λ count hits. subst (λ (r : Plan). Sound count r hits) (sym (c .compared .ensures)) (compare-sound count (c .before .held-equal .result) hits),
+  λ σ es k s hits seen. ap (λ (r : Plan). planned σ es s r hits) (c .compared .ensures)
       ∙ compared-planned σ es s hits (a .t) (now (a .v)) k (c .before .held-equal .result)
       (sym (c .before .before .before .outcome-of .ensures σ (getD es k blank .name) (getD es k blank .values) (a .w) (now (a .d)) (now (a .p)) (now (a .places)) (now (a .sizes)) seen) ∙ c .before .before .if1 .left)
-      (c .before .held-equal .ensures σ (getD es k blank .name) (seen .ruled .scopes) (getD es k blank .values) (seen .ruled .schema-is) (seen .ruled .rows) (seen .ruled .chosen) (seen .values)))
+      (c .before .held-equal .ensures σ (getD es k blank .name) (seen .ruled .scopes) (getD es k blank .values) (seen .ruled .schema-is) (seen .ruled .rows) (seen .ruled .chosen) (seen .values)),
+)
 
 pub compare-open-spec : {M : Type 1} → statement M
 compare-open-spec =
