@@ -1,16 +1,16 @@
 -- The matched name of a request, by entry numbers: down from the root, part by part, with the last entry on the way that is disclosed.
 use Prim.Native.Nat.{ℕ, zero, suc, _+_, _-_, _*_, _≤_, _<_, zero-le}
-use mathlib.Core.Path.{_≡_, refl, sym, ap, ap₂, _∙_, subst}
+use mathlib.Core.Path.{_≡_, refl, sym, ap, _∙_}
 use mathlib.Core.Bool.{Bool, true, false, _&&_, cond}
 use mathlib.Core.List.{List, [], _∷_, map}
-use native.Mathlib.Nat.{add-zero, add-suc}
+use native.Mathlib.Nat.{add-zero}
 use native.Mathlib.Omega.{arith}
 use lib.Dec.{eqb}
 use lib.ListN.{length, getD, take, drop}
 use lib.Seq.{drop-cons}
 use Rattle.rules.specs.Sheet.{Bytes, Sheet, end, broken, row, frontOf, valueOf}
 use Rattle.rules.specs.Name.{Schema, Part, part, Name, samePart}
-use Rattle.rules.specs.Directory.{Stored, blank, nameAt, Entry, entryOf}
+use Rattle.rules.specs.Directory.{Stored, blank, nameAt, entryOf}
 use Rattle.rules.specs.Permission.{DiscloseOnError}
 use Rattle.rules.specs.Decision.{Setting, entry, granted}
 use Rattle.rules.specs.Answer.{orName, matchedName}

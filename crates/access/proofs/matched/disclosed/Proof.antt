@@ -1,6 +1,5 @@
 use mathlib.Core.Bool.{Bool, cond}
 use mathlib.Core.Path.{sym, ap, _∙_}
-use denote.Ref.{now}
 use borrow.Author.Needs.{needs}
 use Rattle.access.proofs.matched.disclosed.Statement.{statement}
 use Rattle.access.proofs.matched.disclosed.Tie as tie

@@ -1,5 +1,5 @@
 use Rattle.access.specs.Matched.{Way, way-start, way-end, way-stop, way-on}
-use mathlib.Core.Path.{_≡_, refl, sym, _∙_}
+use mathlib.Core.Path.{_≡_, refl}
 use lib.ListN.{length}
 use native.Mathlib.Omega.{arith}
 use Prim.Native.Nat.{_-_, _≤_, zero-le}

@@ -1,6 +1,5 @@
 use Rattle.access.specs.Scopes.{levelBy}
 use borrow.Author.Tests.{eq-eqb, ne-eqb}
-use borrow.Author.Needs.{needs}
 use Rattle.access.proofs.scope.level_fits.Statement.{statement}
 use Rattle.access.proofs.scope.level_fits.Tie as tie
 use Rattle.access.proofs.scope.level_fits.Reads as reads

@@ -1,5 +1,4 @@
 use Rattle.access.specs.Scopes.{own-none, own-below, own-alone, own-apart}
-use Rattle.access.specs.Reach.{climbsBy}
 use mathlib.Core.Path.{sym, _∙_}
 use mathlib.Core.Bool.{true, false}
 use denote.Ref.{now}

@@ -1,6 +1,5 @@
 use Rattle.access.specs.Scopes.{Resolved, resolved-none, resolved-on, resolved-all}
-use Rattle.rules.specs.Places.{schemaOf}
-use mathlib.Core.Path.{_≡_, refl, sym, _∙_}
+use mathlib.Core.Path.{_≡_, refl, _∙_}
 use lib.ListN.{length, length-set}
 use native.Mathlib.Omega.{arith}
 use Prim.Native.Nat.{_-_, _*_, _≤_, _<_}

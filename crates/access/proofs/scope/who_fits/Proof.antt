@@ -1,7 +1,6 @@
 use Rattle.access.specs.Scopes.{who-all, who-self, who-below, who-other, who-named}
 use Rattle.rules.specs.Name.{covers}
 use Rattle.rules.specs.Places.{schemaOf, linesAt, partsOf}
-use mathlib.Core.Bool.{Bool}
 use mathlib.Core.Path.{sym, _∙_}
 use denote.Ref.{now}
 use borrow.Author.Needs.{needs}
