@@ -1,5 +1,5 @@
 -- What the judges of the three sheets note, as the functions that answer take it.
-use Prim.Native.Nat.{ℕ, _+_, _*_, _≤_, _<_}
+use Prim.Native.Nat.{ℕ, _+_, _-_, _*_, _≤_, _<_}
 use mathlib.Core.Path.{_≡_, refl, sym, ap, _∙_}
 use mathlib.Core.List.{List, map}
 use native.Mathlib.Omega.{arith}
@@ -93,6 +93,13 @@ module _ (w : ℕ) (d : Bytes) (x : Directory) (r : Notes) (ok : directoryOf w d
     where
       small : length d ≤ 65536
       small = ltb-false 65536 (length d) (unfold directoryOf in not-refused (ltb 65536 (length d)) 1 _ x ok .0)
+
+  -- the same of the parts of the noted lists, from 0 on
+  pub directory-parts : DirectoryAt w d x (take (r .types - 0) (r .schema)) (take (r .count - 0) (r .at)) (take (r .count - 0) (r .parents)) (take (r .count - 0) (r .naming)) (take (r .count - 0) (r .lengths))
+  directory-parts = let z : r .count - 0 ≡ r .count = omega arith in let y : r .types - 0 ≡ r .types = omega arith in rw (z, y) directory-at
+
+  pub number-parts : 1 ≤ w → w ≤ 18 → Numbers w d (take (r .count - 0) (r .at)) (take (r .count - 0) (r .parents)) (take (r .count - 0) (r .naming)) (take (r .count - 0) (r .lengths))
+  number-parts narrow wide = let z : r .count - 0 ≡ r .count = omega arith in rw z (numbers-of narrow wide)
 
 -- ---- the items by numbers
 

@@ -23,9 +23,9 @@ fromRequest w x is q room = then (requestOf w q) (λ r. respond w x is r room)
 abbrev pub fromPermissions : ℕ → Directory → Bytes → Bytes → ℕ → Verdict Bytes
 fromPermissions w x p q room = then (permissionsOf w (x .schema) p) (λ is. fromRequest w x is q room)
 
-pub replies-refused : (n : ℕ) (v : Verdict Bytes) (out : Bytes) → v ≡ refuse n → Replies v out (record { refusal = n; length = 0 }) out
+pub replies-refused : (n : ℕ) (v : Verdict Bytes) (out : Bytes) (r : Reply) → r ≡ record { refusal = n; length = 0 } → v ≡ refuse n → Replies v out r out
 unfolding replyOf leftOf
-replies-refused n v out e = record { reply = rw e; left = rw e }
+replies-refused n v out r q e = record { reply = rw e q; left = rw e }
 
 module _ (w : ℕ) (d p q : Bytes) (room : ℕ) where
   pub directory-refuses : (n : ℕ) → directoryOf w d ≡ refuse n → serveAt w d p q room ≡ refuse n
