@@ -1,5 +1,7 @@
 pub mod Entries
 pub mod Chosen
 pub mod World
+pub mod Names
 pub mod Reach
+pub mod Scopes
 pub mod Grants
