@@ -1,2 +1,4 @@
 pub mod Plan
 pub mod Lent
+pub mod Passing
+pub mod Hits

@@ -1,0 +1,98 @@
+-- The entries that list and search return, by number: the tests of the rules at an index, and the hits as indices that pass.
+use Prim.Native.Nat.{ℕ, zero, suc, _≤_, _<_, zero-le}
+use mathlib.Core.Path.{_≡_, refl, sym, ap, _∙_, subst}
+use mathlib.Core.Bool.{Bool, true, false, _&&_, _||_, or-false, and-assoc}
+use mathlib.Core.List.{List, [], _∷_, _++_, map}
+use lib.Dec.{eqb}
+use lib.ListN.{length, getD, length-map, List·getD-map}
+use Rattle.rules.specs.Sheet.{Line, line}
+use Rattle.rules.specs.Name.{Schema, Name, sameName}
+use Rattle.rules.specs.Directory.{Stored, blank, nameAt, Entry, entryOf}
+use Rattle.rules.specs.Permission.{Read, Browse, ReturnDN}
+use Rattle.rules.specs.Decision.{Setting, entry, granted}
+use Rattle.rules.specs.Filter.{Filter, isTrue, evaluate}
+use Rattle.rules.specs.FilterItem.{itemTruth}
+use Rattle.rules.specs.Request.{Search}
+use Rattle.rules.specs.Answer as Answer
+use Rattle.rules.specs.Laws.Directory.{Accepted}
+use Rattle.rules.specs.Laws.Tests.{and-left}
+use Rattle.rules.specs.Laws.Hits.{withinNumber, listed-number, candidate-number, child-hit}
+use Rattle.rules.specs.Laws.Resolve.{walk, walk-found}
+use Rattle.rules.specs.declared.Found.the-variants.{At}
+use Rattle.plan.specs.Plan.{childLines, foundLines, informationAt}
+use Rattle.plan.specs.Passing.{passing, gather-passing}
+
+module _ (σ : Setting) where
+  -- the entry with the full name `n` may be returned: Browse, for the base Browse or Read, and ReturnDN
+  unfoldable pub returnable : Name → Bool → Bool
+  returnable n base = (granted σ n entry Browse || base && granted σ n entry Read) && granted σ n entry ReturnDN
+
+  -- the filter is true of the entry of index `k`
+  unfoldable pub matchesAt : List Stored → Filter → ℕ → Bool
+  matchesAt es f k = isTrue (evaluate (itemTruth σ (entryOf (getD es k blank))) f)
+
+  module _ (es : List Stored) (b : ℕ) where
+    -- list returns the entry of index `k`, of base number `b`
+    unfoldable pub listedAt : ℕ → Bool
+    listedAt k = eqb (getD es k blank .parent) b && returnable (getD es k blank .name) false
+
+    -- search returns the entry of index `k`
+    unfoldable pub foundAt : ℕ → Filter → ℕ → Bool
+    foundAt subset f k = withinNumber es subset b (suc k) && (returnable (getD es k blank .name) (eqb (suc k) b) && matchesAt es f k)
+
+-- ---- they are the tests of the rules
+
+module _ (σ : Setting) (es : List Stored) (ok : Accepted (σ .schema) es) (n : Name) (b : ℕ) (walked : walk (σ .schema) es 0 n ≡ At b) where
+  base-found : (b ≤ length es) × (sameName (σ .schema) n (nameAt es b) ≡ true)
+  unfolding nameAt sameName
+  base-found = walk-found (σ .schema) es ok n [] 0 b zero-le refl walked
+
+  module _ (k : ℕ) (l : k < length es) where
+    listed-at : Answer.listed σ n (entryOf (getD es k blank)) ≡ listedAt σ es b k
+    unfolding listedAt returnable
+    listed-at =
+        listed-number σ es ok n b (base-found .0) (base-found .1) k l
+        ∙ ap (λ (x : Bool). eqb (getD es k blank .parent) b && (x && granted σ (getD es k blank .name) entry ReturnDN)) (sym (or-false (granted σ (getD es k blank .name) entry Browse)))
+
+    listed-lines : listedAt σ es b k ≡ true → Answer.listHit σ n (entryOf (getD es k blank)) ≡ childLines es k
+    unfolding listedAt childLines
+    listed-lines e = child-hit σ es ok n b (base-found .0) (base-found .1) k l (and-left (eqb (getD es k blank .parent) b) _ e)
+
+    found-at : (r : Search) → Answer.found σ n r (entryOf (getD es k blank)) ≡ foundAt σ es b (r .subset) (r .filter) k
+    unfolding Answer.found foundAt matchesAt returnable
+    found-at r =
+        ap (λ (x : Bool). x && matchesAt σ es (r .filter) k) (candidate-number σ es ok n b (base-found .0) (base-found .1) k l (r .subset))
+        ∙ and-assoc (withinNumber es (r .subset) b (suc k)) (returnable σ (getD es k blank .name) (eqb (suc k) b)) (matchesAt σ es (r .filter) k)
+
+    found-lines : (r : Search) → Answer.searchHit σ r (entryOf (getD es k blank)) ≡ foundLines σ es (r .selection) k
+    unfolding Answer.searchHit foundLines informationAt entryOf nameAt
+    found-lines r = refl
+
+  -- the hits, by their indices
+  pub list-hits : Answer.listHits σ (map entryOf es) n ≡ map (childLines es) (passing (listedAt σ es b) (length es))
+  unfolding Answer.listHits
+  list-hits =
+      gather-passing (Answer.listed σ n) (Answer.listHit σ n) (entryOf blank) (map entryOf es) (listedAt σ es b) (childLines es)
+      (λ k l. ap (Answer.listed σ n) (at k) ∙ listed-at k (within k l))
+      (λ k l e. ap (Answer.listHit σ n) (at k) ∙ listed-lines k (within k l) e)
+      ∙ ap (λ (m : ℕ). map (childLines es) (passing (listedAt σ es b) m)) (length-map es entryOf)
+    where
+      at : (k : ℕ) → getD (map entryOf es) k (entryOf blank) ≡ entryOf (getD es k blank)
+      at k = List·getD-map entryOf es k blank
+
+      within : (k : ℕ) → k < length (map entryOf es) → k < length es
+      within k l = subst (λ (m : ℕ). k < m) (length-map es entryOf) l
+
+  pub search-hits : (r : Search) → Answer.searchHits σ (map entryOf es) n r ≡ map (foundLines σ es (r .selection)) (passing (foundAt σ es b (r .subset) (r .filter)) (length es))
+  unfolding Answer.searchHits
+  search-hits r =
+      gather-passing (Answer.found σ n r) (Answer.searchHit σ r) (entryOf blank) (map entryOf es) (foundAt σ es b (r .subset) (r .filter)) (foundLines σ es (r .selection))
+      (λ k l. ap (Answer.found σ n r) (at k) ∙ found-at k (within k l) r)
+      (λ k l e. ap (Answer.searchHit σ r) (at k) ∙ found-lines k (within k l) r)
+      ∙ ap (λ (m : ℕ). map (foundLines σ es (r .selection)) (passing (foundAt σ es b (r .subset) (r .filter)) m)) (length-map es entryOf)
+    where
+      at : (k : ℕ) → getD (map entryOf es) k (entryOf blank) ≡ entryOf (getD es k blank)
+      at k = List·getD-map entryOf es k blank
+
+      within : (k : ℕ) → k < length (map entryOf es) → k < length es
+      within k l = subst (λ (m : ℕ). k < m) (length-map es entryOf) l
