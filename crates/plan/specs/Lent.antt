@@ -10,6 +10,7 @@ use Rattle.rules.specs.Decision.{Setting}
 use Rattle.rules.specs.Answer.{matchedName}
 use Rattle.rules.specs.Laws.Resolve.{walk}
 use Rattle.rules.specs.declared.Found.{Found}
+use Rattle.rules.specs.declared.Found.the-variants.{At}
 use Rattle.plan.specs.declared.Plan.{Plan}
 
 -- the entries' numbers lie within the sheet, and there is room: in `list` for the items of an entry, in `types`, `places` and `sizes` for its values
@@ -30,6 +31,11 @@ pub record Lent (w : ℕ) (d : Bytes) (at parents lengths reach list types place
 pub record Base (σ : Setting) (es : List Stored) (n : Name) (base : Found) (missing : ℕ) : Type 0 where
   pub walked : walk (σ .schema) es 0 n ≡ base
   pub matched : nameAt es missing ≡ matchedName σ (map entryOf es) n (length n - 1)
+
+-- they are numbers of the `count` entries, or the root's, 0
+pub record Numbered (count : ℕ) (base : Found) (missing : ℕ) : Type 0 where
+  pub found : (b : ℕ) → base ≡ At b → b ≤ count
+  pub matched : missing ≤ count
 
 -- the numbers of a plan are numbers of the `count` entries
 pub record Sound (count : ℕ) (r : Plan) (hs : List ℕ) : Type 0 where

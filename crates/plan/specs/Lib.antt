@@ -1,4 +1,5 @@
 pub mod Plan
 pub mod Lent
+pub mod Outcome
 pub mod Passing
 pub mod Hits
