@@ -3,3 +3,5 @@ pub mod Lent
 pub mod Outcome
 pub mod Passing
 pub mod Hits
+pub mod Returned
+pub mod Whole
