@@ -23,9 +23,13 @@ use Rattle.plan.specs.Plan.{childLines, foundLines, informationAt}
 use Rattle.plan.specs.Passing.{passing, gather-passing}
 
 module _ (σ : Setting) where
-  -- the entry with the full name `n` may be returned: Browse, for the base Browse or Read, and ReturnDN
+  -- "Browse (for the base Browse or Read)" on the entry with the full name `n`
+  unfoldable pub browsable : Name → Bool → Bool
+  browsable n base = granted σ n entry Browse || base && granted σ n entry Read
+
+  -- the entry may be returned: with ReturnDN too
   unfoldable pub returnable : Name → Bool → Bool
-  returnable n base = (granted σ n entry Browse || base && granted σ n entry Read) && granted σ n entry ReturnDN
+  returnable n base = browsable n base && granted σ n entry ReturnDN
 
   -- the filter is true of the entry of index `k`
   unfoldable pub matchesAt : List Stored → Filter → ℕ → Bool
@@ -40,6 +44,29 @@ module _ (σ : Setting) where
     unfoldable pub foundAt : ℕ → Filter → ℕ → Bool
     foundAt subset f k = withinNumber es subset b (suc k) && (returnable (getD es k blank .name) (eqb (suc k) b) && matchesAt es f k)
 
+-- ---- what the code finds of an entry
+
+module _ (σ : Setting) (n : Name) (base : Bool) where
+  pub browse-granted : granted σ n entry Browse ≡ true → true ≡ browsable σ n base
+  unfolding browsable
+  browse-granted e = rw e
+
+  pub browse-base : granted σ n entry Browse ≡ false → base ≡ true → granted σ n entry Read ≡ browsable σ n base
+  unfolding browsable
+  browse-base e h = rw (e, h)
+
+  pub browse-refused : granted σ n entry Browse ≡ false → base ≡ false → false ≡ browsable σ n base
+  unfolding browsable
+  browse-refused e h = rw (e, h)
+
+  pub return-asked : browsable σ n base ≡ true → granted σ n entry ReturnDN ≡ returnable σ n base
+  unfolding returnable
+  return-asked e = rw e
+
+  pub return-refused : browsable σ n base ≡ false → false ≡ returnable σ n base
+  unfolding returnable
+  return-refused e = rw e
+
 -- ---- they are the tests of the rules
 
 module _ (σ : Setting) (es : List Stored) (ok : Accepted (σ .schema) es) (n : Name) (b : ℕ) (walked : walk (σ .schema) es 0 n ≡ At b) where
@@ -49,7 +76,7 @@ module _ (σ : Setting) (es : List Stored) (ok : Accepted (σ .schema) es) (n : 
 
   module _ (k : ℕ) (l : k < length es) where
     listed-at : Answer.listed σ n (entryOf (getD es k blank)) ≡ listedAt σ es b k
-    unfolding listedAt returnable
+    unfolding listedAt returnable browsable
     listed-at =
         listed-number σ es ok n b (base-found .0) (base-found .1) k l
         ∙ ap (λ (x : Bool). eqb (getD es k blank .parent) b && (x && granted σ (getD es k blank .name) entry ReturnDN)) (sym (or-false (granted σ (getD es k blank .name) entry Browse)))
@@ -59,7 +86,7 @@ module _ (σ : Setting) (es : List Stored) (ok : Accepted (σ .schema) es) (n : 
     listed-lines e = child-hit σ es ok n b (base-found .0) (base-found .1) k l (and-left (eqb (getD es k blank .parent) b) _ e)
 
     found-at : (r : Search) → Answer.found σ n r (entryOf (getD es k blank)) ≡ foundAt σ es b (r .subset) (r .filter) k
-    unfolding Answer.found foundAt matchesAt returnable
+    unfolding Answer.found foundAt matchesAt returnable browsable
     found-at r =
         ap (λ (x : Bool). x && matchesAt σ es (r .filter) k) (candidate-number σ es ok n b (base-found .0) (base-found .1) k l (r .subset))
         ∙ and-assoc (withinNumber es (r .subset) b (suc k)) (returnable σ (getD es k blank .name) (eqb (suc k) b)) (matchesAt σ es (r .filter) k)

@@ -37,12 +37,23 @@ limitedPlan op limit count = cond (eqb limit 0) (successPlan op 0 count) (cond (
 
 -- nothing to return is "no such object" unless the base is disclosed
 unfoldable pub returnedPlan : ℕ → ℕ → Bool → ℕ → ℕ → Plan
-returnedPlan op missing disclosed limit count = cond (eqb count 0 && not disclosed) (absentPlan op missing) (limitedPlan op limit count)
+returnedPlan op missing disclosed limit count = cond disclosed (limitedPlan op limit count) (cond (eqb count 0) (absentPlan op missing) (limitedPlan op limit count))
 
 -- DiscloseOnError is granted on entry number `b`; the root, 0, is no entry
 unfoldable pub disclosedAt : Setting → List Stored → ℕ → Bool
 disclosedAt σ es zero = false
 disclosedAt σ es (suc k) = granted σ (getD es k blank .name) entry DiscloseOnError
+
+-- ---- what the code finds
+
+module _ (σ : Setting) (es : List Stored) (b : ℕ) where
+  pub disclosed-root : b ≡ 0 → false ≡ disclosedAt σ es b
+  unfolding disclosedAt
+  disclosed-root e = ap (disclosedAt σ es) (sym e)
+
+  pub disclosed-number : (k : ℕ) → b ≡ suc k → granted σ (getD es k blank .name) entry DiscloseOnError ≡ disclosedAt σ es b
+  unfolding disclosedAt
+  disclosed-number k e = ap (disclosedAt σ es) (sym e)
 
 -- ---- the lines
 
@@ -103,12 +114,14 @@ module _ (σ : Setting) (es : List Stored) (s : Selection) (hits : List ℕ) (co
         → planned σ es s (returnedPlan op missing d limit count) hits ≡ Answer.returned σ (map entryOf es) op n limit H
     unfolding returnedPlan Answer.returned
     returned-planned n base missing h d e limit H q =
-        rw (e, q, none-found f count hits room) (go (eqb count 0 && not d))
+        rw (e, q, none-found f count hits room) (go (eqb count 0) d)
       where
-        go : (a : Bool) → planned σ es s (cond a (absentPlan op missing) (limitedPlan op limit count)) hits
-            ≡ cond a (Answer.noSuchObject σ (map entryOf es) op n) (Answer.limited op limit (map f (take count hits)))
-        go true = absent-planned σ es s hits op n base missing h
-        go false = limited-planned limit
+        go : (a d : Bool) → planned σ es s (cond d (limitedPlan op limit count) (cond a (absentPlan op missing) (limitedPlan op limit count))) hits
+            ≡ cond (a && not d) (Answer.noSuchObject σ (map entryOf es) op n) (Answer.limited op limit (map f (take count hits)))
+        go true true = limited-planned limit
+        go true false = absent-planned σ es s hits op n base missing h
+        go false true = limited-planned limit
+        go false false = limited-planned limit
 
 -- ---- the base
 
@@ -137,8 +150,9 @@ module _ (total : ℕ) (hits : List ℕ) (count : ℕ) (room : count ≤ length 
 
   pub returned-sound : (missing : ℕ) → missing ≤ total → (d : Bool) → Sound total (returnedPlan op missing d limit count) hits
   unfolding returnedPlan
-  returned-sound missing l d = go (eqb count 0 && not d)
+  returned-sound missing l d = go (eqb count 0) d
     where
-      go : (a : Bool) → Sound total (cond a (absentPlan op missing) (limitedPlan op limit count)) hits
-      go true = absent-sound total hits op missing l
-      go false = limited-sound
+      go : (a d : Bool) → Sound total (cond d (limitedPlan op limit count) (cond a (absentPlan op missing) (limitedPlan op limit count))) hits
+      go a true = limited-sound
+      go true false = absent-sound total hits op missing l
+      go false false = limited-sound

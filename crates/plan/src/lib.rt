@@ -1,5 +1,6 @@
 // What an answer is made of, decided before a byte of it is written: the outcome, and the entries whose lines follow, by number.
 pub mod outcome;
+pub mod returned;
 
 // The answer of one request. What an operation or outcome does not have is 0.
 pub struct Plan {
