@@ -4,6 +4,7 @@ use mathlib.Core.Path.{_≡_, refl, sym, ap, _∙_, subst}
 use mathlib.Core.Bool.{Bool, true, false, _&&_, _||_, or-false, and-assoc}
 use mathlib.Core.List.{List, [], _∷_, _++_, map}
 use lib.Dec.{eqb}
+use borrow.Author.Tests.{eq-eqb, ne-eqb}
 use lib.ListN.{length, getD, length-map, List·getD-map}
 use Rattle.rules.specs.Sheet.{Line, line}
 use Rattle.rules.specs.Name.{Schema, Name, sameName}
@@ -66,6 +67,15 @@ module _ (σ : Setting) (n : Name) (base : Bool) where
   pub return-refused : browsable σ n base ≡ false → false ≡ returnable σ n base
   unfolding returnable
   return-refused e = rw e
+
+module _ (σ : Setting) (es : List Stored) (b k : ℕ) where
+  pub listed-other : (getD es k blank .parent ≡ b → ⊥) → false ≡ listedAt σ es b k
+  unfolding listedAt
+  listed-other h = rw (ne-eqb (getD es k blank .parent) b h)
+
+  pub listed-child : getD es k blank .parent ≡ b → returnable σ (getD es k blank .name) false ≡ listedAt σ es b k
+  unfolding listedAt
+  listed-child h = rw (eq-eqb (getD es k blank .parent) b h)
 
 -- ---- they are the tests of the rules
 

@@ -14,7 +14,7 @@ use Rattle.rules.specs.declared.Found.{Found}
 use Rattle.rules.specs.declared.Found.the-variants.{At}
 use Rattle.access.specs.World.{World}
 use Rattle.access.specs.Chosen.{Chosen}
-use Rattle.access.specs.Reach.{Selected, parents-of}
+use Rattle.access.specs.Reach.{Parents, parents-of, Selected}
 use Rattle.plan.specs.declared.Plan.{Plan}
 
 -- the entries' numbers lie within the sheet, and there is room: in `list` for the items of an entry, in `types`, `places` and `sizes` for its values
@@ -48,11 +48,17 @@ pub record Sound (count : ℕ) (r : Plan) (hs : List ℕ) : Type 0 where
   pub shown : r .shown ≤ length hs
   pub hits : (i : ℕ) → i < r .shown → getD hs i 0 < count
 
--- the items that were selected for the entry of index `k` are those that concern it; they are the part from 0 to `n` of the list
-pub chosen-at : {σ : Setting} {es : List Stored} {schema : List ℕ} {w : ℕ} {d : Bytes} {at parents naming lengths : List ℕ} {p : Bytes} {rights scopes reach : List ℕ}
-    → World σ es schema w d at parents naming lengths p rights scopes reach
-    → (e : ℕ) (before : List ℕ) (n : ℕ) (after : List ℕ) → Selected parents reach e before n after → (k : ℕ) → e ≡ suc k → k < length es
-    → Chosen σ (getD es k blank .name) (take (n - 0) after)
-chosen-at {σ} {es} {w = w} {d} {at} {parents} {naming} {lengths} h e before n after s k q l =
-    let z : n ≡ n - 0 = omega arith in
-    subst (λ (m : ℕ). Chosen σ (getD es k blank .name) (take m after)) z (s .chosen σ es k (h .accepted) (parents-of w d es at parents naming lengths (h .entries)) (h .reached) q l)
+module _ {σ : Setting} {es : List Stored} {schema : List ℕ} {w : ℕ} {d : Bytes} {at parents naming lengths : List ℕ} {p : Bytes} {rights scopes reach : List ℕ}
+    (h : World σ es schema w d at parents naming lengths p rights scopes reach) where
+  parents-are : Parents es parents
+  parents-are = parents-of w d es at parents naming lengths (h .entries)
+
+  pub parent-at : (k : ℕ) → getD parents k 0 ≡ getD es k blank .parent
+  parent-at k = parents-are .parent k
+
+  -- the items that were selected for the entry of index `k` are those that concern it; they are the part from 0 to `n` of the list
+  pub chosen-at : (e : ℕ) (before : List ℕ) (n : ℕ) (after : List ℕ) → Selected parents reach e before n after → (k : ℕ) → e ≡ suc k → k < length es
+      → Chosen σ (getD es k blank .name) (take (n - 0) after)
+  chosen-at e before n after s k q l =
+      let z : n ≡ n - 0 = omega arith in
+      subst (λ (m : ℕ). Chosen σ (getD es k blank .name) (take m after)) z (s .chosen σ es k (h .accepted) parents-are (h .reached) q l)
