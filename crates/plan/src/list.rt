@@ -14,6 +14,7 @@ ghost use Rattle.rules.specs.Name.{Name};
 ghost use Rattle.rules.specs.Directory.{Stored, entryOf};
 ghost use Rattle.rules.specs.Decision.{Setting};
 ghost use Rattle.rules.specs.Request as Request;
+ghost use Rattle.rules.specs.Request.{Selection};
 ghost use Rattle.rules.specs.Answer.{answer};
 ghost use Rattle.access.specs.World.{World};
 ghost use Rattle.plan.specs.Plan.{planned};
@@ -62,4 +63,26 @@ fn children(
         k += 1;
     }
     n
+}
+
+// The plan of a list: the children of the base that may be returned, within the size limit.
+pub fn list(
+    parents: &[usize],
+    rights: &[u64],
+    reach: &[usize],
+    base: Found,
+    missing: usize,
+    limit: u64,
+    list: &mut [usize],
+    hits: &mut [usize],
+) -> Plan
+    requires { ⌜ Numbered (length (now parents)) base missing × (length (now reach) ≤ length (now list)) × (length (now parents) ≤ length (now hits)) ⌝ }
+    ensures { λ r. ⌜ Sound (length (now (parents .entry))) r (now (hits .exit)) × ((σ : Setting) (es : List Stored) (schema : List ℕ) (w : ℕ) (d : Bytes) (at naming lengths : List ℕ) (p : Bytes) (scopes : List ℕ) (n : Name) (s : Selection) → World σ es schema w d at (now (parents .entry)) naming lengths p (now (rights .entry)) scopes (now (reach .entry)) → Base σ es n base missing → planned σ es s r (now (hits .exit)) ≡ answer σ (map entryOf es) n (Request.list limit)) ⌝ }
+{
+    let Found::At(b) = base else {
+        return absent(3, missing);
+    };
+    let count = children(parents, rights, reach, b, list, hits);
+    let open = disclosed(parents, rights, reach, b, list);
+    returned(3, missing, open, limit, count)
 }
