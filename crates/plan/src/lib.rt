@@ -1,5 +1,6 @@
 // What an answer is made of, decided before a byte of it is written: the outcome, and the entries whose lines follow, by number.
 pub mod list;
+pub mod opened;
 pub mod outcome;
 pub mod returned;
 
