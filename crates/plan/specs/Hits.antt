@@ -1,8 +1,9 @@
 -- The entries that list and search return, by number: the tests of the rules at an index, and the hits as indices that pass.
-use Prim.Native.Nat.{ℕ, zero, suc, _≤_, _<_, zero-le}
+use Prim.Native.Nat.{ℕ, zero, suc, _+_, _≤_, _<_, zero-le}
 use mathlib.Core.Path.{_≡_, refl, sym, ap, _∙_, subst}
 use mathlib.Core.Bool.{Bool, true, false, _&&_, _||_, or-false, and-assoc}
 use mathlib.Core.List.{List, [], _∷_, _++_, map}
+use native.Mathlib.Numerals.{add-one}
 use lib.Dec.{eqb}
 use borrow.Author.Tests.{eq-eqb, ne-eqb}
 use lib.ListN.{length, getD, length-map, List·getD-map}
@@ -17,6 +18,7 @@ use Rattle.rules.specs.Request.{Search}
 use Rattle.rules.specs.Answer as Answer
 use Rattle.rules.specs.Laws.Directory.{Accepted}
 use Rattle.rules.specs.Laws.Tests.{and-left}
+use Rattle.rules.specs.Laws.ByNumber.{climbs}
 use Rattle.rules.specs.Laws.Hits.{withinNumber, listed-number, candidate-number, child-hit}
 use Rattle.rules.specs.Laws.Resolve.{walk, walk-found}
 use Rattle.rules.specs.declared.Found.the-variants.{At}
@@ -76,6 +78,32 @@ module _ (σ : Setting) (es : List Stored) (b k : ℕ) where
   pub listed-child : getD es k blank .parent ≡ b → returnable σ (getD es k blank .name) false ≡ listedAt σ es b k
   unfolding listedAt
   listed-child h = rw (eq-eqb (getD es k blank .parent) b h)
+
+module _ (es : List Stored) (subset b k : ℕ) where
+  pub within-base : subset ≡ 0 → eqb (k + 1) b ≡ withinNumber es subset b (suc k)
+  unfolding withinNumber
+  within-base e = rw (add-one k, eq-eqb subset 0 e)
+
+  pub within-children : (subset ≡ 0 → ⊥) → subset ≡ 1 → eqb (getD es k blank .parent) b ≡ withinNumber es subset b (suc k)
+  unfolding withinNumber
+  within-children h e = rw (ne-eqb subset 0 h, eq-eqb subset 1 e)
+
+  pub within-below : (subset ≡ 0 → ⊥) → (subset ≡ 1 → ⊥) → climbs es (k + 1) b (k + 1) ≡ withinNumber es subset b (suc k)
+  unfolding withinNumber
+  within-below h e = rw (add-one k, ne-eqb subset 0 h, ne-eqb subset 1 e)
+
+module _ (σ : Setting) (es : List Stored) (b subset : ℕ) (f : Filter) (k : ℕ) where
+  pub found-outside : withinNumber es subset b (suc k) ≡ false → false ≡ foundAt σ es b subset f k
+  unfolding foundAt
+  found-outside e = rw e
+
+  pub found-withheld : withinNumber es subset b (suc k) ≡ true → returnable σ (getD es k blank .name) (eqb (k + 1) b) ≡ false → false ≡ foundAt σ es b subset f k
+  unfolding foundAt
+  found-withheld e h = rw (e, ← add-one k, h)
+
+  pub found-asked : withinNumber es subset b (suc k) ≡ true → returnable σ (getD es k blank .name) (eqb (k + 1) b) ≡ true → matchesAt σ es f k ≡ foundAt σ es b subset f k
+  unfolding foundAt
+  found-asked e h = rw (e, ← add-one k, h)
 
 -- ---- they are the tests of the rules
 

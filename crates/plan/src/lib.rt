@@ -3,6 +3,7 @@ pub mod list;
 pub mod opened;
 pub mod outcome;
 pub mod returned;
+pub mod search;
 
 // The answer of one request. What an operation or outcome does not have is 0.
 pub struct Plan {
