@@ -3,9 +3,28 @@ use rules::Order;
 use rules::Truth;
 ghost use mathlib.Core.Path.{_≡_};
 ghost use mathlib.Core.Bool.{not};
-ghost use Rattle.rules.specs.Filter.{negation};
+ghost use Rattle.rules.specs.Filter.{truth, isTrue, negation};
 ghost use Rattle.rules.specs.FilterItem.{isLess};
 ghost use Rattle.rules.specs.Laws.Filter as Filter;
+ghost use Rattle.filter.specs.Tree.{joinBy};
+
+// The truth of a test.
+pub fn truth_of(b: bool) -> Truth
+    ensures { λ r. ⌜ r ≡ truth b ⌝ }
+{
+    if b { Truth::True } else { Truth::False }
+}
+
+// Is it true?
+pub fn is_true(t: Truth) -> bool
+    ensures { λ r. ⌜ r ≡ isTrue t ⌝ }
+{
+    match t {
+        Truth::True => true,
+        Truth::False => false,
+        Truth::Undefined => false,
+    }
+}
 
 // "and" of what came before and one part more: false if one is false, true if both are true, else undefined.
 pub fn both(t: Truth, u: Truth) -> Truth
@@ -35,6 +54,16 @@ pub fn either(t: Truth, u: Truth) -> Truth
             Truth::Undefined => Truth::Undefined,
         },
     }
+}
+
+// "and" or "or" of what came before and one part more.
+pub fn joined(conjunction: bool, t: Truth, u: Truth) -> Truth
+    ensures { λ r. ⌜ r ≡ joinBy conjunction t u ⌝ }
+{
+    if conjunction {
+        return both(t, u);
+    }
+    either(t, u)
 }
 
 // "not": it keeps undefined.
