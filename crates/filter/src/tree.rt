@@ -5,6 +5,13 @@ use super::truth::is_true;
 use super::truth::joined;
 use super::truth::negated;
 use super::truth::truth_of;
+use crate::AND;
+use crate::AT_LEAST;
+use crate::AT_MOST;
+use crate::EQUALITY;
+use crate::NOT;
+use crate::OR;
+use crate::PRESENT;
 use rules::Front;
 use rules::Truth;
 ghost use mathlib.Core.Path.{_≡_};
@@ -29,7 +36,7 @@ ghost use Rattle.filter.specs.Tree.{nodeAt, afterBy};
 
 // What stands at a position of a request: "and" (a conjunction) or "or" of `count` parts from `next` on, "not" of the part there, an item
 // with the columns of its line, or no line in form.
-pub enum Node {
+pub(crate) enum Node {
     Group {
         conjunction: bool,
         count: u64,
@@ -60,21 +67,21 @@ fn node_at(q: &[u8], at: usize, w: usize) -> Node
             length,
         } => {
             let next = at + (5 * w + 1 + length);
-            if kind == 20 {
+            if kind == AND {
                 return Node::Group {
                     conjunction: true,
                     count: a,
                     next,
                 };
             }
-            if kind == 21 {
+            if kind == OR {
                 return Node::Group {
                     conjunction: false,
                     count: a,
                     next,
                 };
             }
-            if kind == 22 {
+            if kind == NOT {
                 return Node::Not(next);
             }
             Node::Item {
@@ -95,16 +102,16 @@ fn after_item(q: &[u8], next: usize, kind: u64, count: u64, w: usize) -> usize
     requires { ⌜ w ≤ 18 ⌝ }
     ensures { λ r. ⌜ linesAt w (now (q .entry)) r ≡ afterBy kind count (linesAt w (now (q .entry)) next) ⌝ }
 {
-    if kind == 23 {
+    if kind == EQUALITY {
         return next;
     }
-    if kind == 24 {
+    if kind == AT_LEAST {
         return next;
     }
-    if kind == 25 {
+    if kind == AT_MOST {
         return next;
     }
-    if kind == 26 {
+    if kind == PRESENT {
         return next;
     }
     skip(q, next, count, w)
