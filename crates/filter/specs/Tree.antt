@@ -1,12 +1,11 @@
 -- A filter's lines as nodes, and a law for each way through their evaluation.
 use Prim.Native.Nat.{ℕ, zero, suc, _+_, _-_, _*_, _≤_, _<_}
-use mathlib.Core.Path.{_≡_, refl, sym, ap, ap₂, _∙_}
-use mathlib.Core.Bool.{Bool, true, false, _&&_, _||_, not, cond}
-use mathlib.Core.List.{List, [], _∷_}
+use mathlib.Core.Path.{_≡_, refl, sym, ap, _∙_}
+use mathlib.Core.Bool.{Bool, true, false, _||_, cond}
 use native.Mathlib.Omega.{arith}
 use lib.Dec.{eqb}
 use lib.ListN.{length, drop}
-use Rattle.rules.specs.Sheet.{Bytes, Line, line, Sheet, end, broken, row, frontOf, valueOf}
+use Rattle.rules.specs.Sheet.{Bytes, line, Sheet, frontOf, valueOf}
 use Rattle.rules.specs.Filter.{Assertion, Filter, truth, negation, evaluate}
 use Rattle.rules.specs.Judge.{accept}
 use Rattle.rules.specs.Request.{filter}

@@ -1,9 +1,7 @@
-use Prim.Native.Nat.{ℕ, _+_, _-_, _≤_, _<_}
-use mathlib.Core.Path.{_≡_, refl, sym, ap, _∙_}
+use Prim.Native.Nat.{ℕ, _+_, _-_, _<_}
+use mathlib.Core.Path.{_≡_, sym, ap, _∙_}
 use mathlib.Core.List.{List}
-use native.Mathlib.Omega.{arith}
 use denote.Ref.{now}
-use Rattle.rules.specs.Sheet.{Sheet}
 use Rattle.rules.specs.Name.{Name, Part}
 use Rattle.rules.specs.Directory.{heldOf}
 use Rattle.rules.specs.Decision.{Setting}
@@ -11,7 +9,6 @@ use Rattle.rules.specs.Filter.{negation}
 use Rattle.rules.specs.FilterItem.{itemTruth}
 use Rattle.rules.specs.Places.{linesAt}
 use Rattle.rules.specs.Laws.Filter.{Evaluated, evaluated, partsFrom, evaluateLines}
-use Rattle.rules.specs.declared.Truth.{Truth}
 use Rattle.filter.specs.Seen.{Seen}
 use Rattle.filter.specs.Tree.{joinBy, tree-none, tree-node, item-fits, parts-end, parts-on}
 use borrow.Author.Needs.{needs}

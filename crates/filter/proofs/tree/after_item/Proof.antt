@@ -1,4 +1,3 @@
-use mathlib.Core.Path.{refl, sym, ap, _∙_}
 use borrow.Author.Tests.{eq-eqb, ne-eqb}
 use Rattle.filter.specs.Tree.{afterBy}
 use borrow.Author.Needs.{needs}
