@@ -1,16 +1,17 @@
 -- A filter's lines as nodes, and a law for each way through their evaluation.
 use Prim.Native.Nat.{ℕ, zero, suc, _+_, _-_, _*_, _≤_, _<_}
-use mathlib.Core.Path.{_≡_, refl, sym, ap, ap₂, _∙_}
-use mathlib.Core.Bool.{Bool, true, false, _&&_, _||_, not, cond}
-use mathlib.Core.List.{List, [], _∷_}
+use mathlib.Core.Path.{_≡_, refl, sym, ap, _∙_}
+use mathlib.Core.Bool.{Bool, true, false, _||_, cond}
 use native.Mathlib.Omega.{arith}
 use lib.Dec.{eqb}
 use lib.ListN.{length, drop}
-use Rattle.rules.specs.Sheet.{Bytes, Line, line, Sheet, end, broken, row, frontOf, valueOf}
-use Rattle.rules.specs.Filter.{Assertion, truth, negation}
+use Rattle.rules.specs.Sheet.{Bytes, line, Sheet, frontOf, valueOf}
+use Rattle.rules.specs.Filter.{Assertion, Filter, truth, negation, evaluate}
+use Rattle.rules.specs.Judge.{accept}
+use Rattle.rules.specs.Request.{filter}
 use Rattle.rules.specs.Places.{linesAt}
 use Rattle.rules.specs.Laws.Sheet.{lines-taken, lines-broken, lines-end, taken-fits}
-use Rattle.rules.specs.Laws.Filter.{both, either, piecesOf, afterLines, assertionOf, afterItem, Evaluated, evaluated, partsFrom, evaluateLine, evaluateSheet, evaluateLines}
+use Rattle.rules.specs.Laws.Filter.{both, either, piecesOf, afterLines, assertionOf, afterItem, Evaluated, evaluated, partsFrom, evaluateLine, evaluateSheet, evaluateLines, filter-read}
 use Rattle.rules.specs.declared.Truth.{Truth}
 use Rattle.rules.specs.declared.Truth.the-variants.{True, False, Undefined}
 use Rattle.rules.specs.declared.Front.{Front}
@@ -130,3 +131,11 @@ module _ (join : Truth → Truth → Truth) (one : Sheet → Evaluated) (left : 
       go : (left : ℕ) → 0 < left → partsFrom join one left t s ≡ partsFrom join one (left - 1) (join t u) rest
       go zero h = absurd (omega arith)
       go (suc left) h = let z : suc left - 1 ≡ left = omega arith in rw z (ap (λ (r : Evaluated). partsFrom join one left (join t (r .truth)) (r .rest)) (sym e))
+
+-- ---- the request's filter
+
+accepted : {A : Type 0} (x y : A) → accept x ≡ accept y → x ≡ y
+accepted x y e = cc
+
+pub whole-read : (m : Assertion → Truth) (s : Sheet) (f : Filter) → filter 16 128 s (λ f left rest. accept f) ≡ accept f → evaluateLines m 16 s .truth ≡ evaluate m f
+whole-read m s f e = let r = filter-read f m 16 128 s (λ f left rest. accept f) e in r .3 ∙ ap (evaluate m) (accepted (r .0) f (r .2))

@@ -2,6 +2,10 @@
 use super::pieces::pieces_fit;
 use super::truth::truth_of;
 use super::values::some_value;
+use crate::AT_LEAST;
+use crate::AT_MOST;
+use crate::EQUALITY;
+use crate::PRESENT;
 use access::grant::granted_type;
 use rules::Found;
 use rules::Truth;
@@ -30,16 +34,16 @@ fn defined(s: u64, kind: u64, v: &[u8], q: &[u8], next: usize, count: u64, w: us
     requires { ⌜ w ≤ 18 ⌝ }
     ensures { λ r. ⌜ r ≡ definedBy s kind (piecesOf count (linesAt w (now (q .entry)) next)) (now (v .entry)) ⌝ }
 {
-    if kind == 23 {
+    if kind == EQUALITY {
         return value::fits(s, v);
     }
-    if kind == 24 {
+    if kind == AT_LEAST {
         return value::ordered(s) & value::fits(s, v);
     }
-    if kind == 25 {
+    if kind == AT_MOST {
         return value::ordered(s) & value::fits(s, v);
     }
-    if kind == 26 {
+    if kind == PRESENT {
         return true;
     }
     value::searchable(s) & pieces_fit(s, q, next, count, w)
@@ -89,7 +93,7 @@ fn satisfied(
     requires { ⌜ (w ≤ 18) × (length (now places) ≡ length (now types)) × (length (now sizes) ≡ length (now types)) ⌝ }
     ensures { λ r. ⌜ ((σ : Setting) (n : Name) (ps : List Part) → Seen σ n ps (now (schema .entry)) w (now (d .entry)) (now (p .entry)) (now (rights .entry)) (now (list .entry)) (now (types .entry)) (now (places .entry)) (now (sizes .entry)) → r ≡ satisfiedBy σ (record { name = n; held = heldOf ps }) s kind t (piecesOf count (linesAt w (now (q .entry)) next)) (now (v .entry))) ⌝ }
 {
-    if kind == 26 {
+    if kind == PRESENT {
         return entry::holds(types, t);
     }
     some_value(
@@ -114,7 +118,7 @@ fn satisfied(
 }
 
 // The truth of the item of kind `kind` with the type `t`, the value `v` and the `count` pieces at position `next` of the request `q`.
-pub fn item(
+pub(crate) fn item(
     schema: &[u64],
     w: usize,
     d: &[u8],

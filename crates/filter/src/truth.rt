@@ -1,4 +1,4 @@
-// The three truth values joined: "and", "or" and "not" of filters, one part at a time.
+// The three truth values: of a test, and of "and", "or" and "not", one part at a time.
 use rules::Order;
 use rules::Truth;
 ghost use mathlib.Core.Path.{_≡_};
@@ -9,14 +9,14 @@ ghost use Rattle.rules.specs.Laws.Filter as Filter;
 ghost use Rattle.filter.specs.Tree.{joinBy};
 
 // The truth of a test.
-pub fn truth_of(b: bool) -> Truth
+pub(crate) fn truth_of(b: bool) -> Truth
     ensures { λ r. ⌜ r ≡ truth b ⌝ }
 {
     if b { Truth::True } else { Truth::False }
 }
 
 // Is it true?
-pub fn is_true(t: Truth) -> bool
+pub(crate) fn is_true(t: Truth) -> bool
     ensures { λ r. ⌜ r ≡ isTrue t ⌝ }
 {
     match t {
@@ -27,7 +27,7 @@ pub fn is_true(t: Truth) -> bool
 }
 
 // "and" of what came before and one part more: false if one is false, true if both are true, else undefined.
-pub fn both(t: Truth, u: Truth) -> Truth
+pub(crate) fn both(t: Truth, u: Truth) -> Truth
     ensures { λ r. ⌜ r ≡ Filter.both t u ⌝ }
 {
     match t {
@@ -42,7 +42,7 @@ pub fn both(t: Truth, u: Truth) -> Truth
 }
 
 // "or" of what came before and one part more: true if one is true, false if both are false, else undefined.
-pub fn either(t: Truth, u: Truth) -> Truth
+pub(crate) fn either(t: Truth, u: Truth) -> Truth
     ensures { λ r. ⌜ r ≡ Filter.either t u ⌝ }
 {
     match t {
@@ -57,7 +57,7 @@ pub fn either(t: Truth, u: Truth) -> Truth
 }
 
 // "and" or "or" of what came before and one part more.
-pub fn joined(conjunction: bool, t: Truth, u: Truth) -> Truth
+pub(crate) fn joined(conjunction: bool, t: Truth, u: Truth) -> Truth
     ensures { λ r. ⌜ r ≡ joinBy conjunction t u ⌝ }
 {
     if conjunction {
@@ -67,18 +67,18 @@ pub fn joined(conjunction: bool, t: Truth, u: Truth) -> Truth
 }
 
 // "not": it keeps undefined.
-pub fn negated(t: Truth) -> Truth
+pub(crate) fn negated(t: Truth) -> Truth
     ensures { λ r. ⌜ r ≡ negation t ⌝ }
 {
     match t {
         Truth::True => Truth::False,
         Truth::False => Truth::True,
-        Truth::Undefined => Truth::Undefined,
+        Truth::Undefined => t,
     }
 }
 
 // Is the first value not below the second?
-pub fn not_below(order: Order) -> bool
+pub(crate) fn not_below(order: Order) -> bool
     ensures { λ r. ⌜ r ≡ not (isLess order) ⌝ }
 {
     match order {

@@ -1,4 +1,4 @@
-use mathlib.Core.Path.{refl, sym, ap, _∙_}
+use mathlib.Core.Path.{sym, _∙_}
 use borrow.Author.Needs.{needs}
 use Rattle.filter.proofs.item.decidable.Statement.{statement}
 use Rattle.filter.proofs.item.decidable.Tie as tie

@@ -1,4 +1,4 @@
-use mathlib.Core.Path.{refl, sym, ap, ap₂, _∙_}
+use mathlib.Core.Path.{ap₂}
 use mathlib.Core.Bool.{_&&_}
 use borrow.Author.Tests.{eq-eqb, ne-eqb}
 use Rattle.filter.specs.Items.{definedBy}
