@@ -55,6 +55,15 @@ pub record Opens (σ : Setting) (n : Name) (o : ℕ) (list : List ℕ) : Type 0 
   pub outcome : o ≡ openingOf σ n
   pub chosen : Chosen σ n list
 
+-- the index of the entry number `b`
+pub index-suc : (b : ℕ) → (b ≡ 0 → ⊥) → b ≡ suc (b - 1)
+index-suc zero z = absurd (z refl)
+index-suc (suc b) z = omega arith
+
+pub index-within : (b m : ℕ) → b ≤ m → (b ≡ 0 → ⊥) → b - 1 < m
+index-within zero m l z = absurd (z refl)
+index-within (suc b) m l z = omega (arith, l)
+
 -- a list's front as code takes it
 pub front : (n : ℕ) (xs : List ℕ) → take (n - 0) xs ≡ take n xs
 front n xs = let e : n - 0 ≡ n = omega arith in rw e

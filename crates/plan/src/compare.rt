@@ -177,3 +177,55 @@ fn compare_entry(
         v,
     )
 }
+
+// The plan of a compare: the value `v` with those of the type `t` of the entry that `base` found.
+pub fn compare(
+    schema: &[u64],
+    w: usize,
+    d: &[u8],
+    at: &[usize],
+    parents: &[usize],
+    lengths: &[usize],
+    p: &[u8],
+    rights: &[u64],
+    reach: &[usize],
+    base: Found,
+    missing: usize,
+    t: u64,
+    v: &[u8],
+    list: &mut [usize],
+    types: &mut [u64],
+    places: &mut [usize],
+    sizes: &mut [usize],
+) -> Plan
+    requires { ⌜ Lent w (now d) (now at) (now parents) (now lengths) (now reach) (now list) (now types) (now places) (now sizes) × Numbered (length (now at)) base missing ⌝ }
+    ensures { λ r. ⌜ ((hits : List ℕ) → Sound (length (now (at .entry))) r hits) × ((σ : Setting) (es : List Stored) (naming scopes : List ℕ) (n : Name) (s : Selection) (hits : List ℕ) → World σ es (now (schema .entry)) w (now (d .entry)) (now (at .entry)) (now (parents .entry)) naming (now (lengths .entry)) (now (p .entry)) (now (rights .entry)) scopes (now (reach .entry)) → Base σ es n base missing → planned σ es s r hits ≡ Answer.answer σ (map entryOf es) n (Request.compare t (now (v .entry)))) ⌝ }
+{
+    match base {
+        Found::At(b) => {
+            if b == 0 {
+                return absent(2, missing);
+            }
+            compare_entry(
+                schema,
+                w,
+                d,
+                at,
+                parents,
+                lengths,
+                p,
+                rights,
+                reach,
+                b - 1,
+                missing,
+                t,
+                v,
+                list,
+                types,
+                places,
+                sizes,
+            )
+        }
+        Found::Nothing => absent(2, missing),
+    }
+}
