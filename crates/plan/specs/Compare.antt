@@ -8,7 +8,7 @@ use lib.Dec.{eqb}
 use lib.ListN.{getD}
 use Rattle.rules.specs.Sheet.{Bytes, Line, line}
 use Rattle.rules.specs.Name.{allowed, equal}
-use Rattle.rules.specs.Directory.{Stored, blank, Entry, entryOf}
+use Rattle.rules.specs.Directory.{Stored, blank, heldOf, Entry, entryOf}
 use Rattle.rules.specs.Permission.{DiscloseOnError, Compare}
 use Rattle.rules.specs.Decision.{Setting, ofType, granted}
 use Rattle.rules.specs.Request.{Selection}
@@ -82,7 +82,11 @@ comparePlan b = record { operation = 2; outcome = 0; more = 0; name = 0; entry =
 pub compare-sound : (count : ℕ) (b : Bool) (hits : List ℕ) → Sound count (comparePlan b) hits
 compare-sound count b hits = record { name = zero-le; entry = zero-le; shown = zero-le; hits = λ i m. absurd (omega (arith, m)) }
 
-module _ (σ : Setting) (es : List Stored) (s : Selection) (hits : List ℕ) (t : ℕ) (v : Bytes) (e : Entry) where
+-- of the entry of index `k`
+module _ (σ : Setting) (es : List Stored) (s : Selection) (hits : List ℕ) (t : ℕ) (v : Bytes) (k : ℕ) where
+  abbrev e : Entry
+  e = record { name = getD es k blank .name; held = heldOf (getD es k blank .values) }
+
   answered : Bool → List Line
   answered b = outcome 2 0 ++ (line 31 (bit b) 0 0 [] ∷ [])
 
@@ -95,8 +99,8 @@ module _ (σ : Setting) (es : List Stored) (s : Selection) (hits : List ℕ) (t 
   abbrev out : (g h a d : Bool) → ℕ
   out g h a d = cond g (whenGranted h a) (whenRefused h d)
 
-  pub compared-planned : (b : Bool) → compareOutcome σ t v e ≡ 0 → b ≡ someValue σ e t Compare (λ w. equal (σ .schema) t v w) → planned σ es s (comparePlan b) hits ≡ compareEntry σ t v e
-  unfolding planned successLines compareEntry compareOutcome comparison refusal answered same by-outcome outcome
+  pub compared-planned : (b : Bool) → compareOutcome σ t v e ≡ 0 → b ≡ someValue σ e t Compare (λ w. equal (σ .schema) t v w) → planned σ es s (comparePlan b) hits ≡ compareEntry σ t v (entryOf (getD es k blank))
+  unfolding planned successLines compareEntry compareOutcome comparison refusal answered same by-outcome outcome entryOf
   compared-planned b o q = ap answered q ∙ go (granted σ (e .name) (ofType t) Compare) (holds e t) (allowed (σ .schema) t v) (granted σ (e .name) (ofType t) DiscloseOnError) o
     where
       go : (g h a d : Bool) → out g h a d ≡ 0 → answered same ≡ by-outcome g h a d
@@ -107,8 +111,8 @@ module _ (σ : Setting) (es : List Stored) (s : Selection) (hits : List ℕ) (t 
       go false true a false z = absurd (omega (arith, z))
       go false false a d z = absurd (omega (arith, z))
 
-  pub refused-compare : (o : ℕ) → o ≡ compareOutcome σ t v e → (o ≡ 0 → ⊥) → planned σ es s (refusedPlan 2 o) hits ≡ compareEntry σ t v e
-  unfolding compareEntry compareOutcome comparison refusal answered same by-outcome
+  pub refused-compare : (o : ℕ) → o ≡ compareOutcome σ t v e → (o ≡ 0 → ⊥) → planned σ es s (refusedPlan 2 o) hits ≡ compareEntry σ t v (entryOf (getD es k blank))
+  unfolding compareEntry compareOutcome comparison refusal answered same by-outcome entryOf
   refused-compare o q z = go (granted σ (e .name) (ofType t) Compare) (holds e t) (allowed (σ .schema) t v) (granted σ (e .name) (ofType t) DiscloseOnError) q
     where
       plain : (b : ℕ) → 2 ≤ b → o ≡ b → planned σ es s (refusedPlan 2 o) hits ≡ outcome 2 b

@@ -1,4 +1,5 @@
 // What an answer is made of, decided before a byte of it is written: the outcome, and the entries whose lines follow, by number.
+pub mod compare;
 pub mod list;
 pub mod opened;
 pub mod outcome;
