@@ -1,21 +1,22 @@
 -- The entries that list and search return, by number: the tests of the rules at an index, and the hits as indices that pass.
-use Prim.Native.Nat.{ℕ, zero, suc, _+_, _≤_, _<_, zero-le}
+use Prim.Native.Nat.{ℕ, zero, suc, _+_, _-_, _≤_, _<_, zero-le}
 use mathlib.Core.Path.{_≡_, refl, sym, ap, _∙_, subst}
 use mathlib.Core.Bool.{Bool, true, false, _&&_, _||_, or-false, and-assoc}
 use mathlib.Core.List.{List, [], _∷_, _++_, map}
 use native.Mathlib.Numerals.{add-one}
 use lib.Dec.{eqb}
 use borrow.Author.Tests.{eq-eqb, ne-eqb}
-use lib.ListN.{length, getD, length-map, List·getD-map}
-use Rattle.rules.specs.Sheet.{Line, line}
-use Rattle.rules.specs.Name.{Schema, Name, sameName}
-use Rattle.rules.specs.Directory.{Stored, blank, nameAt, Entry, entryOf}
+use lib.ListN.{length, getD, take, length-map, List·getD-map}
+use Rattle.rules.specs.Sheet.{Bytes, Line, line}
+use Rattle.rules.specs.Name.{Schema, Part, Name, sameName}
+use Rattle.rules.specs.Directory.{Stored, blank, nameAt, heldOf, Entry, entryOf}
 use Rattle.rules.specs.Permission.{Read, Browse, ReturnDN}
 use Rattle.rules.specs.Decision.{Setting, entry, granted}
 use Rattle.rules.specs.Filter.{Filter, isTrue, evaluate}
 use Rattle.rules.specs.FilterItem.{itemTruth}
 use Rattle.rules.specs.Request.{Search}
 use Rattle.rules.specs.Answer as Answer
+use Rattle.rules.specs.Places.{ValuesAt}
 use Rattle.rules.specs.Laws.Directory.{Accepted}
 use Rattle.rules.specs.Laws.Tests.{and-left}
 use Rattle.rules.specs.Laws.ByNumber.{climbs}
@@ -23,6 +24,7 @@ use Rattle.rules.specs.Laws.Hits.{withinNumber, listed-number, candidate-number
 use Rattle.rules.specs.Laws.Resolve.{walk, walk-found}
 use Rattle.rules.specs.declared.Found.the-variants.{At}
 use Rattle.plan.specs.Plan.{childLines, foundLines, informationAt}
+use Rattle.plan.specs.Opened.{front}
 use Rattle.plan.specs.Passing.{passing, gather-passing}
 
 module _ (σ : Setting) where
@@ -104,6 +106,17 @@ module _ (σ : Setting) (es : List Stored) (b subset : ℕ) (f : Filter) (k : �
   pub found-asked : withinNumber es subset b (suc k) ≡ true → returnable σ (getD es k blank .name) (eqb (k + 1) b) ≡ true → matchesAt σ es f k ≡ foundAt σ es b subset f k
   unfolding foundAt
   found-asked e h = rw (e, ← add-one k, h)
+
+-- a filter's truth for the entry, from its name and values
+pub matches-entry : (σ : Setting) (es : List Stored) (f : Filter) (k : ℕ)
+    → isTrue (evaluate (itemTruth σ (record { name = getD es k blank .name; held = heldOf (getD es k blank .values) })) f) ≡ matchesAt σ es f k
+unfolding matchesAt entryOf
+matches-entry σ es f k = refl
+
+-- the values that were noted, as the fronts of the three lists
+pub values-front : (d : Bytes) (ps : List Part) (n : ℕ) (types places sizes : List ℕ) → ValuesAt d ps (take n types) (take n places) (take n sizes)
+    → ValuesAt d ps (take (n - 0) types) (take (n - 0) places) (take (n - 0) sizes)
+values-front d ps n types places sizes v = rw (front n types, front n places, front n sizes) v
 
 -- ---- they are the tests of the rules
 

@@ -50,7 +50,7 @@ pub record Sound (count : ℕ) (r : Plan) (hs : List ℕ) : Type 0 where
 
 module _ {σ : Setting} {es : List Stored} {schema : List ℕ} {w : ℕ} {d : Bytes} {at parents naming lengths : List ℕ} {p : Bytes} {rights scopes reach : List ℕ}
     (h : World σ es schema w d at parents naming lengths p rights scopes reach) where
-  parents-are : Parents es parents
+  pub parents-are : Parents es parents
   parents-are = parents-of w d es at parents naming lengths (h .entries)
 
   pub parent-at : (k : ℕ) → getD parents k 0 ≡ getD es k blank .parent

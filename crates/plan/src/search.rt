@@ -42,3 +42,88 @@ fn within(parents: &[usize], b: usize, subset: u64, k: usize) -> bool
     }
     access::reach::climbs(parents, b, k + 1)
 }
+
+// Is the filter at position `filter` of `q` true of the entry of index `k`, which the items of `list` concern?
+fn matching(
+    schema: &[u64],
+    w: usize,
+    d: &[u8],
+    at: &[usize],
+    lengths: &[usize],
+    p: &[u8],
+    rights: &[u64],
+    q: &[u8],
+    filter: usize,
+    k: usize,
+    list: &[usize],
+    types: &mut [u64],
+    places: &mut [usize],
+    sizes: &mut [usize],
+) -> bool
+    requires { ⌜ (w ≤ 18) × (length (now d) ≤ 65536) × (k < length (now at)) × (length (now lengths) ≡ length (now at)) × (getD (now at) k 0 + (5 * w + 1 + getD (now lengths) k 0) ≤ length (now d)) × (length (now places) ≡ length (now types)) × (length (now sizes) ≡ length (now types)) × (length (now d) ≤ (5 * w + 1) * length (now types)) ⌝ }
+    ensures { λ r. ⌜ ((σ : Setting) (es : List Stored) (parents naming scopes reach : List ℕ) (f : Filter) → World σ es (now (schema .entry)) w (now (d .entry)) (now (at .entry)) parents naming (now (lengths .entry)) (now (p .entry)) (now (rights .entry)) scopes reach → Chosen σ (getD es k blank .name) (now (list .entry)) → Request.filter 16 128 (linesAt w (now (q .entry)) filter) (λ f left rest. accept f) ≡ accept f → r ≡ matchesAt σ es f k) ⌝ }
+{
+    let n = values(w, d, at, lengths, k, types, places, sizes);
+    filter::tree::matches(
+        schema,
+        w,
+        d,
+        p,
+        rights,
+        list,
+        &types[0..n],
+        &places[0..n],
+        &sizes[0..n],
+        q,
+        filter,
+    )
+}
+
+// Does search return the entry of index `k`? It is within the subset of base number `b`, may be returned, and the filter is true of it.
+fn found_at(
+    schema: &[u64],
+    w: usize,
+    d: &[u8],
+    at: &[usize],
+    parents: &[usize],
+    lengths: &[usize],
+    p: &[u8],
+    rights: &[u64],
+    reach: &[usize],
+    b: usize,
+    subset: u64,
+    q: &[u8],
+    filter: usize,
+    k: usize,
+    list: &mut [usize],
+    types: &mut [u64],
+    places: &mut [usize],
+    sizes: &mut [usize],
+) -> bool
+    requires { ⌜ Lent w (now d) (now at) (now parents) (now lengths) (now reach) (now list) (now types) (now places) (now sizes) × (k < length (now parents)) ⌝ }
+    ensures { λ r. ⌜ ((σ : Setting) (es : List Stored) (naming scopes : List ℕ) (f : Filter) → World σ es (now (schema .entry)) w (now (d .entry)) (now (at .entry)) (now (parents .entry)) naming (now (lengths .entry)) (now (p .entry)) (now (rights .entry)) scopes (now (reach .entry)) → Request.filter 16 128 (linesAt w (now (q .entry)) filter) (λ f left rest. accept f) ≡ accept f → r ≡ foundAt σ es b subset f k) ⌝ }
+{
+    if !within(parents, b, subset, k) {
+        return false;
+    }
+    let n = access::reach::select(reach, parents, k + 1, list);
+    if !returnable(rights, &list[0..n], k + 1 == b) {
+        return false;
+    }
+    matching(
+        schema,
+        w,
+        d,
+        at,
+        lengths,
+        p,
+        rights,
+        q,
+        filter,
+        k,
+        &list[0..n],
+        types,
+        places,
+        sizes,
+    )
+}
