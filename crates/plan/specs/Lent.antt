@@ -1,6 +1,6 @@
 -- What planning rests on: the numbers that it is lent, the entry that is asked for, and what the writer of a plan may rely on.
 use Prim.Native.Nat.{ℕ, suc, _+_, _-_, _*_, _≤_, _<_}
-use mathlib.Core.Path.{_≡_, subst}
+use mathlib.Core.Path.{_≡_, sym, _∙_, subst}
 use native.Mathlib.Omega.{arith}
 use mathlib.Core.List.{List, map}
 use lib.ListN.{length, getD, take}
@@ -62,3 +62,21 @@ module _ {σ : Setting} {es : List Stored} {schema : List ℕ} {w : ℕ} {d : By
   chosen-at e before n after s k q l =
       let z : n ≡ n - 0 = omega arith in
       subst (λ (m : ℕ). Chosen σ (getD es k blank .name) (take m after)) z (s .chosen σ es k (h .accepted) parents-are (h .reached) q l)
+
+-- scratch lists of the same lengths serve as well
+pub lent-again : {w : ℕ} {d : Bytes} {at parents lengths reach list types places sizes : List ℕ} (list′ types′ places′ sizes′ : List ℕ)
+    → length list′ ≡ length list → length types′ ≡ length types → length places′ ≡ length places → length sizes′ ≡ length sizes
+    → Lent w d at parents lengths reach list types places sizes → Lent w d at parents lengths reach list′ types′ places′ sizes′
+lent-again {w} {d} {reach = reach} list′ types′ places′ sizes′ a b c e h = record {
+  narrow = h .narrow;
+  wide = h .wide;
+  small = h .small;
+  few = h .few;
+  parents-noted = h .parents-noted;
+  lengths-noted = h .lengths-noted;
+  within = h .within;
+  items = subst (λ (n : ℕ). length reach ≤ n) (sym a) (h .items);
+  places-noted = c ∙ h .places-noted ∙ sym b;
+  sizes-noted = e ∙ h .sizes-noted ∙ sym b;
+  values = subst (λ (n : ℕ). length d ≤ (5 * w + 1) * n) (sym b) (h .values);
+}

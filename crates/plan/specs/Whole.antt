@@ -78,13 +78,14 @@ module _ (σ : Setting) (es : List Stored) (ok : Accepted (σ .schema) es) (n : 
         ∙ returned-planned σ es s hits count room 3 (childLines es) (child-success σ es s hits count room) n base missing h d disclosed limit (listHits σ (map entryOf es) n)
         (list-hits σ es ok n b there ∙ ap (map (childLines es)) (sym taken))
 
-    pub search-some : (r : Search) → take count hits ≡ passing (foundAt σ es b (r .subset) (r .filter)) (length es) → plan ≡ returnedPlan 4 missing d (r .limit) count
+    pub search-some : (r : Search) (limit subset : ℕ) → r .limit ≡ limit → r .subset ≡ subset
+        → take count hits ≡ passing (foundAt σ es b subset (r .filter)) (length es) → plan ≡ returnedPlan 4 missing d limit count
         → planned σ es (r .selection) plan hits ≡ answer σ (map entryOf es) n (search r)
     unfolding answer
-    search-some r taken q =
-        ap (λ (p : Plan). planned σ es (r .selection) p hits) q
+    search-some r limit subset l u taken q =
+        ap (λ (p : Plan). planned σ es (r .selection) p hits) (q ∙ ap (λ (x : ℕ). returnedPlan 4 missing d x count) (sym l))
         ∙ returned-planned σ es (r .selection) hits count room 4 (foundLines σ es (r .selection)) (found-success σ es (r .selection) hits count room) n base missing h d disclosed (r .limit) (searchHits σ (map entryOf es) n r)
-        (search-hits σ es ok n b there r ∙ ap (map (foundLines σ es (r .selection))) (sym taken))
+        (search-hits σ es ok n b there r ∙ ap (map (foundLines σ es (r .selection))) (sym (taken ∙ ap (λ (x : ℕ). passing (foundAt σ es b x (r .filter)) (length es)) (sym u))))
 
 -- the numbers of the plans are in range
 module _ (count : ℕ) (base : Found) (missing : ℕ) (h : Numbered count base missing) (plan : Plan) (hits : List ℕ) (op : ℕ) where

@@ -127,3 +127,112 @@ fn found_at(
         sizes,
     )
 }
+
+// Notes the indices of the entries that search returns, in order; how many they are.
+fn found(
+    schema: &[u64],
+    w: usize,
+    d: &[u8],
+    at: &[usize],
+    parents: &[usize],
+    lengths: &[usize],
+    p: &[u8],
+    rights: &[u64],
+    reach: &[usize],
+    b: usize,
+    subset: u64,
+    q: &[u8],
+    filter: usize,
+    list: &mut [usize],
+    types: &mut [u64],
+    places: &mut [usize],
+    sizes: &mut [usize],
+    hits: &mut [usize],
+) -> usize
+    requires { ⌜ Lent w (now d) (now at) (now parents) (now lengths) (now reach) (now list) (now types) (now places) (now sizes) × (length (now parents) ≤ length (now hits)) ⌝ }
+    ensures { λ n. ⌜ Indices (length (now (parents .entry))) n (now (hits .exit)) × ((σ : Setting) (es : List Stored) (naming scopes : List ℕ) (f : Filter) → World σ es (now (schema .entry)) w (now (d .entry)) (now (at .entry)) (now (parents .entry)) naming (now (lengths .entry)) (now (p .entry)) (now (rights .entry)) scopes (now (reach .entry)) → Request.filter 16 128 (linesAt w (now (q .entry)) filter) (λ f left rest. accept f) ≡ accept f → take n (now (hits .exit)) ≡ passing (foundAt σ es b subset f) (length es)) ⌝ }
+{
+    let mut n: usize = 0;
+    let mut k: usize = 0;
+    while k < parents.len() {
+        if found_at(
+            schema,
+            w,
+            d,
+            at,
+            parents,
+            lengths,
+            p,
+            rights,
+            reach,
+            b,
+            subset,
+            q,
+            filter,
+            k,
+            list,
+            types,
+            places,
+            sizes,
+        ) {
+            hits[n] = k;
+            n += 1;
+        }
+        k += 1;
+    }
+    n
+}
+
+// The plan of a search: the entries of the subset that may be returned and that the filter at position `filter` of `q` is true of,
+// within the size limit.
+pub fn search(
+    schema: &[u64],
+    w: usize,
+    d: &[u8],
+    at: &[usize],
+    parents: &[usize],
+    lengths: &[usize],
+    p: &[u8],
+    rights: &[u64],
+    reach: &[usize],
+    base: Found,
+    missing: usize,
+    limit: u64,
+    subset: u64,
+    q: &[u8],
+    filter: usize,
+    list: &mut [usize],
+    types: &mut [u64],
+    places: &mut [usize],
+    sizes: &mut [usize],
+    hits: &mut [usize],
+) -> Plan
+    requires { ⌜ Lent w (now d) (now at) (now parents) (now lengths) (now reach) (now list) (now types) (now places) (now sizes) × Numbered (length (now parents)) base missing × (length (now parents) ≤ length (now hits)) ⌝ }
+    ensures { λ r. ⌜ Sound (length (now (parents .entry))) r (now (hits .exit)) × ((σ : Setting) (es : List Stored) (naming scopes : List ℕ) (n : Name) (s : Search) → World σ es (now (schema .entry)) w (now (d .entry)) (now (at .entry)) (now (parents .entry)) naming (now (lengths .entry)) (now (p .entry)) (now (rights .entry)) scopes (now (reach .entry)) → Base σ es n base missing → s .limit ≡ limit → s .subset ≡ subset → Request.filter 16 128 (linesAt w (now (q .entry)) filter) (λ f left rest. accept f) ≡ accept (s .filter) → planned σ es (s .selection) r (now (hits .exit)) ≡ answer σ (map entryOf es) n (Request.search s)) ⌝ }
+{
+    let Found::At(b) = base else {
+        return absent(4, missing);
+    };
+    let count = found(
+        schema,
+        w,
+        d,
+        at,
+        parents,
+        lengths,
+        p,
+        rights,
+        reach,
+        b,
+        subset,
+        q,
+        filter,
+        list,
+        types,
+        places,
+        sizes,
+        hits,
+    );
+    let open = disclosed(parents, rights, reach, b, list);
+    returned(4, missing, open, limit, count)
+}
