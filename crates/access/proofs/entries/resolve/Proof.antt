@@ -92,7 +92,7 @@ loop-less c = search needs
 loop-again : tie.Need-loop-again Inv-loop μ-loop
 loop-again c = let a = c .before .before .before .before .before .before .before .before .before .before .before .before .before .before .before .before .before .before .args in
     let L = c .before .before .before .before .before .before .before .before .before .before .loop in
-    (L .inv .0, up-to (length (now (a .at))) _ _ (c .before .before .before .child .ensures .0) (c .before .k .given .1), λ es h. sym (walk-on (schemaOf (now (a .schema))) es (L .from) (a .w) (now (a .s)) (L .j) (sym (c .before .before .before .before .before .before .before .before .line-at .ensures) ∙ c .before .before .before .before .before .before .a .given .1) _ (c .before .before .before .before .value-at .ensures) (L .left) _ (c .before .before .before .before .before .before .before .before .before .loop-test .taken) (sym (c .before .before .before .child .ensures .1 es h) ∙ c .before .k .given .1)) ∙ L .inv .2 es h)
+    (L .inv .0, omega (arith, up-to (length (now (a .at))) _ _ (c .before .before .before .child .ensures .0) (c .before .k .given .1), L .inv .1), λ es h. sym (walk-on (schemaOf (now (a .schema))) es (L .from) (a .w) (now (a .s)) (L .j) (sym (c .before .before .before .before .before .before .before .before .line-at .ensures) ∙ c .before .before .before .before .before .before .a .given .1) _ (c .before .before .before .before .value-at .ensures) (L .left) _ (c .before .before .before .before .before .before .before .before .before .loop-test .taken) (sym (c .before .before .before .child .ensures .1 es h) ∙ c .before .k .given .1)) ∙ L .inv .2 es h)
 
 -- src/entries.rt:88:17
 enum-told-2 : tie.Need-enum-told-2 Inv-loop μ-loop

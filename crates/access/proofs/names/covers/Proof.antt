@@ -2,10 +2,10 @@ use Rattle.access.specs.Names.{next-none, next-some, covers-all, covers-
 use Rattle.rules.specs.Places.{schemaOf, linesAt, partsOf}
 use Rattle.rules.specs.Name.{covers}
 use denote.Ref.{now}
-use lib.ListN.{length, drop}
+use lib.ListN.{length}
 use native.Mathlib.Omega.{arith}
-use mathlib.Core.Path.{_≡_, refl, sym, ap, _∙_}
-use Prim.Native.Nat.{ℕ, _+_, _-_, _*_, _≤_, _<_}
+use mathlib.Core.Path.{_≡_, refl, sym, _∙_}
+use Prim.Native.Nat.{_<_}
 use borrow.Author.Needs.{needs}
 use Rattle.access.proofs.names.covers.Statement.{statement}
 use Rattle.access.proofs.names.covers.Tie as tie

@@ -1,5 +1,5 @@
 use Rattle.access.specs.Names.{next-zero, next-by}
-use mathlib.Core.Path.{refl, sym, _∙_}
+use mathlib.Core.Path.{sym, _∙_}
 use borrow.Author.Needs.{needs}
 use Rattle.access.proofs.names.part_at.Statement.{statement}
 use Rattle.access.proofs.names.part_at.Tie as tie

@@ -4,8 +4,7 @@ use Rattle.rules.specs.Name.{part}
 use Rattle.rules.specs.Sheet.{valueOf}
 use denote.Ref.{now}
 use lib.ListN.{drop}
-use mathlib.Core.Path.{refl, sym, _∙_}
-use Prim.Native.Nat.{ℕ, _+_, _*_}
+use mathlib.Core.Path.{sym, _∙_}
 use borrow.Author.Needs.{needs}
 use Rattle.access.proofs.names.same_part.Statement.{statement}
 use Rattle.access.proofs.names.same_part.Tie as tie
