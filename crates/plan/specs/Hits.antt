@@ -23,8 +23,11 @@ use Rattle.rules.specs.Laws.ByNumber.{climbs}
 use Rattle.rules.specs.Laws.Hits.{withinNumber, listed-number, candidate-number, child-hit}
 use Rattle.rules.specs.Laws.Resolve.{walk, walk-found}
 use Rattle.rules.specs.declared.Found.the-variants.{At}
+use Rattle.access.specs.Chosen.{Chosen}
+use Rattle.access.specs.Reach.{Parents, parents-of, Selected}
+use Rattle.access.specs.World.{World}
 use Rattle.plan.specs.Plan.{childLines, foundLines, informationAt}
-use Rattle.plan.specs.Opened.{front}
+use Rattle.plan.specs.Opened.{front, items-chosen}
 use Rattle.plan.specs.Passing.{passing, gather-passing}
 
 module _ (σ : Setting) where
@@ -50,6 +53,17 @@ module _ (σ : Setting) where
     foundAt subset f k = withinNumber es subset b (suc k) && (returnable (getD es k blank .name) (eqb (suc k) b) && matchesAt es f k)
 
 -- ---- what the code finds of an entry
+
+module _ {σ : Setting} {es : List Stored} {schema : List ℕ} {w : ℕ} {d : Bytes} {at parents naming lengths : List ℕ} {p : Bytes} {rights scopes reach : List ℕ}
+    (h : World σ es schema w d at parents naming lengths p rights scopes reach) where
+  pub parents-are : Parents es parents
+  parents-are = parents-of w d es at parents naming lengths (h .entries)
+
+  -- the items that were selected for the entry of index `k`, at the front of the list
+  pub chosen-front : (k : ℕ) → k < length parents → (before : List ℕ) (n : ℕ) (after : List ℕ) → Selected parents reach (k + 1) before n after
+      → Chosen σ (getD es k blank .name) (take (n - 0) after)
+  chosen-front k l before n after s =
+      subst (Chosen σ (getD es k blank .name)) (sym (front n after)) (items-chosen σ es schema w d at parents naming lengths p rights scopes reach h k l before n after s)
 
 module _ (σ : Setting) (n : Name) (base : Bool) where
   pub browse-granted : granted σ n entry Browse ≡ true → true ≡ browsable σ n base
@@ -146,31 +160,25 @@ module _ (σ : Setting) (es : List Stored) (ok : Accepted (σ .schema) es) (n : 
     unfolding Answer.searchHit foundLines informationAt entryOf nameAt
     found-lines r = refl
 
+  at : (k : ℕ) → getD (map entryOf es) k (entryOf blank) ≡ entryOf (getD es k blank)
+  at k = List·getD-map entryOf es k blank
+
+  inside : (k : ℕ) → k < length (map entryOf es) → k < length es
+  inside k l = subst (λ (m : ℕ). k < m) (length-map es entryOf) l
+
   -- the hits, by their indices
   pub list-hits : Answer.listHits σ (map entryOf es) n ≡ map (childLines es) (passing (listedAt σ es b) (length es))
   unfolding Answer.listHits
   list-hits =
       gather-passing (Answer.listed σ n) (Answer.listHit σ n) (entryOf blank) (map entryOf es) (listedAt σ es b) (childLines es)
-      (λ k l. ap (Answer.listed σ n) (at k) ∙ listed-at k (within k l))
-      (λ k l e. ap (Answer.listHit σ n) (at k) ∙ listed-lines k (within k l) e)
+      (λ k l. ap (Answer.listed σ n) (at k) ∙ listed-at k (inside k l))
+      (λ k l e. ap (Answer.listHit σ n) (at k) ∙ listed-lines k (inside k l) e)
       ∙ ap (λ (m : ℕ). map (childLines es) (passing (listedAt σ es b) m)) (length-map es entryOf)
-    where
-      at : (k : ℕ) → getD (map entryOf es) k (entryOf blank) ≡ entryOf (getD es k blank)
-      at k = List·getD-map entryOf es k blank
-
-      within : (k : ℕ) → k < length (map entryOf es) → k < length es
-      within k l = subst (λ (m : ℕ). k < m) (length-map es entryOf) l
 
   pub search-hits : (r : Search) → Answer.searchHits σ (map entryOf es) n r ≡ map (foundLines σ es (r .selection)) (passing (foundAt σ es b (r .subset) (r .filter)) (length es))
   unfolding Answer.searchHits
   search-hits r =
       gather-passing (Answer.found σ n r) (Answer.searchHit σ r) (entryOf blank) (map entryOf es) (foundAt σ es b (r .subset) (r .filter)) (foundLines σ es (r .selection))
-      (λ k l. ap (Answer.found σ n r) (at k) ∙ found-at k (within k l) r)
-      (λ k l e. ap (Answer.searchHit σ r) (at k) ∙ found-lines k (within k l) r)
+      (λ k l. ap (Answer.found σ n r) (at k) ∙ found-at k (inside k l) r)
+      (λ k l e. ap (Answer.searchHit σ r) (at k) ∙ found-lines k (inside k l) r)
       ∙ ap (λ (m : ℕ). map (foundLines σ es (r .selection)) (passing (foundAt σ es b (r .subset) (r .filter)) m)) (length-map es entryOf)
-    where
-      at : (k : ℕ) → getD (map entryOf es) k (entryOf blank) ≡ entryOf (getD es k blank)
-      at k = List·getD-map entryOf es k blank
-
-      within : (k : ℕ) → k < length (map entryOf es) → k < length es
-      within k l = subst (λ (m : ℕ). k < m) (length-map es entryOf) l

@@ -1,20 +1,16 @@
 -- What planning rests on: the numbers that it is lent, the entry that is asked for, and what the writer of a plan may rely on.
-use Prim.Native.Nat.{ℕ, suc, _+_, _-_, _*_, _≤_, _<_}
+use Prim.Native.Nat.{ℕ, _+_, _-_, _*_, _≤_, _<_}
 use mathlib.Core.Path.{_≡_, sym, _∙_, subst}
-use native.Mathlib.Omega.{arith}
 use mathlib.Core.List.{List, map}
-use lib.ListN.{length, getD, take}
+use lib.ListN.{length, getD}
 use Rattle.rules.specs.Sheet.{Bytes}
 use Rattle.rules.specs.Name.{Name}
-use Rattle.rules.specs.Directory.{Stored, blank, nameAt, entryOf}
+use Rattle.rules.specs.Directory.{Stored, nameAt, entryOf}
 use Rattle.rules.specs.Decision.{Setting}
 use Rattle.rules.specs.Answer.{matchedName}
 use Rattle.rules.specs.Laws.Resolve.{walk}
 use Rattle.rules.specs.declared.Found.{Found}
 use Rattle.rules.specs.declared.Found.the-variants.{At}
-use Rattle.access.specs.World.{World}
-use Rattle.access.specs.Chosen.{Chosen}
-use Rattle.access.specs.Reach.{Parents, parents-of, Selected}
 use Rattle.plan.specs.declared.Plan.{Plan}
 
 -- the entries' numbers lie within the sheet, and there is room: in `list` for the items of an entry, in `types`, `places` and `sizes` for its values
@@ -47,21 +43,6 @@ pub record Sound (count : ℕ) (r : Plan) (hs : List ℕ) : Type 0 where
   pub entry : r .entry ≤ count
   pub shown : r .shown ≤ length hs
   pub hits : (i : ℕ) → i < r .shown → getD hs i 0 < count
-
-module _ {σ : Setting} {es : List Stored} {schema : List ℕ} {w : ℕ} {d : Bytes} {at parents naming lengths : List ℕ} {p : Bytes} {rights scopes reach : List ℕ}
-    (h : World σ es schema w d at parents naming lengths p rights scopes reach) where
-  pub parents-are : Parents es parents
-  parents-are = parents-of w d es at parents naming lengths (h .entries)
-
-  pub parent-at : (k : ℕ) → getD parents k 0 ≡ getD es k blank .parent
-  parent-at k = parents-are .parent k
-
-  -- the items that were selected for the entry of index `k` are those that concern it; they are the part from 0 to `n` of the list
-  pub chosen-at : (e : ℕ) (before : List ℕ) (n : ℕ) (after : List ℕ) → Selected parents reach e before n after → (k : ℕ) → e ≡ suc k → k < length es
-      → Chosen σ (getD es k blank .name) (take (n - 0) after)
-  chosen-at e before n after s k q l =
-      let z : n ≡ n - 0 = omega arith in
-      subst (λ (m : ℕ). Chosen σ (getD es k blank .name) (take m after)) z (s .chosen σ es k (h .accepted) parents-are (h .reached) q l)
 
 -- scratch lists of the same lengths serve as well
 pub lent-again : {w : ℕ} {d : Bytes} {at parents lengths reach list types places sizes : List ℕ} (list′ types′ places′ sizes′ : List ℕ)

@@ -61,8 +61,7 @@ pub fn disclosed(
     if b == 0 {
         return false;
     }
-    let n = access::reach::select(reach, parents, b, list);
-    granted_entry(rights, &list[0..n], DISCLOSE_ON_ERROR)
+    access::may::may_entry(parents, rights, reach, list, b, DISCLOSE_ON_ERROR)
 }
 
 // Success: the first `shown` of the entries found, and whether there are more.

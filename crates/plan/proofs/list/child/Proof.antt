@@ -1,10 +1,6 @@
-use Prim.Native.Nat.{_+_}
-use Rattle.plan.specs.Lent.{parent-at, chosen-at}
-use Rattle.plan.specs.Hits.{listed-other, listed-child}
+use Rattle.plan.specs.Hits.{parents-are, chosen-front, listed-other, listed-child}
 use Rattle.rules.specs.Directory.{blank}
 use lib.ListN.{getD}
-use native.Mathlib.Numerals.{add-one}
-use native.Mathlib.Omega.{arith}
 use mathlib.Core.Path.{_≡_, sym, _∙_}
 use borrow.Author.Needs.{needs}
 use Rattle.plan.proofs.list.child.Statement.{statement}
@@ -24,7 +20,7 @@ shared-slice-read-if1 c = search needs
 
 -- src/list.rt:37:9
 returns : tie.Need-returns
-returns c = λ σ es schema w d at naming lengths p scopes h. listed-other σ es _ _ (λ e. c .if1 .taken (parent-at h _ ∙ e))
+returns c = λ σ es schema w d at naming lengths p scopes h. listed-other σ es _ _ (λ e. c .if1 .taken (parents-are h .parent _ ∙ e))
 
 -- src/list.rt:39:51
 add-select : tie.Need-add-select
@@ -58,8 +54,8 @@ same-length c = search needs
 returns-2 : tie.Need-returns-2
 returns-2 c = let a = c .before .before .before .before .before .before .before .before .before .before .before .before .before .args in
     λ σ es schema w d at naming lengths p scopes h.
-    c .returnable .ensures σ (getD es (a .k) blank .name) w p scopes (h .rows) (chosen-at h (a .k + 1) _ _ _ (c .before .before .before .before .before .select .ensures) (a .k) (add-one (a .k)) (omega (arith, c .before .before .before .before .before .before .before .before .before .before .before .before .before .pre .0, h .entries .parents-noted)))
-    ∙ listed-child σ es (a .b) (a .k) (sym (parent-at h (a .k)) ∙ c .before .before .before .before .before .before .before .if1 .left)
+    c .returnable .ensures σ (getD es (a .k) blank .name) w p scopes (h .rows) (chosen-front h (a .k) (c .before .before .before .before .before .before .before .before .before .before .before .before .before .pre .0) _ _ _ (c .before .before .before .before .before .select .ensures))
+    ∙ listed-child σ es (a .b) (a .k) (sym (parents-are h .parent (a .k)) ∙ c .before .before .before .before .before .before .before .if1 .left)
 
 pub child-spec : {M : Type 1} → statement M
 child-spec =

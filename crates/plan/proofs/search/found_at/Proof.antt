@@ -1,13 +1,11 @@
+use Rattle.plan.specs.Hits.{parents-are, chosen-front, found-outside, found-withheld, found-asked}
+use Prim.Native.Nat.{_<_}
 use borrow.Author.Tests.{not-true, not-false}
-use Rattle.plan.specs.Lent.{parents-are, chosen-at}
-use Rattle.plan.specs.Hits.{found-outside, found-withheld, found-asked}
 use Rattle.rules.specs.Directory.{blank}
 use lib.ListN.{length, getD}
 use denote.Ref.{now}
-use native.Mathlib.Numerals.{add-one}
 use native.Mathlib.Omega.{arith}
 use mathlib.Core.Path.{_≡_, sym, _∙_}
-use Prim.Native.Nat.{_+_, _<_}
 use borrow.Author.Needs.{needs}
 use Rattle.plan.proofs.search.found_at.Statement.{statement}
 use Rattle.plan.proofs.search.found_at.Tie as tie
@@ -62,7 +60,7 @@ same-length c = search needs
 returns-2 : tie.Need-returns-2
 returns-2 c = let a = c .before .before .before .before .before .before .before .before .before .before .before .before .before .before .before .before .before .before .before .before .before .before .before .args in
     λ σ es naming scopes f h asked.
-    let chosen = chosen-at h (a .k + 1) _ _ _ (c .before .before .before .before .before .before .select .ensures) (a .k) (add-one (a .k)) (omega (arith, c .before .before .before .before .before .before .before .before .before .before .before .before .before .before .before .before .before .before .before .before .before .before .before .pre .1, h .entries .parents-noted)) in
+    let chosen = chosen-front h (a .k) (c .before .before .before .before .before .before .before .before .before .before .before .before .before .before .before .before .before .before .before .before .before .before .before .pre .1) _ _ _ (c .before .before .before .before .before .before .select .ensures) in
     found-withheld σ es (a .b) (a .subset) f (a .k) (sym (c .before .before .before .before .before .before .before .before .before .within .ensures es (parents-are h)) ∙ not-false _ (c .before .before .before .before .before .before .before .before .if1 .left))
     (sym (c .before .returnable .ensures σ (getD es (a .k) blank .name) (a .w) (now (a .p)) scopes (h .rows) chosen) ∙ not-true _ (c .if2 .taken))
 
@@ -105,7 +103,7 @@ same-length-5 c = search needs
 returns-3 : tie.Need-returns-3
 returns-3 c = let a = c .before .before .before .before .before .before .before .before .before .before .before .before .before .before .before .before .before .before .before .before .before .before .before .before .before .before .before .before .before .before .before .before .before .before .before .args in
     λ σ es naming scopes f h asked.
-    let chosen = chosen-at h (a .k + 1) _ _ _ (c .before .before .before .before .before .before .before .before .before .before .before .before .before .before .before .before .before .before .select .ensures) (a .k) (add-one (a .k)) (omega (arith, c .before .before .before .before .before .before .before .before .before .before .before .before .before .before .before .before .before .before .before .before .before .before .before .before .before .before .before .before .before .before .before .before .before .before .before .pre .1, h .entries .parents-noted)) in
+    let chosen = chosen-front h (a .k) (c .before .before .before .before .before .before .before .before .before .before .before .before .before .before .before .before .before .before .before .before .before .before .before .before .before .before .before .before .before .before .before .before .before .before .before .pre .1) _ _ _ (c .before .before .before .before .before .before .before .before .before .before .before .before .before .before .before .before .before .before .select .ensures) in
     c .before .before .before .before .before .before .matching .ensures σ es (now (a .parents)) naming scopes (now (a .reach)) f h chosen asked
     ∙ found-asked σ es (a .b) (a .subset) f (a .k) (sym (c .before .before .before .before .before .before .before .before .before .before .before .before .before .before .before .before .before .before .before .before .before .within .ensures es (parents-are h)) ∙ not-false _ (c .before .before .before .before .before .before .before .before .before .before .before .before .before .before .before .before .before .before .before .before .if1 .left))
     (sym (c .before .before .before .before .before .before .before .before .before .before .before .before .before .returnable .ensures σ (getD es (a .k) blank .name) (a .w) (now (a .p)) scopes (h .rows) chosen) ∙ not-false _ (c .before .before .before .before .before .before .before .before .before .before .before .before .if2 .left))
