@@ -1,15 +1,15 @@
 -- The entries that list and search return, by number: the tests of the rules at an index, and the hits as indices that pass.
-use Prim.Native.Nat.{ℕ, zero, suc, _+_, _-_, _≤_, _<_, zero-le}
+use Prim.Native.Nat.{ℕ, suc, _+_, _-_, _≤_, _<_, zero-le}
 use mathlib.Core.Path.{_≡_, refl, sym, ap, _∙_, subst}
 use mathlib.Core.Bool.{Bool, true, false, _&&_, _||_, or-false, and-assoc}
-use mathlib.Core.List.{List, [], _∷_, _++_, map}
+use mathlib.Core.List.{List, [], map}
 use native.Mathlib.Numerals.{add-one}
 use lib.Dec.{eqb}
 use borrow.Author.Tests.{eq-eqb, ne-eqb}
 use lib.ListN.{length, getD, take, length-map, List·getD-map}
-use Rattle.rules.specs.Sheet.{Bytes, Line, line}
-use Rattle.rules.specs.Name.{Schema, Part, Name, sameName}
-use Rattle.rules.specs.Directory.{Stored, blank, nameAt, heldOf, Entry, entryOf}
+use Rattle.rules.specs.Sheet.{Bytes}
+use Rattle.rules.specs.Name.{Part, Name, sameName}
+use Rattle.rules.specs.Directory.{Stored, blank, nameAt, heldOf, entryOf}
 use Rattle.rules.specs.Permission.{Read, Browse, ReturnDN}
 use Rattle.rules.specs.Decision.{Setting, entry, granted}
 use Rattle.rules.specs.Filter.{Filter, isTrue, evaluate}

@@ -1,14 +1,14 @@
 -- List and search as a whole: the plan of the entries found stands for the answer of the rules, and so does that of an absent base.
-use Prim.Native.Nat.{ℕ, zero, suc, _≤_, zero-le}
+use Prim.Native.Nat.{ℕ, _≤_}
 use mathlib.Core.Path.{_≡_, refl, sym, ap, _∙_, subst}
 use mathlib.Core.Bool.{Bool, true, false, _||_}
-use mathlib.Core.Option.{Option, none, some}
+use mathlib.Core.Option.{none}
 use mathlib.Core.List.{List, [], _∷_, map}
 use native.Mathlib.Omega.{arith}
 use lib.ListN.{length, take}
 use Rattle.rules.specs.Lists.{any, first, firstOr}
 use Rattle.rules.specs.Name.{Name, sameName}
-use Rattle.rules.specs.Directory.{Stored, Directory, Entry, entryOf, entries}
+use Rattle.rules.specs.Directory.{Stored, Directory, entryOf, entries}
 use Rattle.rules.specs.Decision.{Setting}
 use Rattle.rules.specs.Request.{Selection, Search, list, search}
 use Rattle.rules.specs.Answer as Answer

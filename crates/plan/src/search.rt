@@ -10,7 +10,6 @@ ghost use mathlib.Core.Path.{_≡_};
 ghost use Prim.Native.Nat.{ℕ, suc, _+_, _*_, _≤_, _<_};
 ghost use mathlib.Core.List.{List, map};
 ghost use lib.ListN.{length, getD, take};
-ghost use Rattle.rules.specs.Sheet.{Bytes};
 ghost use Rattle.rules.specs.Name.{Name};
 ghost use Rattle.rules.specs.Directory.{Stored, blank, entryOf};
 ghost use Rattle.rules.specs.Decision.{Setting};

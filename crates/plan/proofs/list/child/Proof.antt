@@ -1,7 +1,7 @@
 use Rattle.plan.specs.Hits.{parents-are, chosen-front, listed-other, listed-child}
 use Rattle.rules.specs.Directory.{blank}
 use lib.ListN.{getD}
-use mathlib.Core.Path.{_≡_, sym, _∙_}
+use mathlib.Core.Path.{sym, _∙_}
 use borrow.Author.Needs.{needs}
 use Rattle.plan.proofs.list.child.Statement.{statement}
 use Rattle.plan.proofs.list.child.Tie as tie

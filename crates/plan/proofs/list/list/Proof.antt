@@ -3,7 +3,6 @@ use Rattle.plan.specs.Whole.{list-none, list-some, none-sound, some-soun
 use denote.Ref.{now}
 use lib.ListN.{length}
 use native.Mathlib.Omega.{arith}
-use mathlib.Core.Path.{_≡_, sym, ap, _∙_}
 use borrow.Author.Needs.{needs}
 use Rattle.plan.proofs.list.list.Statement.{statement}
 use Rattle.plan.proofs.list.list.Tie as tie

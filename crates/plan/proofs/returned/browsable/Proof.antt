@@ -1,5 +1,5 @@
 use Rattle.plan.specs.Hits.{browse-granted, browse-base, browse-refused}
-use mathlib.Core.Path.{_≡_, sym, _∙_}
+use mathlib.Core.Path.{sym, _∙_}
 use borrow.Author.Needs.{needs}
 use Rattle.plan.proofs.returned.browsable.Statement.{statement}
 use Rattle.plan.proofs.returned.browsable.Tie as tie

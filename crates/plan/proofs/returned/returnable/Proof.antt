@@ -1,5 +1,5 @@
 use Rattle.plan.specs.Hits.{return-asked, return-refused}
-use mathlib.Core.Path.{_≡_, sym, _∙_}
+use mathlib.Core.Path.{sym, _∙_}
 use borrow.Author.Needs.{needs}
 use Rattle.plan.proofs.returned.returnable.Statement.{statement}
 use Rattle.plan.proofs.returned.returnable.Tie as tie

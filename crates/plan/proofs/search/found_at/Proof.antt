@@ -5,7 +5,7 @@ use Rattle.rules.specs.Directory.{blank}
 use lib.ListN.{length, getD}
 use denote.Ref.{now}
 use native.Mathlib.Omega.{arith}
-use mathlib.Core.Path.{_≡_, sym, _∙_}
+use mathlib.Core.Path.{sym, _∙_}
 use borrow.Author.Needs.{needs}
 use Rattle.plan.proofs.search.found_at.Statement.{statement}
 use Rattle.plan.proofs.search.found_at.Tie as tie

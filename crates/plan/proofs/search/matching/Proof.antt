@@ -2,7 +2,7 @@ use Rattle.plan.specs.Hits.{matches-entry, values-front}
 use Rattle.rules.specs.Directory.{blank}
 use lib.ListN.{getD}
 use denote.Ref.{now}
-use mathlib.Core.Path.{_≡_, _∙_}
+use mathlib.Core.Path.{_∙_}
 use borrow.Author.Needs.{needs}
 use Rattle.plan.proofs.search.matching.Statement.{statement}
 use Rattle.plan.proofs.search.matching.Tie as tie

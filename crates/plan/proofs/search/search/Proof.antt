@@ -2,7 +2,6 @@ use Rattle.plan.specs.Whole.{search-none, search-some, none-sound, some-
 use denote.Ref.{now}
 use lib.ListN.{length}
 use native.Mathlib.Omega.{arith}
-use mathlib.Core.Path.{_≡_, sym, ap, _∙_}
 use Prim.Native.Nat.{_≤_}
 use borrow.Author.Needs.{needs}
 use Rattle.plan.proofs.search.search.Statement.{statement}

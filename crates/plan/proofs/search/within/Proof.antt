@@ -1,6 +1,6 @@
 use Rattle.plan.specs.Hits.{within-base, within-children, within-below}
 use lib.Dec.{eqb}
-use mathlib.Core.Path.{_≡_, sym, ap, _∙_}
+use mathlib.Core.Path.{ap, _∙_}
 use Prim.Native.Nat.{ℕ}
 use borrow.Author.Needs.{needs}
 use Rattle.plan.proofs.search.within.Statement.{statement}
