@@ -8,6 +8,7 @@ use native.Mathlib.Omega.{arith}
 use lib.Dec.{eqb}
 use lib.ListN.{length, getD, take, drop, drop-of-length-le}
 use lib.Seq.{drop-cons}
+use borrow.Author.Tests.{ne-eqb}
 use Rattle.rules.specs.Lists.{given, gather, any, keep, isEmpty}
 use Rattle.rules.specs.Sheet.{Bytes, Line, line}
 use Rattle.rules.specs.Name.{Part, part, Name}
@@ -145,6 +146,17 @@ module _ (σ : Setting) (s : Selection) (n : Name) where
 abbrev pub asksNothing : Selection → Bool
 asksNothing s = s .listed && isEmpty (s .types)
 
+module _ (s : Selection) (listed : Bool) (wanted : List ℕ) (l : s .listed ≡ listed) (t : s .types ≡ wanted) where
+  pub asks-list : listed ≡ true → eqb (length wanted) 0 ≡ asksNothing s
+  asks-list e = go (s .types) t ∙ ap (λ (b : Bool). b && isEmpty (s .types)) (sym (l ∙ e))
+    where
+      go : (ts : List ℕ) → ts ≡ wanted → eqb (length wanted) 0 ≡ isEmpty ts
+      go [] q = sym (ap (λ (ts : List ℕ). eqb (length ts) 0) q)
+      go (x ∷ xs) q = sym (ap (λ (ts : List ℕ). eqb (length ts) 0) q) ∙ ne-eqb (suc (length xs)) 0 (λ e. omega (arith, e))
+
+  pub asks-all : listed ≡ false → false ≡ asksNothing s
+  asks-all e = ap (λ (b : Bool). b && isEmpty (s .types)) (sym (l ∙ e))
+
 -- "if nothing is left: an empty type list succeeds; otherwise 2 if a selected held type has DiscloseOnError, else 3"
 unfoldable pub readOutcome : Setting → Selection → Entry → ℕ
 readOutcome σ s e =
@@ -193,7 +205,7 @@ read-sound count k false hits l = record { name = zero-le; entry = omega (arith,
 
 module _ (σ : Setting) (es : List Stored) (s : Selection) (hits : List ℕ) (k : ℕ) where
   abbrev it : Entry
-  it = entryOf (getD es k blank)
+  it = record { name = getD es k blank .name; held = heldOf (getD es k blank .values) }
 
   abbrev left : Bool
   left = isEmpty (information σ s it) && not (asksNothing s)
@@ -206,7 +218,7 @@ module _ (σ : Setting) (es : List Stored) (s : Selection) (hits : List ℕ) (k 
   named-lines true = rw (add-one k)
   named-lines false = refl
 
-  pub read-found : (b : Bool) → readOutcome σ s (entryOf (getD es k blank)) ≡ 0 → b ≡ granted σ (getD es k blank .name) entry ReturnDN
+  pub read-found : (b : Bool) → readOutcome σ s it ≡ 0 → b ≡ granted σ (getD es k blank .name) entry ReturnDN
       → planned σ es s (readPlan k b) hits ≡ readEntry σ s (entryOf (getD es k blank))
   unfolding planned successLines informationAt readEntry readOutcome outcome entryOf
   read-found b o e =
@@ -220,8 +232,8 @@ module _ (σ : Setting) (es : List Stored) (s : Selection) (hits : List ℕ) (k 
       go true false q = absurd (omega (arith, q))
       go false y q = refl
 
-  pub read-refused : (o : ℕ) → o ≡ readOutcome σ s (entryOf (getD es k blank)) → (o ≡ 0 → ⊥) → planned σ es s (refusedPlan 1 o) hits ≡ readEntry σ s (entryOf (getD es k blank))
-  unfolding readEntry readOutcome
+  pub read-refused : (o : ℕ) → o ≡ readOutcome σ s it → (o ≡ 0 → ⊥) → planned σ es s (refusedPlan 1 o) hits ≡ readEntry σ s (entryOf (getD es k blank))
+  unfolding readEntry readOutcome entryOf
   read-refused o e z = go left told e
     where
       go : (x y : Bool) → o ≡ cond x (cond y 2 3) 0

@@ -2,6 +2,7 @@
 pub mod compare;
 pub mod opened;
 pub mod outcome;
+pub mod read;
 
 // The answer of one request. What an operation or outcome does not have is 0.
 pub struct Plan {
