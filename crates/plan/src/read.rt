@@ -1,7 +1,6 @@
 // Read: what may be read of one entry.
 use super::Plan;
 use super::opened::open_entry;
-use super::opened::values;
 use super::opened::withheld;
 use super::outcome::absent;
 use super::outcome::refused;
@@ -221,4 +220,105 @@ fn read_open(
         return refused(1, outcome);
     }
     found(k, access::grant::granted_entry(rights, list, RETURN_DN))
+}
+
+// The plan for the entry of index `k`.
+fn read_entry(
+    schema: &[u64],
+    w: usize,
+    d: &[u8],
+    at: &[usize],
+    parents: &[usize],
+    lengths: &[usize],
+    p: &[u8],
+    rights: &[u64],
+    reach: &[usize],
+    k: usize,
+    missing: usize,
+    listed: bool,
+    wanted: &[u64],
+    values: bool,
+    list: &mut [usize],
+    types: &mut [u64],
+    places: &mut [usize],
+    sizes: &mut [usize],
+) -> Plan
+    requires { ⌜ Lent w (now d) (now at) (now parents) (now lengths) (now reach) (now list) (now types) (now places) (now sizes) × (k < length (now at)) ⌝ }
+    ensures { λ r. ⌜ ((count : ℕ) (hits : List ℕ) → k < count → missing ≤ count → Sound count r hits) × ((σ : Setting) (es : List Stored) (naming scopes : List ℕ) (n : Name) (s : Selection) (hits : List ℕ) → World σ es (now (schema .entry)) w (now (d .entry)) (now (at .entry)) (now (parents .entry)) naming (now (lengths .entry)) (now (p .entry)) (now (rights .entry)) scopes (now (reach .entry)) → Base σ es n (At (suc k)) missing → s .listed ≡ listed → s .types ≡ now (wanted .entry) → s .values ≡ values → planned σ es s r hits ≡ Answer.answer σ (map entryOf es) n (Request.read s)) ⌝ }
+{
+    let o = open_entry(parents, rights, reach, k, list);
+    if o.outcome != 0 {
+        return withheld(1, o.outcome, missing);
+    }
+    let m = o.items;
+    let n = super::opened::values(w, d, at, lengths, k, types, places, sizes);
+    read_open(
+        schema,
+        w,
+        d,
+        p,
+        rights,
+        &list[0..m],
+        &types[0..n],
+        &places[0..n],
+        &sizes[0..n],
+        listed,
+        wanted,
+        values,
+        k,
+    )
+}
+
+// The plan of a read of the entry that `base` found: all its types or those `wanted`, with their values or without.
+pub fn read(
+    schema: &[u64],
+    w: usize,
+    d: &[u8],
+    at: &[usize],
+    parents: &[usize],
+    lengths: &[usize],
+    p: &[u8],
+    rights: &[u64],
+    reach: &[usize],
+    base: Found,
+    missing: usize,
+    listed: bool,
+    wanted: &[u64],
+    values: bool,
+    list: &mut [usize],
+    types: &mut [u64],
+    places: &mut [usize],
+    sizes: &mut [usize],
+) -> Plan
+    requires { ⌜ Lent w (now d) (now at) (now parents) (now lengths) (now reach) (now list) (now types) (now places) (now sizes) × Numbered (length (now at)) base missing ⌝ }
+    ensures { λ r. ⌜ ((hits : List ℕ) → Sound (length (now (at .entry))) r hits) × ((σ : Setting) (es : List Stored) (naming scopes : List ℕ) (n : Name) (s : Selection) (hits : List ℕ) → World σ es (now (schema .entry)) w (now (d .entry)) (now (at .entry)) (now (parents .entry)) naming (now (lengths .entry)) (now (p .entry)) (now (rights .entry)) scopes (now (reach .entry)) → Base σ es n base missing → s .listed ≡ listed → s .types ≡ now (wanted .entry) → s .values ≡ values → planned σ es s r hits ≡ Answer.answer σ (map entryOf es) n (Request.read s)) ⌝ }
+{
+    match base {
+        Found::At(b) => {
+            if b == 0 {
+                return absent(1, missing);
+            }
+            read_entry(
+                schema,
+                w,
+                d,
+                at,
+                parents,
+                lengths,
+                p,
+                rights,
+                reach,
+                b - 1,
+                missing,
+                listed,
+                wanted,
+                values,
+                list,
+                types,
+                places,
+                sizes,
+            )
+        }
+        Found::Nothing => absent(1, missing),
+    }
 }
