@@ -1,16 +1,16 @@
 -- Read: whether anything is left to return of an open entry, the outcome, and the plan.
-use Prim.Native.Nat.{ℕ, zero, suc, _+_, _≤_, _<_, zero-le}
-use mathlib.Core.Path.{_≡_, refl, sym, ap, ap₂, _∙_, subst}
+use Prim.Native.Nat.{ℕ, suc, _+_, _≤_, _<_, zero-le}
+use mathlib.Core.Path.{_≡_, refl, sym, ap, ap₂, _∙_}
 use mathlib.Core.Bool.{Bool, true, false, _&&_, _||_, not, cond}
-use mathlib.Core.List.{List, [], _∷_, _++_, map}
+use mathlib.Core.List.{List, [], _∷_, _++_}
 use native.Mathlib.Numerals.{add-one}
 use native.Mathlib.Omega.{arith}
 use lib.Dec.{eqb}
-use lib.ListN.{length, getD, take, drop, drop-of-length-le}
+use lib.ListN.{length, getD, drop, drop-of-length-le}
 use lib.Seq.{drop-cons}
 use borrow.Author.Tests.{ne-eqb}
 use Rattle.rules.specs.Lists.{given, gather, any, keep, isEmpty}
-use Rattle.rules.specs.Sheet.{Bytes, Line, line}
+use Rattle.rules.specs.Sheet.{Bytes, line}
 use Rattle.rules.specs.Name.{Part, part, Name}
 use Rattle.rules.specs.Directory.{Stored, blank, nameAt, Held, heldOf, Entry, entryOf}
 use Rattle.rules.specs.Permission.{Read, ReturnDN, DiscloseOnError}

@@ -11,7 +11,6 @@ ghost use mathlib.Core.Bool.{cond};
 ghost use mathlib.Core.List.{List, map};
 ghost use lib.ListN.{length, getD};
 ghost use Rattle.rules.specs.Lists.{any};
-ghost use Rattle.rules.specs.Sheet.{Bytes};
 ghost use Rattle.rules.specs.Name.{Part, part, Name};
 ghost use Rattle.rules.specs.Directory.{Stored, blank, heldOf, entryOf};
 ghost use Rattle.rules.specs.Decision.{Setting};

@@ -1,5 +1,4 @@
 use Rattle.plan.specs.Read.{asks-list, asks-all}
-use borrow.Author.Needs.{needs}
 use Rattle.plan.proofs.read.asks_nothing.Statement.{statement}
 use Rattle.plan.proofs.read.asks_nothing.Tie as tie
 use Rattle.plan.proofs.read.asks_nothing.Reads as reads
