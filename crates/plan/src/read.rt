@@ -1,5 +1,7 @@
 // Read: what may be read of one entry.
 use super::Plan;
+use super::READ;
+use super::RETURN_DN;
 use super::opened::open_entry;
 use super::opened::withheld;
 use super::outcome::absent;
@@ -24,11 +26,6 @@ ghost use Rattle.filter.specs.Seen.{Ruled, Seen};
 ghost use Rattle.plan.specs.Plan.{planned};
 ghost use Rattle.plan.specs.Lent.{Lent, Base, Numbered, Sound};
 ghost use Rattle.plan.specs.Read.{readable, asksNothing, readOutcome, readPlan};
-
-// The permissions by their numbers.
-const READ: u64 = 1;
-
-const RETURN_DN: u64 = 4;
 
 // Is something returned for the value of type `t` at `place`: is its type selected, with Read, and, if values are wanted, has it Read itself?
 fn readable_at(
@@ -245,22 +242,22 @@ fn read_entry(
     requires { ⌜ Lent w (now d) (now at) (now parents) (now lengths) (now reach) (now list) (now types) (now places) (now sizes) × (k < length (now at)) ⌝ }
     ensures { λ r. ⌜ ((count : ℕ) (hits : List ℕ) → k < count → missing ≤ count → Sound count r hits) × ((σ : Setting) (es : List Stored) (naming scopes : List ℕ) (n : Name) (s : Selection) (hits : List ℕ) → World σ es (now (schema .entry)) w (now (d .entry)) (now (at .entry)) (now (parents .entry)) naming (now (lengths .entry)) (now (p .entry)) (now (rights .entry)) scopes (now (reach .entry)) → Base σ es n (At (suc k)) missing → s .listed ≡ listed → s .types ≡ now (wanted .entry) → s .values ≡ values → planned σ es s r hits ≡ Answer.answer σ (map entryOf es) n (Request.read s)) ⌝ }
 {
-    let o = open_entry(parents, rights, reach, k, list);
-    if o.outcome != 0 {
-        return withheld(1, o.outcome, missing);
+    let opening = open_entry(parents, rights, reach, k, list);
+    if opening.outcome != 0 {
+        return withheld(1, opening.outcome, missing);
     }
-    let m = o.items;
-    let n = super::opened::values(w, d, at, lengths, k, types, places, sizes);
+    let items = opening.items;
+    let count = super::opened::values(w, d, at, lengths, k, types, places, sizes);
     read_open(
         schema,
         w,
         d,
         p,
         rights,
-        &list[0..m],
-        &types[0..n],
-        &places[0..n],
-        &sizes[0..n],
+        &list[0..items],
+        &types[0..count],
+        &places[0..count],
+        &sizes[0..count],
         listed,
         wanted,
         values,
