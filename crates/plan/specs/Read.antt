@@ -203,12 +203,13 @@ pub read-sound : (count k : ℕ) (b : Bool) (hits : List ℕ) → k < count → 
 read-sound count k true hits l = record { name = omega (arith, l); entry = omega (arith, l); shown = zero-le; hits = λ i m. absurd (omega (arith, m)) }
 read-sound count k false hits l = record { name = zero-le; entry = omega (arith, l); shown = zero-le; hits = λ i m. absurd (omega (arith, m)) }
 
+-- of the entry of index `k`
 module _ (σ : Setting) (es : List Stored) (s : Selection) (hits : List ℕ) (k : ℕ) where
   abbrev it : Entry
   it = record { name = getD es k blank .name; held = heldOf (getD es k blank .values) }
 
-  abbrev left : Bool
-  left = isEmpty (information σ s it) && not (asksNothing s)
+  abbrev fails : Bool
+  fails = isEmpty (information σ s it) && not (asksNothing s)
 
   abbrev told : Bool
   told = any (λ h. selected s (h .type) && granted σ (it .name) (ofType (h .type)) DiscloseOnError) (it .held)
@@ -223,7 +224,7 @@ module _ (σ : Setting) (es : List Stored) (s : Selection) (hits : List ℕ) (k 
   unfolding planned successLines informationAt readEntry readOutcome outcome entryOf
   read-found b o e =
       ap₂ (λ (m : Name) (i : ℕ). line 30 1 0 0 [] ∷ (entryLines m ++ informationAt σ es s i)) (named-lines b ∙ ap (λ (x : Bool). given x (getD es k blank .name)) e) (add-one k)
-      ∙ go left told o
+      ∙ go fails told o
     where
       go : (x y : Bool) → _≡_ {A = ℕ} (cond x (cond y 2 3) 0) 0
           → outcome 1 0 ++ (entryLines (given (granted σ (it .name) entry ReturnDN) (it .name)) ++ information σ s it)
@@ -234,7 +235,7 @@ module _ (σ : Setting) (es : List Stored) (s : Selection) (hits : List ℕ) (k 
 
   pub read-refused : (o : ℕ) → o ≡ readOutcome σ s it → (o ≡ 0 → ⊥) → planned σ es s (refusedPlan 1 o) hits ≡ readEntry σ s (entryOf (getD es k blank))
   unfolding readEntry readOutcome entryOf
-  read-refused o e z = go left told e
+  read-refused o e z = go fails told e
     where
       go : (x y : Bool) → o ≡ cond x (cond y 2 3) 0
           → planned σ es s (refusedPlan 1 o) hits ≡ cond x (outcome 1 (cond y 2 3)) (outcome 1 0 ++ (entryLines (given (granted σ (it .name) entry ReturnDN) (it .name)) ++ information σ s it))

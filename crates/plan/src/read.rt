@@ -1,4 +1,4 @@
-// Read: what may be read of one entry.
+// Read: what is returned of one entry, all its types or those wanted.
 use super::Plan;
 use super::READ;
 use super::RETURN_DN;
