@@ -2,7 +2,7 @@
 use Prim.Native.Nat.{ℕ, zero, suc, _+_, _-_, _*_, _≤_, _<_}
 use mathlib.Core.Path.{_≡_, refl, sym, ap, _∙_, subst}
 use mathlib.Core.Bool.{Bool, true, false, cond}
-use mathlib.Core.Option.{Option, none, some}
+use mathlib.Core.Option.{none}
 use mathlib.Core.List.{List, map}
 use native.Mathlib.Omega.{arith}
 use lib.Dec.{eqb}
@@ -17,13 +17,13 @@ use Rattle.rules.specs.Request.{Selection}
 use Rattle.rules.specs.Answer.{outcome, noSuchObject, named, opened}
 use Rattle.rules.specs.Places.{linesAt, valuesOf, EntriesAt, ValuesAt}
 use Rattle.rules.specs.Laws.Directory.{Accepted}
-use Rattle.rules.specs.Laws.Resolve.{walk, numbered, entryBy, named-walk}
+use Rattle.rules.specs.Laws.Resolve.{numbered, entryBy, named-walk}
 use Rattle.rules.specs.declared.Found.{Found}
 use Rattle.rules.specs.declared.Found.the-variants.{At, Nothing}
 use Rattle.access.specs.Chosen.{Chosen}
 use Rattle.access.specs.Reach.{parents-of, Selected}
 use Rattle.access.specs.World.{World}
-use Rattle.filter.specs.Seen.{Ruled, Seen}
+use Rattle.filter.specs.Seen.{Seen}
 use Rattle.plan.specs.declared.Plan.{Plan}
 use Rattle.plan.specs.Plan.{planned}
 use Rattle.plan.specs.Lent.{Base, Sound}

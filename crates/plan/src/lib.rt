@@ -3,8 +3,20 @@ pub mod compare;
 pub mod list;
 pub mod opened;
 pub mod outcome;
+pub mod read;
 pub mod returned;
 pub mod search;
+
+// The permissions, K 8, by their numbers.
+pub const READ: u64 = 1;
+
+pub const BROWSE: u64 = 2;
+
+pub const RETURN_DN: u64 = 4;
+
+pub const DISCLOSE_ON_ERROR: u64 = 8;
+
+pub const COMPARE: u64 = 16;
 
 // The answer of one request. What an operation or outcome does not have is 0.
 pub struct Plan {

@@ -1,5 +1,9 @@
 // What list and search have in common: which entries may be returned, and the plan of those that were found.
+use super::BROWSE;
+use super::DISCLOSE_ON_ERROR;
 use super::Plan;
+use super::READ;
+use super::RETURN_DN;
 use super::outcome::absent;
 use access::grant::granted_entry;
 ghost use mathlib.Core.Path.{_≡_};
@@ -14,15 +18,6 @@ ghost use Rattle.access.specs.Chosen.{Rows, Chosen};
 ghost use Rattle.access.specs.World.{World};
 ghost use Rattle.plan.specs.Hits as Hits;
 ghost use Rattle.plan.specs.Returned.{successPlan, limitedPlan, returnedPlan, disclosedAt};
-
-// Permissions, K 8.
-const READ: u64 = 1;
-
-const BROWSE: u64 = 2;
-
-const RETURN_DN: u64 = 4;
-
-const DISCLOSE_ON_ERROR: u64 = 8;
 
 // Browse, or for the base Browse or Read, on the entry that the items of `list` concern.
 fn browsable(rights: &[u64], list: &[usize], base: bool) -> bool
