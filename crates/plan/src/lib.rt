@@ -4,7 +4,7 @@ pub mod list;
 pub mod opened;
 pub mod outcome;
 pub mod read;
-pub mod returned;
+mod returned;
 pub mod search;
 
 // The permissions, K 8, by their numbers.

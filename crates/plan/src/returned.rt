@@ -33,7 +33,7 @@ fn browsable(rights: &[u64], list: &[usize], base: bool) -> bool
 }
 
 // May the entry that the items of `list` concern be returned? It has to be browsable, with ReturnDN.
-pub fn returnable(rights: &[u64], list: &[usize], base: bool) -> bool
+pub(crate) fn returnable(rights: &[u64], list: &[usize], base: bool) -> bool
     ensures { λ r. ⌜ ((σ : Setting) (n : Name) (w : ℕ) (p : Bytes) (scopes : List ℕ) → Rows w p (σ .items) (now (rights .entry)) scopes → Chosen σ n (now (list .entry)) → r ≡ Hits.returnable σ n base) ⌝ }
 {
     if browsable(rights, list, base) {
@@ -43,7 +43,7 @@ pub fn returnable(rights: &[u64], list: &[usize], base: bool) -> bool
 }
 
 // Is DiscloseOnError granted on entry number `b`? The root, 0, is no entry.
-pub fn disclosed(
+pub(crate) fn disclosed(
     parents: &[usize],
     rights: &[u64],
     reach: &[usize],
@@ -88,7 +88,13 @@ fn limited(operation: u64, limit: u64, count: usize) -> Plan
 }
 
 // The plan of `count` entries found; none is "no such object" unless the base is disclosed.
-pub fn returned(operation: u64, missing: usize, disclosed: bool, limit: u64, count: usize) -> Plan
+pub(crate) fn returned(
+    operation: u64,
+    missing: usize,
+    disclosed: bool,
+    limit: u64,
+    count: usize,
+) -> Plan
     ensures { λ r. ⌜ r ≡ returnedPlan operation missing disclosed limit count ⌝ }
 {
     if disclosed {
