@@ -1,14 +1,14 @@
 -- What is returned of an entry, by the numbers of its values: a type's values as K 35 lines that are counted, and the types one after
 -- the other.
-use Prim.Native.Nat.{ℕ, zero, suc, _+_, _-_, _*_, _≤_, _<_, _^_}
+use Prim.Native.Nat.{ℕ, zero, suc, _+_, _-_, _*_, _≤_, _<_}
 use mathlib.Core.Path.{_≡_, refl, sym, ap, ap₂, _∙_, subst}
-use mathlib.Core.Bool.{Bool, true, false, _&&_, _||_, not, cond}
+use mathlib.Core.Bool.{Bool, true, false, _&&_, _||_}
 use mathlib.Core.List.{List, [], _∷_, _++_, map, append-assoc, append-nil}
 use native.Mathlib.Numerals.{add-one}
 use native.Mathlib.Omega.{arith}
 use native.Mathlib.Decide.{decLt}
 use lib.Dec.{eqb}
-use lib.ListN.{length, getD, take, drop, length-append, length-drop, drop-of-length-le}
+use lib.ListN.{length, getD, drop, length-append, length-drop, drop-of-length-le}
 use lib.Seq.{drop-cons, length-take-le}
 use borrow.Author.Tests.{eq-eqb, ne-eqb}
 use Rattle.rules.specs.Lists.{given, gather, any, keep}
@@ -25,7 +25,7 @@ use Rattle.rules.specs.Laws.Loops.{gather-append}
 use Rattle.access.specs.Chosen.{Rows, Chosen}
 use Rattle.entry.specs.Values.{bytesAt, bytes-within, bytes-beyond}
 use Rattle.answer.specs.Emit.{emitLines, Emits}
-use Rattle.answer.specs.Laws.{emits-none, emits-append, emits-before, emits-length}
+use Rattle.answer.specs.Laws.{emits-none, emits-append, emits-before}
 use Rattle.answer.specs.declared.information.Written.{Written}
 
 -- what the decisions about the entry with the full name `n` rest on

@@ -6,7 +6,7 @@ use mathlib.Core.List.{List, [], _∷_, _++_, append-assoc, append-nil}
 use native.Mathlib.Omega.{arith}
 use native.Mathlib.Decide.{decLt}
 use lib.ListN.{length, take, drop, length-append, length-drop, take-append-drop}
-use lib.Seq.{length-take-le, take-append-seam, drop-append-add, drop-drop, drop-at, take-append-add, drop-append-seam}
+use lib.Seq.{length-take-le, take-append-seam, drop-append-add, drop-drop, take-append-add, drop-append-seam}
 use borrow.Author.Tests.{lt-ltb, le-ltb}
 use Rattle.rules.specs.Sheet.{Bytes, Line, lineBytes, print}
 use Rattle.rules.specs.Laws.Sheet.{line-length}

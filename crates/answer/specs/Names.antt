@@ -1,11 +1,11 @@
 -- The naming part and the full name of an entry, by its numbers.
 use Prim.Native.Nat.{ℕ, zero, suc, _+_, _-_, _*_, _≤_, _<_, _^_}
 use mathlib.Core.Path.{_≡_, refl, sym, ap, ap₂, _∙_, subst}
-use mathlib.Core.List.{List, [], _∷_, _++_, map}
+use mathlib.Core.List.{List, [], _∷_, _++_}
 use native.Mathlib.Omega.{arith}
 use lib.ListN.{length, getD, drop, length-append, length-drop}
 use lib.Seq.{length-take-le}
-use Rattle.rules.specs.Sheet.{Bytes, Line, line, valueOf, lineBytes, print}
+use Rattle.rules.specs.Sheet.{Bytes, Line, line, valueOf}
 use Rattle.rules.specs.Name.{Schema, Part, Name}
 use Rattle.rules.specs.Directory.{Stored, blank, nameAt}
 use Rattle.rules.specs.Answer.{nameLines, entryLines}

@@ -5,9 +5,9 @@ use mathlib.Core.Bool.{Bool, true, false, _&&_, _||_, not, cond, true≢false}
 use mathlib.Core.List.{List, [], _∷_}
 use native.Mathlib.Omega.{arith}
 use lib.Dec.{eqb}
-use borrow.Author.Tests.{eq-eqb, ne-eqb, eqb-true}
+use borrow.Author.Tests.{ne-eqb, eqb-true}
 use Rattle.rules.specs.Lists.{any, all}
-use Rattle.rules.specs.Sheet.{Bytes, Line, line, Sheet}
+use Rattle.rules.specs.Sheet.{Bytes, line}
 use Rattle.rules.specs.Value.{Piece, text, fits, same, ordered, order, searchable, contains, byFound}
 use Rattle.rules.specs.Name.{Name, Part, Schema, known, allowed, ofSyntax, equal}
 use Rattle.rules.specs.Directory.{Entry, heldOf}
@@ -16,13 +16,11 @@ use Rattle.rules.specs.Decision.{Setting, ofType, ofValue, granted}
 use Rattle.rules.specs.Filter.{Assertion, equality, atLeast, atMost, present, substrings, truth}
 use Rattle.rules.specs.FilterItem.{isLess, assertedType, holds, someValue, defined, below, satisfied, decidable, itemTruth}
 use Rattle.rules.specs.Places.{schemaOf}
-use Rattle.rules.specs.Laws.Filter.{piecesOf, assertionOf}
 use Rattle.rules.specs.Laws.Tests.{and-left}
-use Rattle.rules.specs.Laws.Held.{holds-flat, someValue-flat}
-use Rattle.name.specs.Schema.{syntaxIn, equalBy, by-syntax, known-at, allowed-at, equal-at, known-none, allowed-none, equal-none}
-use Rattle.rules.specs.declared.Found.{Found}
+use Rattle.rules.specs.Laws.Held.{someValue-flat}
+use Rattle.name.specs.Schema.{syntaxIn, equalBy, by-syntax, known-at, allowed-at, equal-at}
+use Rattle.filter.specs.Values.{countsBy, counts-lost}
 use Rattle.rules.specs.declared.Found.the-variants.{At, Nothing}
-use Rattle.rules.specs.declared.Truth.{Truth}
 use Rattle.rules.specs.declared.Truth.the-variants.{Undefined}
 
 -- the item of a line K 23 to 27
@@ -55,11 +53,6 @@ passesBy s k ps v u =
 unfoldable pub satisfiedBy : Setting → Entry → ℕ → ℕ → ℕ → List Piece → Bytes → Bool
 satisfiedBy σ e s k t ps v = cond (eqb k 26) (holds e t) (someValue σ e t FilterMatch (passesBy s k ps v))
 
--- the item of a line
-pub assertion-by : (k a b c : ℕ) (v : Bytes) (rest : Sheet) → assertionOf (line k a b c v) rest ≡ assertionBy k a v (piecesOf b rest)
-unfolding assertionOf
-assertion-by k a b c v rest = refl
-
 -- ---- tests that agree
 
 any-cong : {A : Type 0} (f g : A → Bool) → ((x : A) → f x ≡ g x) → (xs : List A) → any f xs ≡ any g xs
@@ -69,27 +62,20 @@ any-cong f g h (x ∷ xs) = ap₂ _||_ (h x) (any-cong f g h xs)
 all-cong : {A : Type 0} (f g : A → Bool) → ((x : A) → f x ≡ g x) → (xs : List A) → all f xs ≡ all g xs
 all-cong f g h xs = ap not (any-cong (λ x. not (f x)) (λ x. not (g x)) (λ x. ap not (h x)) xs)
 
+any-false : {A : Type 0} (f : A → Bool) → ((x : A) → f x ≡ false) → (xs : List A) → any f xs ≡ false
+any-false f h [] = refl
+any-false f h (x ∷ xs) = rw (h x, any-false f h xs)
+
 module _ (σ : Setting) (n : Name) (ps : List Part) (t q : ℕ) where
-  -- two tests that agree
-  pub some-cong : (f g : Bytes → Bool) → ((u : Bytes) → f u ≡ g u) → someValue σ (record { name = n; held = heldOf ps }) t q f ≡ someValue σ (record { name = n; held = heldOf ps }) t q g
+  some-cong : (f g : Bytes → Bool) → ((u : Bytes) → f u ≡ g u) → someValue σ (record { name = n; held = heldOf ps }) t q f ≡ someValue σ (record { name = n; held = heldOf ps }) t q g
   some-cong f g h =
       someValue-flat σ n ps t q f
-      ∙ any-cong (λ (p : Part). eqb (p .type) t && (granted σ n (ofValue (p .type) (p .value)) q && f (p .value))) (λ (p : Part). eqb (p .type) t && (granted σ n (ofValue (p .type) (p .value)) q && g (p .value)))
-      (λ p. ap (λ (b : Bool). eqb (p .type) t && (granted σ n (ofValue (p .type) (p .value)) q && b)) (h (p .value))) ps
+      ∙ any-cong (countsBy σ n t q f) (countsBy σ n t q g) (λ p. ap (λ (b : Bool). eqb (p .type) t && (granted σ n (ofValue (p .type) (p .value)) q && b)) (h (p .value))) ps
       ∙ sym (someValue-flat σ n ps t q g)
 
   -- no value passes
-  any-false : {A : Type 0} (f : A → Bool) → ((x : A) → f x ≡ false) → (xs : List A) → any f xs ≡ false
-  any-false f h [] = refl
-  any-false f h (x ∷ xs) = rw (h x, any-false f h xs)
-
-  pub some-none : (f : Bytes → Bool) → ((u : Bytes) → f u ≡ false) → someValue σ (record { name = n; held = heldOf ps }) t q f ≡ false
-  some-none f h = someValue-flat σ n ps t q f ∙ any-false (λ (p : Part). eqb (p .type) t && (granted σ n (ofValue (p .type) (p .value)) q && f (p .value))) (λ p. rw (h (p .value)) (go (eqb (p .type) t) (granted σ n (ofValue (p .type) (p .value)) q))) ps
-    where
-      go : (a b : Bool) → (a && (b && false)) ≡ false
-      go true true = refl
-      go true false = refl
-      go false b = refl
+  some-none : (f : Bytes → Bool) → ((u : Bytes) → f u ≡ false) → someValue σ (record { name = n; held = heldOf ps }) t q f ≡ false
+  some-none f h = someValue-flat σ n ps t q f ∙ any-false (countsBy σ n t q f) (λ p. counts-lost σ n t q f (p .type) (p .value) (p .value) refl (h (p .value))) ps
 
 -- ---- the rules' item, by the syntax found
 

@@ -4,15 +4,14 @@ use mathlib.Core.Path.{_≡_, refl, sym, ap, _∙_}
 use mathlib.Core.Bool.{Bool, true, false, not}
 use mathlib.Core.List.{List, [], _∷_, map}
 use native.Mathlib.Omega.{arith}
-use lib.ListN.{length, drop}
+use lib.ListN.{drop}
 use Rattle.rules.specs.Lists.{all}
-use Rattle.rules.specs.Sheet.{Bytes, Sheet, row, line, lines, frontOf, valueOf}
+use Rattle.rules.specs.Sheet.{Bytes, line, lines, frontOf, valueOf}
 use Rattle.rules.specs.Value.{Piece, text, normal, fits, used, matches, contains}
 use Rattle.rules.specs.Places.{linesAt}
 use Rattle.rules.specs.Laws.Sheet.{lines-taken, lines-broken, lines-end}
 use Rattle.rules.specs.Laws.Value.{folded, matches-on, matches-off}
 use Rattle.rules.specs.Laws.Filter.{piecesOf, afterLines}
-use Rattle.rules.specs.declared.Found.{Found}
 use Rattle.rules.specs.declared.Found.the-variants.{At, Nothing}
 use Rattle.rules.specs.declared.Front.the-variants.{Taken, NotInForm, End}
 

@@ -9,7 +9,7 @@ ghost use Rattle.rules.specs.Places.{linesAt};
 ghost use Rattle.rules.specs.Laws.Filter.{piecesOf, afterLines};
 
 // The position after `n` lines, or where the lines end before.
-pub fn skip(q: &[u8], at: usize, n: u64, w: usize) -> usize
+pub(crate) fn skip(q: &[u8], at: usize, n: u64, w: usize) -> usize
     requires { ⌜ w ≤ 18 ⌝ }
     ensures { λ r. ⌜ linesAt w (now (q .entry)) r ≡ afterLines n (linesAt w (now (q .entry)) at) ⌝ }
 {
@@ -39,7 +39,7 @@ pub fn skip(q: &[u8], at: usize, n: u64, w: usize) -> usize
 }
 
 // Do all of the `n` pieces fit the syntax?
-pub fn pieces_fit(syntax: u64, q: &[u8], at: usize, n: u64, w: usize) -> bool
+pub(crate) fn pieces_fit(syntax: u64, q: &[u8], at: usize, n: u64, w: usize) -> bool
     requires { ⌜ w ≤ 18 ⌝ }
     ensures { λ r. ⌜ r ≡ all (λ p. Value.fits syntax (p .bytes)) (piecesOf n (linesAt w (now (q .entry)) at)) ⌝ }
 {
@@ -72,7 +72,7 @@ pub fn pieces_fit(syntax: u64, q: &[u8], at: usize, n: u64, w: usize) -> bool
 }
 
 // Do the `n` pieces stand in the text `v`, in order and without overlap?
-pub fn substrings(q: &[u8], at: usize, n: u64, w: usize, v: &[u8]) -> bool
+pub(crate) fn substrings(q: &[u8], at: usize, n: u64, w: usize, v: &[u8]) -> bool
     requires { ⌜ w ≤ 18 ⌝ }
     ensures { λ r. ⌜ r ≡ Value.contains Value.text (piecesOf n (linesAt w (now (q .entry)) at)) (now (v .entry)) ⌝ }
 {

@@ -2,6 +2,9 @@
 // Numbers are compared before bytes, and bytes before the items that concern the entry are asked.
 use super::pieces::substrings;
 use super::truth::not_below;
+use crate::AT_LEAST;
+use crate::AT_MOST;
+use crate::EQUALITY;
 use access::grant::granted_value;
 use rules::Found;
 ghost use mathlib.Core.Path.{_≡_};
@@ -33,13 +36,13 @@ fn passes(
     requires { ⌜ w ≤ 18 ⌝ }
     ensures { λ r. ⌜ r ≡ passesBy s kind (piecesOf count (linesAt w (now (q .entry)) next)) (now (v .entry)) (now (u .entry)) ⌝ }
 {
-    if kind == 23 {
+    if kind == EQUALITY {
         return name::equal_by(s, v, u);
     }
-    if kind == 24 {
+    if kind == AT_LEAST {
         return not_below(value::order(s, u, v));
     }
-    if kind == 25 {
+    if kind == AT_MOST {
         return not_below(value::order(s, v, u));
     }
     substrings(q, next, count, w, u)
@@ -79,7 +82,7 @@ fn counts(
 }
 
 // Does some value of the type `t` with the permission granted pass the item's test?
-pub fn some_value(
+pub(crate) fn some_value(
     schema: &[u64],
     w: usize,
     d: &[u8],
@@ -160,7 +163,7 @@ pub fn held_equal(
             places,
             sizes,
             s as u64,
-            23,
+            EQUALITY,
             t,
             v,
             v,

@@ -64,3 +64,21 @@ pub record Sound (count : ℕ) (r : Plan) (hs : List ℕ) : Type 0 where
   pub entry : r .entry ≤ count
   pub shown : r .shown ≤ length hs
   pub hits : (i : ℕ) → i < r .shown → getD hs i 0 < count
+
+-- scratch lists of the same lengths serve as well
+pub lent-again : {w : ℕ} {d : Bytes} {at parents lengths reach list types places sizes : List ℕ} (list′ types′ places′ sizes′ : List ℕ)
+    → length list′ ≡ length list → length types′ ≡ length types → length places′ ≡ length places → length sizes′ ≡ length sizes
+    → Lent w d at parents lengths reach list types places sizes → Lent w d at parents lengths reach list′ types′ places′ sizes′
+lent-again {w} {d} {reach = reach} list′ types′ places′ sizes′ a b c e h = record {
+  narrow = h .narrow;
+  wide = h .wide;
+  small = h .small;
+  few = h .few;
+  parents-noted = h .parents-noted;
+  lengths-noted = h .lengths-noted;
+  within = h .within;
+  items = subst (λ (n : ℕ). length reach ≤ n) (sym a) (h .items);
+  places-noted = c ∙ h .places-noted ∙ sym b;
+  sizes-noted = e ∙ h .sizes-noted ∙ sym b;
+  values = subst (λ (n : ℕ). length d ≤ (5 * w + 1) * n) (sym b) (h .values);
+}

@@ -4,3 +4,7 @@ pub mod Outcome
 pub mod Opened
 pub mod Read
 pub mod Compare
+pub mod Passing
+pub mod Hits
+pub mod Returned
+pub mod Whole

@@ -2,7 +2,7 @@
 use Prim.Native.Nat.{ℕ, zero, suc, _+_, _-_, _*_, _≤_, _<_}
 use mathlib.Core.Path.{_≡_, refl, sym, ap, _∙_, subst}
 use mathlib.Core.Bool.{Bool, true, false, cond}
-use mathlib.Core.Option.{Option, none, some}
+use mathlib.Core.Option.{none}
 use mathlib.Core.List.{List, map}
 use native.Mathlib.Omega.{arith}
 use lib.Dec.{eqb}
@@ -17,13 +17,13 @@ use Rattle.rules.specs.Request.{Selection}
 use Rattle.rules.specs.Answer.{outcome, noSuchObject, named, opened}
 use Rattle.rules.specs.Places.{linesAt, valuesOf, EntriesAt, ValuesAt}
 use Rattle.rules.specs.Laws.Directory.{Accepted}
-use Rattle.rules.specs.Laws.Resolve.{walk, numbered, entryBy, named-walk}
+use Rattle.rules.specs.Laws.Resolve.{numbered, entryBy, named-walk}
 use Rattle.rules.specs.declared.Found.{Found}
 use Rattle.rules.specs.declared.Found.the-variants.{At, Nothing}
 use Rattle.access.specs.Chosen.{Chosen}
 use Rattle.access.specs.Reach.{parents-of, Selected}
 use Rattle.access.specs.World.{World}
-use Rattle.filter.specs.Seen.{Ruled, Seen}
+use Rattle.filter.specs.Seen.{Seen}
 use Rattle.plan.specs.declared.Plan.{Plan}
 use Rattle.plan.specs.Plan.{planned}
 use Rattle.plan.specs.Lent.{Base, Sound}
@@ -54,6 +54,15 @@ module _ (σ : Setting) (n : Name) where
 pub record Opens (σ : Setting) (n : Name) (o : ℕ) (list : List ℕ) : Type 0 where
   pub outcome : o ≡ openingOf σ n
   pub chosen : Chosen σ n list
+
+-- the index of the entry number `b`
+pub index-suc : (b : ℕ) → (b ≡ 0 → ⊥) → b ≡ suc (b - 1)
+index-suc zero z = absurd (z refl)
+index-suc (suc b) z = omega arith
+
+pub index-within : (b m : ℕ) → b ≤ m → (b ≡ 0 → ⊥) → b - 1 < m
+index-within zero m l z = absurd (z refl)
+index-within (suc b) m l z = omega (arith, l)
 
 -- a list's front as code takes it
 pub front : (n : ℕ) (xs : List ℕ) → take (n - 0) xs ≡ take n xs

@@ -1,16 +1,15 @@
 -- The plans of an answer without entries: "no such object" with the matched name, and the other outcomes but success.
-use Prim.Native.Nat.{ℕ, _≤_, _<_, zero-le}
-use mathlib.Core.Path.{_≡_, ap, _∙_}
+use Prim.Native.Nat.{ℕ, _≤_, zero-le}
+use mathlib.Core.Path.{_≡_, ap}
 use mathlib.Core.List.{List, [], _∷_, map}
 use native.Mathlib.Omega.{arith}
-use lib.ListN.{length, getD}
 use borrow.Author.Tests.{ne-eqb}
 use Rattle.rules.specs.Name.{Name}
-use Rattle.rules.specs.Directory.{Stored, nameAt, entryOf}
+use Rattle.rules.specs.Directory.{Stored, entryOf}
 use Rattle.rules.specs.Decision.{Setting}
 use Rattle.rules.specs.Request.{Selection}
-use Rattle.rules.specs.Answer.{outcome, nameLines, matchedName, noSuchObject}
-use Rattle.rules.specs.Sheet.{Line, line}
+use Rattle.rules.specs.Answer.{outcome, nameLines, noSuchObject}
+use Rattle.rules.specs.Sheet.{line}
 use Rattle.rules.specs.declared.Found.{Found}
 use Rattle.plan.specs.declared.Plan.{Plan}
 use Rattle.plan.specs.Plan.{planned}

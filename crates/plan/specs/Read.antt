@@ -1,15 +1,16 @@
 -- Read: whether anything is left to return of an open entry, the outcome, and the plan.
-use Prim.Native.Nat.{ℕ, zero, suc, _+_, _≤_, _<_, zero-le}
-use mathlib.Core.Path.{_≡_, refl, sym, ap, ap₂, _∙_, subst}
+use Prim.Native.Nat.{ℕ, suc, _+_, _≤_, _<_, zero-le}
+use mathlib.Core.Path.{_≡_, refl, sym, ap, ap₂, _∙_}
 use mathlib.Core.Bool.{Bool, true, false, _&&_, _||_, not, cond}
-use mathlib.Core.List.{List, [], _∷_, _++_, map}
+use mathlib.Core.List.{List, [], _∷_, _++_}
 use native.Mathlib.Numerals.{add-one}
 use native.Mathlib.Omega.{arith}
 use lib.Dec.{eqb}
-use lib.ListN.{length, getD, take, drop, drop-of-length-le}
+use lib.ListN.{length, getD, drop, drop-of-length-le}
 use lib.Seq.{drop-cons}
+use borrow.Author.Tests.{ne-eqb}
 use Rattle.rules.specs.Lists.{given, gather, any, keep, isEmpty}
-use Rattle.rules.specs.Sheet.{Bytes, Line, line}
+use Rattle.rules.specs.Sheet.{Bytes, line}
 use Rattle.rules.specs.Name.{Part, part, Name}
 use Rattle.rules.specs.Directory.{Stored, blank, nameAt, Held, heldOf, Entry, entryOf}
 use Rattle.rules.specs.Permission.{Read, ReturnDN, DiscloseOnError}
@@ -145,6 +146,17 @@ module _ (σ : Setting) (s : Selection) (n : Name) where
 abbrev pub asksNothing : Selection → Bool
 asksNothing s = s .listed && isEmpty (s .types)
 
+module _ (s : Selection) (listed : Bool) (wanted : List ℕ) (l : s .listed ≡ listed) (t : s .types ≡ wanted) where
+  pub asks-list : listed ≡ true → eqb (length wanted) 0 ≡ asksNothing s
+  asks-list e = go (s .types) t ∙ ap (λ (b : Bool). b && isEmpty (s .types)) (sym (l ∙ e))
+    where
+      go : (ts : List ℕ) → ts ≡ wanted → eqb (length wanted) 0 ≡ isEmpty ts
+      go [] q = sym (ap (λ (ts : List ℕ). eqb (length ts) 0) q)
+      go (x ∷ xs) q = sym (ap (λ (ts : List ℕ). eqb (length ts) 0) q) ∙ ne-eqb (suc (length xs)) 0 (λ e. omega (arith, e))
+
+  pub asks-all : listed ≡ false → false ≡ asksNothing s
+  asks-all e = ap (λ (b : Bool). b && isEmpty (s .types)) (sym (l ∙ e))
+
 -- "if nothing is left: an empty type list succeeds; otherwise 2 if a selected held type has DiscloseOnError, else 3"
 unfoldable pub readOutcome : Setting → Selection → Entry → ℕ
 readOutcome σ s e =
@@ -191,12 +203,13 @@ pub read-sound : (count k : ℕ) (b : Bool) (hits : List ℕ) → k < count → 
 read-sound count k true hits l = record { name = omega (arith, l); entry = omega (arith, l); shown = zero-le; hits = λ i m. absurd (omega (arith, m)) }
 read-sound count k false hits l = record { name = zero-le; entry = omega (arith, l); shown = zero-le; hits = λ i m. absurd (omega (arith, m)) }
 
+-- of the entry of index `k`
 module _ (σ : Setting) (es : List Stored) (s : Selection) (hits : List ℕ) (k : ℕ) where
   abbrev it : Entry
-  it = entryOf (getD es k blank)
+  it = record { name = getD es k blank .name; held = heldOf (getD es k blank .values) }
 
-  abbrev left : Bool
-  left = isEmpty (information σ s it) && not (asksNothing s)
+  abbrev fails : Bool
+  fails = isEmpty (information σ s it) && not (asksNothing s)
 
   abbrev told : Bool
   told = any (λ h. selected s (h .type) && granted σ (it .name) (ofType (h .type)) DiscloseOnError) (it .held)
@@ -206,12 +219,12 @@ module _ (σ : Setting) (es : List Stored) (s : Selection) (hits : List ℕ) (k 
   named-lines true = rw (add-one k)
   named-lines false = refl
 
-  pub read-found : (b : Bool) → readOutcome σ s (entryOf (getD es k blank)) ≡ 0 → b ≡ granted σ (getD es k blank .name) entry ReturnDN
+  pub read-found : (b : Bool) → readOutcome σ s it ≡ 0 → b ≡ granted σ (getD es k blank .name) entry ReturnDN
       → planned σ es s (readPlan k b) hits ≡ readEntry σ s (entryOf (getD es k blank))
   unfolding planned successLines informationAt readEntry readOutcome outcome entryOf
   read-found b o e =
       ap₂ (λ (m : Name) (i : ℕ). line 30 1 0 0 [] ∷ (entryLines m ++ informationAt σ es s i)) (named-lines b ∙ ap (λ (x : Bool). given x (getD es k blank .name)) e) (add-one k)
-      ∙ go left told o
+      ∙ go fails told o
     where
       go : (x y : Bool) → _≡_ {A = ℕ} (cond x (cond y 2 3) 0) 0
           → outcome 1 0 ++ (entryLines (given (granted σ (it .name) entry ReturnDN) (it .name)) ++ information σ s it)
@@ -220,9 +233,9 @@ module _ (σ : Setting) (es : List Stored) (s : Selection) (hits : List ℕ) (k 
       go true false q = absurd (omega (arith, q))
       go false y q = refl
 
-  pub read-refused : (o : ℕ) → o ≡ readOutcome σ s (entryOf (getD es k blank)) → (o ≡ 0 → ⊥) → planned σ es s (refusedPlan 1 o) hits ≡ readEntry σ s (entryOf (getD es k blank))
-  unfolding readEntry readOutcome
-  read-refused o e z = go left told e
+  pub read-refused : (o : ℕ) → o ≡ readOutcome σ s it → (o ≡ 0 → ⊥) → planned σ es s (refusedPlan 1 o) hits ≡ readEntry σ s (entryOf (getD es k blank))
+  unfolding readEntry readOutcome entryOf
+  read-refused o e z = go fails told e
     where
       go : (x y : Bool) → o ≡ cond x (cond y 2 3) 0
           → planned σ es s (refusedPlan 1 o) hits ≡ cond x (outcome 1 (cond y 2 3)) (outcome 1 0 ++ (entryLines (given (granted σ (it .name) entry ReturnDN) (it .name)) ++ information σ s it))

@@ -1,4 +1,6 @@
 // Compare: is a value of a type of an entry equal to the one given?
+use super::COMPARE;
+use super::DISCLOSE_ON_ERROR;
 use super::Plan;
 use super::opened::open_entry;
 use super::opened::values;
@@ -23,11 +25,6 @@ ghost use Rattle.filter.specs.Seen.{Seen};
 ghost use Rattle.plan.specs.Plan.{planned};
 ghost use Rattle.plan.specs.Lent.{Lent, Base, Numbered, Sound};
 ghost use Rattle.plan.specs.Compare.{refusal, comparison, compareOutcome, comparePlan};
-
-// The permissions by their numbers.
-const DISCLOSE_ON_ERROR: u64 = 8;
-
-const COMPARE: u64 = 16;
 
 // The outcome where Compare on the type is refused: 2 if the type is held and has DiscloseOnError, else 3.
 fn refusal_of(rights: &[u64], list: &[usize], types: &[u64], t: u64) -> u64
@@ -157,23 +154,75 @@ fn compare_entry(
     requires { ⌜ Lent w (now d) (now at) (now parents) (now lengths) (now reach) (now list) (now types) (now places) (now sizes) × (k < length (now at)) ⌝ }
     ensures { λ r. ⌜ ((count : ℕ) (hits : List ℕ) → missing ≤ count → Sound count r hits) × ((σ : Setting) (es : List Stored) (naming scopes : List ℕ) (n : Name) (s : Selection) (hits : List ℕ) → World σ es (now (schema .entry)) w (now (d .entry)) (now (at .entry)) (now (parents .entry)) naming (now (lengths .entry)) (now (p .entry)) (now (rights .entry)) scopes (now (reach .entry)) → Base σ es n (At (suc k)) missing → planned σ es s r hits ≡ Answer.answer σ (map entryOf es) n (Request.compare t (now (v .entry)))) ⌝ }
 {
-    let o = open_entry(parents, rights, reach, k, list);
-    if o.outcome != 0 {
-        return withheld(2, o.outcome, missing);
+    let opening = open_entry(parents, rights, reach, k, list);
+    if opening.outcome != 0 {
+        return withheld(2, opening.outcome, missing);
     }
-    let m = o.items;
-    let n = values(w, d, at, lengths, k, types, places, sizes);
+    let items = opening.items;
+    let count = values(w, d, at, lengths, k, types, places, sizes);
     compare_open(
         schema,
         w,
         d,
         p,
         rights,
-        &list[0..m],
-        &types[0..n],
-        &places[0..n],
-        &sizes[0..n],
+        &list[0..items],
+        &types[0..count],
+        &places[0..count],
+        &sizes[0..count],
         t,
         v,
     )
+}
+
+// The plan of a compare: the value `v` with those of the type `t` of the entry that `base` found.
+pub fn compare(
+    schema: &[u64],
+    w: usize,
+    d: &[u8],
+    at: &[usize],
+    parents: &[usize],
+    lengths: &[usize],
+    p: &[u8],
+    rights: &[u64],
+    reach: &[usize],
+    base: Found,
+    missing: usize,
+    t: u64,
+    v: &[u8],
+    list: &mut [usize],
+    types: &mut [u64],
+    places: &mut [usize],
+    sizes: &mut [usize],
+) -> Plan
+    requires { ⌜ Lent w (now d) (now at) (now parents) (now lengths) (now reach) (now list) (now types) (now places) (now sizes) × Numbered (length (now at)) base missing ⌝ }
+    ensures { λ r. ⌜ ((hits : List ℕ) → Sound (length (now (at .entry))) r hits) × ((σ : Setting) (es : List Stored) (naming scopes : List ℕ) (n : Name) (s : Selection) (hits : List ℕ) → World σ es (now (schema .entry)) w (now (d .entry)) (now (at .entry)) (now (parents .entry)) naming (now (lengths .entry)) (now (p .entry)) (now (rights .entry)) scopes (now (reach .entry)) → Base σ es n base missing → planned σ es s r hits ≡ Answer.answer σ (map entryOf es) n (Request.compare t (now (v .entry)))) ⌝ }
+{
+    match base {
+        Found::At(b) => {
+            if b == 0 {
+                return absent(2, missing);
+            }
+            compare_entry(
+                schema,
+                w,
+                d,
+                at,
+                parents,
+                lengths,
+                p,
+                rights,
+                reach,
+                b - 1,
+                missing,
+                t,
+                v,
+                list,
+                types,
+                places,
+                sizes,
+            )
+        }
+        Found::Nothing => absent(2, missing),
+    }
 }

@@ -1,7 +1,22 @@
 // What an answer is made of, decided before a byte of it is written: the outcome, and the entries whose lines follow, by number.
 pub mod compare;
+pub mod list;
 pub mod opened;
 pub mod outcome;
+pub mod read;
+mod returned;
+pub mod search;
+
+// The permissions, K 8, by their numbers.
+pub const READ: u64 = 1;
+
+pub const BROWSE: u64 = 2;
+
+pub const RETURN_DN: u64 = 4;
+
+pub const DISCLOSE_ON_ERROR: u64 = 8;
+
+pub const COMPARE: u64 = 16;
 
 // The answer of one request. What an operation or outcome does not have is 0.
 pub struct Plan {

@@ -1,9 +1,11 @@
 // How read and compare open the entry that is asked for.
+use super::DISCLOSE_ON_ERROR;
 use super::Plan;
+use super::READ;
 use super::outcome::absent;
 use super::outcome::refused;
 ghost use mathlib.Core.Path.{_≡_};
-ghost use Prim.Native.Nat.{ℕ, suc, _+_, _*_, _≤_, _<_};
+ghost use Prim.Native.Nat.{ℕ, _+_, _*_, _≤_, _<_};
 ghost use mathlib.Core.List.{List};
 ghost use lib.ListN.{length, getD, take};
 ghost use Rattle.rules.specs.Sheet.{Bytes};
@@ -25,10 +27,10 @@ pub struct Opening {
 fn outcome_of(rights: &[u64], list: &[usize]) -> u64
     ensures { λ r. ⌜ ((σ : Setting) (n : Name) (w : ℕ) (p : Bytes) (scopes : List ℕ) → Rows w p (σ .items) (now (rights .entry)) scopes → Chosen σ n (now (list .entry)) → r ≡ openingOf σ n) ⌝ }
 {
-    if access::grant::granted_entry(rights, list, 1) {
+    if access::grant::granted_entry(rights, list, READ) {
         return 0;
     }
-    if access::grant::granted_entry(rights, list, 8) {
+    if access::grant::granted_entry(rights, list, DISCLOSE_ON_ERROR) {
         return 2;
     }
     1
@@ -45,10 +47,10 @@ pub fn open_entry(
     requires { ⌜ (k < length (now parents)) × (length (now reach) ≤ length (now list)) ⌝ }
     ensures { λ r. ⌜ (r .items ≤ length (now (reach .entry))) × ((σ : Setting) (es : List Stored) (schema : List ℕ) (w : ℕ) (d : Bytes) (at naming lengths : List ℕ) (p : Bytes) (scopes : List ℕ) → World σ es schema w d at (now (parents .entry)) naming lengths p (now (rights .entry)) scopes (now (reach .entry)) → Opens σ (getD es k blank .name) (r .outcome) (take (r .items) (now (list .exit)))) ⌝ }
 {
-    let n = access::reach::select(reach, parents, k + 1, list);
+    let items = access::reach::select(reach, parents, k + 1, list);
     Opening {
-        outcome: outcome_of(rights, &list[0..n]),
-        items: n,
+        outcome: outcome_of(rights, &list[0..items]),
+        items: items,
     }
 }
 

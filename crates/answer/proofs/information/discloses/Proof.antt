@@ -7,10 +7,9 @@ use Rattle.rules.specs.Decision.{Setting}
 use Rattle.rules.specs.Request.{Selection}
 use mathlib.Core.List.{List}
 use denote.Ref.{now}
-use lib.ListN.{length, drop, getD}
-use native.Mathlib.Omega.{arith}
-use mathlib.Core.Path.{_≡_, refl, sym, ap, _∙_}
-use Prim.Native.Nat.{ℕ, _+_, _-_, _*_, _≤_, _<_, _^_}
+use lib.ListN.{length, drop}
+use mathlib.Core.Path.{_≡_, refl, sym, _∙_}
+use Prim.Native.Nat.{ℕ, _-_, _≤_}
 use borrow.Author.Needs.{needs}
 use Rattle.answer.proofs.information.discloses.Statement.{statement}
 use Rattle.answer.proofs.information.discloses.Tie as tie

@@ -1,4 +1,4 @@
-use Rattle.answer.specs.Information.{Grounds, Sofar, sofar-start, sofar-on, sofar-end}
+use Rattle.answer.specs.Information.{Sofar, sofar-start, sofar-on, sofar-end}
 use Rattle.access.specs.Chosen.{Rows, Chosen}
 use Rattle.rules.specs.Places.{schemaOf, ValuesAt}
 use Rattle.rules.specs.Name.{Part, Name}
@@ -6,10 +6,10 @@ use Rattle.rules.specs.Decision.{Setting}
 use Rattle.rules.specs.Request.{Selection}
 use mathlib.Core.List.{List}
 use denote.Ref.{now}
-use lib.ListN.{length, drop, getD}
+use lib.ListN.{length}
 use native.Mathlib.Omega.{arith}
-use mathlib.Core.Path.{_≡_, refl, sym, ap, _∙_}
-use Prim.Native.Nat.{ℕ, _+_, _-_, _*_, _≤_, _<_, _^_}
+use mathlib.Core.Path.{_≡_}
+use Prim.Native.Nat.{ℕ, _+_, _-_, _*_, _≤_, _^_}
 use borrow.Author.Needs.{needs}
 use Rattle.answer.proofs.information.emit_information.Statement.{statement}
 use Rattle.answer.proofs.information.emit_information.Tie as tie

@@ -1,9 +1,7 @@
 use Rattle.answer.specs.Information.{lines-not, lines-some}
 use denote.Ref.{now}
-use lib.ListN.{length, drop, getD}
 use native.Mathlib.Omega.{arith}
-use mathlib.Core.Path.{_≡_, refl, sym, ap, _∙_}
-use Prim.Native.Nat.{ℕ, _+_, _-_, _*_, _≤_, _<_, _^_}
+use mathlib.Core.Path.{refl}
 use borrow.Author.Needs.{needs}
 use Rattle.answer.proofs.information.emit_readable.Statement.{statement}
 use Rattle.answer.proofs.information.emit_readable.Tie as tie

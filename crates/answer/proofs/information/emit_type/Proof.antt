@@ -1,10 +1,8 @@
 use Rattle.answer.specs.Laws.{emits-none, emits-same, emits-length}
 use Rattle.answer.specs.Information.{returned-not, returned-type, returned-values}
 use denote.Ref.{now}
-use lib.ListN.{length, drop, getD}
 use native.Mathlib.Omega.{arith}
-use mathlib.Core.Path.{_≡_, refl, sym, ap, _∙_}
-use Prim.Native.Nat.{ℕ, _+_, _-_, _*_, _≤_, _<_, _^_}
+use mathlib.Core.Path.{sym, _∙_}
 use borrow.Author.Needs.{needs}
 use Rattle.answer.proofs.information.emit_type.Statement.{statement}
 use Rattle.answer.proofs.information.emit_type.Tie as tie

@@ -3,10 +3,10 @@ use Rattle.rules.specs.Decision.{Setting}
 use Rattle.rules.specs.Name.{Name}
 use mathlib.Core.Path.{subst}
 use denote.Ref.{now}
-use lib.ListN.{length, drop, getD}
+use lib.ListN.{length}
 use native.Mathlib.Omega.{arith}
-use mathlib.Core.Path.{_≡_, refl, sym, ap, _∙_}
-use Prim.Native.Nat.{ℕ, _+_, _-_, _*_, _≤_, _<_, _^_}
+use mathlib.Core.Path.{_≡_}
+use Prim.Native.Nat.{ℕ, _+_, _-_, _*_, _≤_, _^_}
 use borrow.Author.Needs.{needs}
 use Rattle.answer.proofs.information.emit_values.Statement.{statement}
 use Rattle.answer.proofs.information.emit_values.Tie as tie

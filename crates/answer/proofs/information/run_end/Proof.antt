@@ -1,9 +1,8 @@
-use Rattle.answer.specs.Information.{Alike, Run, alike-start, alike-on}
+use Rattle.answer.specs.Information.{Alike, alike-start, alike-on}
 use denote.Ref.{now}
-use lib.ListN.{length, drop, getD}
+use lib.ListN.{length}
 use native.Mathlib.Omega.{arith}
-use mathlib.Core.Path.{_≡_, refl, sym, ap, _∙_}
-use Prim.Native.Nat.{ℕ, _+_, _-_, _*_, _≤_, _<_, _^_}
+use Prim.Native.Nat.{_-_}
 use borrow.Author.Needs.{needs}
 use Rattle.answer.proofs.information.run_end.Statement.{statement}
 use Rattle.answer.proofs.information.run_end.Tie as tie

@@ -1,7 +1,5 @@
 -- The line does not fit, or it is written.
-use Prim.Native.Nat.{_+_, _*_}
 use mathlib.Core.Path.{refl}
-use lib.ListN.{length}
 use denote.Ref.{now}
 use Rattle.rules.specs.Sheet.{line}
 use Rattle.answer.specs.Laws.{emits-not, emits-written}

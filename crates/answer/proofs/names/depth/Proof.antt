@@ -2,7 +2,7 @@ use Rattle.answer.specs.Names.{Climbed, climb-start, climb-on, climb-end
 use denote.Ref.{now}
 use lib.ListN.{length}
 use native.Mathlib.Omega.{arith}
-use Prim.Native.Nat.{_+_, _-_, _≤_, _<_}
+use Prim.Native.Nat.{_+_, _-_, _≤_}
 use borrow.Author.Needs.{needs}
 use Rattle.answer.proofs.names.depth.Statement.{statement}
 use Rattle.answer.proofs.names.depth.Tie as tie

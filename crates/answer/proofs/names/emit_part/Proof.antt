@@ -1,8 +1,6 @@
 use Rattle.answer.specs.Names.{naming-short, naming-emits}
 use denote.Ref.{now}
-use lib.ListN.{length}
 use native.Mathlib.Omega.{arith}
-use Prim.Native.Nat.{_+_, _-_, _≤_, _<_}
 use borrow.Author.Needs.{needs}
 use Rattle.answer.proofs.names.emit_part.Statement.{statement}
 use Rattle.answer.proofs.names.emit_part.Tie as tie

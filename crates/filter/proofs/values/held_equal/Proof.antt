@@ -1,7 +1,5 @@
-use mathlib.Core.Path.{refl, sym, ap, _∙_}
+use mathlib.Core.Path.{sym, _∙_}
 use denote.Ref.{now}
-use Rattle.rules.specs.Places.{linesAt}
-use Rattle.rules.specs.Laws.Filter.{piecesOf}
 use Rattle.filter.specs.Items.{held-by, held-unknown}
 use borrow.Author.Needs.{needs}
 use Rattle.filter.proofs.values.held_equal.Statement.{statement}

@@ -1,5 +1,5 @@
 use mathlib.Core.Path.{sym, subst}
-use Rattle.plan.specs.Opened.{Opens, items-chosen, front}
+use Rattle.plan.specs.Opened.{items-chosen, front}
 use Rattle.rules.specs.Directory.{blank}
 use Rattle.access.specs.Chosen.{Chosen}
 use denote.Ref.{now}

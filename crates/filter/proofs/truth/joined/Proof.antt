@@ -1,0 +1,26 @@
+use borrow.Author.Needs.{needs}
+use Rattle.filter.proofs.truth.joined.Statement.{statement}
+use Rattle.filter.proofs.truth.joined.Tie as tie
+use Rattle.filter.proofs.truth.joined.Reads as reads
+use Rattle.filter.proofs.truth.joined.Lts as lts
+use Rattle.filter.proofs.truth.both.Reads as both-reads
+use Rattle.filter.proofs.truth.either.Reads as either-reads
+
+-- src/truth.rt:64:9
+both-requires : tie.Need-both-requires
+both-requires c κs = search needs
+
+-- src/truth.rt:64:9
+returns : tie.Need-returns
+returns c = rw (c .before .if1 .taken) (c .both .ensures)
+
+-- src/truth.rt:66:5
+either-requires : tie.Need-either-requires
+either-requires c κs = search needs
+
+-- src/truth.rt:60:1
+returns-2 : tie.Need-returns-2
+returns-2 c = rw (c .before .if1 .left) (c .either .ensures)
+
+pub joined-spec : {M : Type 1} → statement M
+joined-spec = tie.close (tie.spec both-requires returns either-requires returns-2)
