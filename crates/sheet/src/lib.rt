@@ -4,9 +4,11 @@ mod bounds;
 mod column;
 pub mod columns;
 pub mod kind;
+pub mod reader;
 pub mod write;
 
 use column::column_at;
+use reader::Reader;
 use rules::Column;
 use rules::Front;
 ghost use mathlib.Core.Path.{_≡_};
@@ -73,10 +75,7 @@ pub fn line_at(s: &[u8], at: usize, w: usize) -> Front
     requires { ⌜ w ≤ 18 ⌝ }
     ensures { λ r. ⌜ r ≡ frontOf w (drop at (now (s .entry))) ⌝ }
 {
-    if at < s.len() {
-        return front(&s[at..], w);
-    }
-    Front::End
+    Reader::new(s).past(at).line(w)
 }
 
 // The bytes of a line of `len` bytes at the front, as a part of the sheet.
@@ -94,7 +93,7 @@ pub fn value_at(s: &[u8], at: usize, len: usize, w: usize) -> &[u8]
     requires { ⌜ at + (5 * w + len) ≤ length (now s) ⌝ }
     ensures { λ r. ⌜ now r ≡ valueOf w len (drop at (now (s .entry))) ⌝ }
 {
-    value(&s[at..], len, w)
+    Reader::new(s).past(at).value(len, w)
 }
 
 // The sheet after a line of `len` bytes at the front.
