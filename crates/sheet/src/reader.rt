@@ -1,5 +1,5 @@
-// A sheet and a position in it, as one: lines are taken through it. Each function takes the reader apart and leaves the
-// work to a function over a plain slice.
+// A sheet and a position in it, as one: the reader through which lines are taken. Each function is thin and leaves the work
+// to one over a plain slice.
 use super::front;
 use super::value;
 use rules::Front;
@@ -8,19 +8,29 @@ ghost use Prim.Native.Nat.{_+_, _*_, _<_, _≤_, _^_};
 ghost use lib.ListN.{length, drop};
 ghost use Rattle.rules.specs.Sheet.{frontOf, valueOf};
 
+// A sheet, and the position in it that is read next.
 pub struct Reader<'a> {
     pub sheet: &'a [u8],
     pub at: usize,
 }
 
-// The part of a sheet that begins at the position `at`; beyond the last byte, the empty part.
-fn rest_at(s: &[u8], at: usize) -> &[u8]
-    ensures { λ r. ⌜ now r ≡ drop at (now (s .entry)) ⌝ }
+// The line at the position `at` of a sheet; beyond its last byte, its end.
+fn line_here(s: &[u8], at: usize, w: usize) -> Front
+    requires { ⌜ w ≤ 18 ⌝ }
+    ensures { λ r. ⌜ r ≡ frontOf w (drop at (now (s .entry))) ⌝ }
 {
     if at < s.len() {
-        return &s[at..];
+        return front(&s[at..], w);
     }
-    &s[0..0]
+    Front::End
+}
+
+// The part of a sheet that begins at the position `at`.
+fn rest_here(s: &[u8], at: usize) -> &[u8]
+    requires { ⌜ at ≤ length (now s) ⌝ }
+    ensures { λ r. ⌜ now r ≡ drop at (now (s .entry)) ⌝ }
+{
+    &s[at..]
 }
 
 impl<'a> Reader<'a> {
@@ -31,7 +41,7 @@ impl<'a> Reader<'a> {
         Reader { sheet, at: 0 }
     }
 
-    // The reader moved past `n` bytes.
+    // The reader moved past `n` bytes: those of a line just taken, or of all lines before a position.
     pub fn past(self, n: usize) -> Reader<'a>
         requires { ⌜ self .at + n < 2 ^ 64 ⌝ }
         ensures { λ r. ⌜ (r .sheet ≡ self .entry .sheet) × (r .at ≡ self .entry .at + n) ⌝ }
@@ -44,9 +54,10 @@ impl<'a> Reader<'a> {
 
     // The rest of the sheet, from the reader's position on.
     pub fn rest(self) -> &'a [u8]
+        requires { ⌜ self .at ≤ length (now (self .sheet)) ⌝ }
         ensures { λ r. ⌜ now r ≡ drop (self .entry .at) (now (self .entry .sheet)) ⌝ }
     {
-        rest_at(self.sheet, self.at)
+        rest_here(self.sheet, self.at)
     }
 
     // The line at the reader's position.
@@ -54,7 +65,7 @@ impl<'a> Reader<'a> {
         requires { ⌜ w ≤ 18 ⌝ }
         ensures { λ r. ⌜ r ≡ frontOf w (drop (self .entry .at) (now (self .entry .sheet))) ⌝ }
     {
-        front(self.rest(), w)
+        line_here(self.sheet, self.at, w)
     }
 
     // The bytes of a line of `len` bytes at the reader's position, as a part of the sheet.

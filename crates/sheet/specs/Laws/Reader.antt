@@ -33,6 +33,9 @@ past-value n l w {s} q e m h =
     let same : q .sheet ≡ s = m .0 ∙ e .0 in
     rw (at, same) h
 
--- a line of `l` bytes at the reader's position is at the front of the rest `x`
+-- a line of `l` bytes at the reader's position stands at the front of the rest `x`
+pub rest-room : (w l : ℕ) (r : Reader) → r .at + (5 * w + l) ≤ length (now (r .sheet)) → r .at ≤ length (now (r .sheet))
+rest-room w l r h = omega arith
+
 pub value-room : (w l : ℕ) {x : Bytes} (r : Reader) → r .at + (5 * w + l) ≤ length (now (r .sheet)) → x ≡ left r → 5 * w + l ≤ length x
 value-room w l r h e = rw (e, length-drop) (omega arith)

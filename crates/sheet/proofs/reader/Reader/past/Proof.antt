@@ -1,6 +1,5 @@
 -- `Reader::past` meets its contract: a walk of its MIR, by hand. The number is advanced, and a struct is made anew of it and of the slice that the one passed holds.
--- The struct is Copy: what it owns is had twice, one copy is kept whole for the exit, and the other, with the facts of the number in the place of at's, is what the result owns.
--- Assumes nothing.
+-- The struct is Copy: what it owns is had twice, one copy is kept whole for the exit, and the other, with the facts of the number in the place of `at`'s, is what the result owns.
 use mathlib.Core.Path.{refl}
 use Prim.Native.Nat.{ℕ, _+_, _<_, _^_}
 use mathlib.Core.List.{[], _∷_}

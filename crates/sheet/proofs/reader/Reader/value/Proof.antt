@@ -1,6 +1,5 @@
 -- `Reader::value` meets its contract: a walk of its MIR, by hand. `rest` is called on a copy of the struct, and the `value` of a plain slice on the part of the sheet that it returns. All that the proof knows of them is that each meets its contract.
 -- The struct is Copy: what it owns is had twice, one copy is kept for the exit, and the other goes to `rest`.
--- Assumes nothing.
 use mathlib.Core.Path.{_≡_, refl, ap, _∙_}
 use Prim.Native.Nat.{ℕ, _+_, _*_, _<_, _≤_, _^_}
 use mathlib.Core.List.{List, [], _∷_}
@@ -17,7 +16,7 @@ use ghost.Atoms.{Atoms, sem}
 use contract.Lifetimes.{Lfts}
 use contract.Monad.{Fun, fact}
 use contract.Running.{givenOf, tables, tablesOf}
-use types.Kit.{Given, ‵, raw, _⊛_, ⋆, some, later, _$_, _∵_, !, qed, by, move, drop as discard, use1, use2, split, join, pick, fsplit, fjoin, suffices, frame, await, done}
+use types.Kit.{Given, ‵, raw, _⊛_, ⋆, some, later, _$_, _∵_, !, qed, by, move, drop as discard, use1, use2, split, pick, fsplit, fjoin, suffices, frame, await, done}
 use types.Run.{look, init, forget, stop, from, load, of-opd, and-then, no-more, assigns, land, returns, enter, alloc1, alloc0, params1, pass1, pass0, free1, free0}
 use sound.WpLaws.{FmC, fmOf, WpFn-mono}
 use denote.RattleType.{RattleType, owns}
@@ -38,7 +37,7 @@ use denote.Triple.Walked.{says, needs, Stays, stay-none, walkOf, goes-none, Walk
 use denote.Exit.{yes}
 use denote.Triple.Clauses.{ensured, lasts}
 use Rattle.rules.specs.Sheet.{valueOf}
-use Rattle.sheet.specs.Laws.Reader.{left, value-room}
+use Rattle.sheet.specs.Laws.Reader.{left, rest-room, value-room}
 use Rattle.sheet.specs.declared.reader.Reader.{Reader}
 use Rattle.sheet.proofs.reader.Reader as T
 use Rattle.sheet.proofs.reader.Reader.Laws as T′
@@ -99,7 +98,7 @@ module _ {M : Type 1} (𝓤 : URA M) (H : Heap 𝓤) (A : Atoms 𝓤) (W : Given
   to-rest = (((κ, tt), (q, tt), tt, (d, tt), (mach ∷ [], tt)), tt)
 
   asked : ent 𝓤 (onEntry 𝓤 H A rest.signature (κ, tt) (q, tt) (d, tt) (mach ∷ [], tt)) (Rest 𝓤 H A mem run .pre to-rest)
-  asked = qed W ((‵ (flft κ q) ⊛ ‵ ftrue) ∷ ‵ (owns (B (κ, tt) ∷ []) (d, tt) (mach ∷ [], tt)) ∷ []) ∵ join ! $ frame ! $ done !
+  asked = qed W ((‵ (flft κ q) ⊛ ‵ ftrue) ∷ ‵ (owns (B (κ, tt) ∷ []) (d, tt) (mach ∷ [], tt)) ∷ []) ∵ says ! (rest-room w n d ok) $ frame ! $ done !
 
   goes-rest : ent 𝓤 (onEntry 𝓤 H A value.signature (κ, tt) (q, tt) (d, (n, (w, tt))) at) (sep 𝓤 (Rest 𝓤 H A mem run .pre to-rest) (sem 𝓤 H A Own))
   goes-rest =
