@@ -14,7 +14,7 @@ pub struct Reader<'a> {
     pub at: usize,
 }
 
-// The line at the position `at` of a sheet; beyond its last byte, its end.
+// The work of `line`, over a plain slice.
 fn line_here(s: &[u8], at: usize, w: usize) -> Front
     requires { ⌜ w ≤ 18 ⌝ }
     ensures { λ r. ⌜ r ≡ frontOf w (drop at (now (s .entry))) ⌝ }
@@ -25,7 +25,7 @@ fn line_here(s: &[u8], at: usize, w: usize) -> Front
     Front::End
 }
 
-// The part of a sheet that begins at the position `at`.
+// The work of `rest`, over a plain slice.
 fn rest_here(s: &[u8], at: usize) -> &[u8]
     requires { ⌜ at ≤ length (now s) ⌝ }
     ensures { λ r. ⌜ now r ≡ drop at (now (s .entry)) ⌝ }
@@ -60,7 +60,7 @@ impl<'a> Reader<'a> {
         rest_here(self.sheet, self.at)
     }
 
-    // The line at the reader's position.
+    // The line at the reader's position; beyond the sheet's last byte, its end.
     pub fn line(self, w: usize) -> Front
         requires { ⌜ w ≤ 18 ⌝ }
         ensures { λ r. ⌜ r ≡ frontOf w (drop (self .entry .at) (now (self .entry .sheet))) ⌝ }

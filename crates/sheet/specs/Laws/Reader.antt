@@ -33,7 +33,7 @@ past-value n l w {s} q e m h =
     let same : q .sheet ≡ s = m .0 ∙ e .0 in
     rw (at, same) h
 
--- a line of `l` bytes at the reader's position stands at the front of the rest `x`
+-- where a line of `l` bytes is at the reader's position, that is within the sheet, and the line is at the front of the rest `x`
 pub rest-room : (w l : ℕ) (r : Reader) → r .at + (5 * w + l) ≤ length (now (r .sheet)) → r .at ≤ length (now (r .sheet))
 rest-room w l r h = omega arith
 
