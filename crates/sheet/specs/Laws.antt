@@ -1,4 +1,5 @@
 pub mod Read
+pub mod Reader
 pub mod Kinds
 pub mod Columns
 pub mod Put

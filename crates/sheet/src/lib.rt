@@ -4,9 +4,11 @@ mod bounds;
 mod column;
 pub mod columns;
 pub mod kind;
+pub mod reader;
 pub mod write;
 
 use column::column_at;
+use reader::Reader;
 use rules::Column;
 use rules::Front;
 ghost use mathlib.Core.Path.{_≡_};
@@ -68,15 +70,12 @@ pub fn front(s: &[u8], w: usize) -> Front
     framed(s, w, kind, a, b, c, n)
 }
 
-// The line at the position `at` of a sheet; beyond its last byte, its end.
+// The line at the position `at` of a sheet, taken through a reader; beyond its last byte, its end.
 pub fn line_at(s: &[u8], at: usize, w: usize) -> Front
     requires { ⌜ w ≤ 18 ⌝ }
     ensures { λ r. ⌜ r ≡ frontOf w (drop at (now (s .entry))) ⌝ }
 {
-    if at < s.len() {
-        return front(&s[at..], w);
-    }
-    Front::End
+    Reader::new(s).past(at).line(w)
 }
 
 // The bytes of a line of `len` bytes at the front, as a part of the sheet.
@@ -89,12 +88,12 @@ pub fn value(s: &[u8], len: usize, w: usize) -> &[u8]
     &s[from..end]
 }
 
-// The bytes of a line of `len` bytes at the position `at`, as a part of the sheet.
+// The bytes of a line of `len` bytes at the position `at`, taken through a reader, as a part of the sheet.
 pub fn value_at(s: &[u8], at: usize, len: usize, w: usize) -> &[u8]
     requires { ⌜ at + (5 * w + len) ≤ length (now s) ⌝ }
     ensures { λ r. ⌜ now r ≡ valueOf w len (drop at (now (s .entry))) ⌝ }
 {
-    value(&s[at..], len, w)
+    Reader::new(s).past(at).value(len, w)
 }
 
 // The sheet after a line of `len` bytes at the front.
