@@ -1,0 +1,21 @@
+-- What the numbers lent to the functions of this crate stand for.
+use Prim.Native.Nat.{ℕ}
+use mathlib.Core.Path.{_≡_}
+use mathlib.Core.List.{List}
+use Rattle.rules.specs.Sheet.{Bytes}
+use Rattle.rules.specs.Name.{Name, Part}
+use Rattle.rules.specs.Decision.{Setting}
+use Rattle.rules.specs.Places.{schemaOf, ValuesAt}
+use Rattle.access.specs.Chosen.{Rows, Chosen}
+
+-- the setting, by its schema and the rows of its items; `list` has the items that concern the entry with the full name `n`
+pub record Ruled (σ : Setting) (n : Name) (schema : List ℕ) (w : ℕ) (p : Bytes) (rights list : List ℕ) : Type 0 where
+  pub scopes : List ℕ
+  pub schema-is : σ .schema ≡ schemaOf schema
+  pub rows : Rows w p (σ .items) rights scopes
+  pub chosen : Chosen σ n list
+
+-- and the entry's values `ps`
+pub record Seen (σ : Setting) (n : Name) (ps : List Part) (schema : List ℕ) (w : ℕ) (d p : Bytes) (rights list types places sizes : List ℕ) : Type 0 where
+  pub ruled : Ruled σ n schema w p rights list
+  pub values : ValuesAt d ps types places sizes

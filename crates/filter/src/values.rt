@@ -1,0 +1,173 @@
+// The values that an entry holds, each noted by its type, the position of its bytes on the directory and their number, tested one by one.
+// Numbers are compared before bytes, and bytes before the items that concern the entry are asked.
+use super::pieces::substrings;
+use super::truth::not_below;
+use access::grant::granted_value;
+use rules::Found;
+ghost use mathlib.Core.Path.{_≡_};
+ghost use Prim.Native.Nat.{ℕ, _+_, _≤_};
+ghost use mathlib.Core.List.{List};
+ghost use lib.ListN.{length, take, drop};
+ghost use Rattle.rules.specs.Name.{Name, Part, part, equal};
+ghost use Rattle.rules.specs.Directory.{heldOf};
+ghost use Rattle.rules.specs.Decision.{Setting};
+ghost use Rattle.rules.specs.FilterItem.{someValue};
+ghost use Rattle.rules.specs.Places.{schemaOf, linesAt, ValuesAt};
+ghost use Rattle.rules.specs.Laws.Filter.{piecesOf};
+ghost use Rattle.access.specs.Chosen.{Rows, Chosen};
+ghost use Rattle.filter.specs.Items.{passesBy};
+ghost use Rattle.filter.specs.Seen.{Ruled, Seen};
+ghost use Rattle.filter.specs.Values.{countsBy};
+
+// Does the value `u` pass the test of an item of kind `kind`? Its value is `v`, its `count` pieces stand at position `next` of `q`, `s` is the syntax.
+fn passes(
+    s: u64,
+    kind: u64,
+    v: &[u8],
+    q: &[u8],
+    next: usize,
+    count: u64,
+    w: usize,
+    u: &[u8],
+) -> bool
+    requires { ⌜ w ≤ 18 ⌝ }
+    ensures { λ r. ⌜ r ≡ passesBy s kind (piecesOf count (linesAt w (now (q .entry)) next)) (now (v .entry)) (now (u .entry)) ⌝ }
+{
+    if kind == 23 {
+        return name::equal_by(s, v, u);
+    }
+    if kind == 24 {
+        return not_below(value::order(s, u, v));
+    }
+    if kind == 25 {
+        return not_below(value::order(s, v, u));
+    }
+    substrings(q, next, count, w, u)
+}
+
+// Is the value noted by `of`, `place` and `size` of the type `t`, does it pass the item's test, and is the permission granted on it?
+fn counts(
+    schema: &[u64],
+    w: usize,
+    d: &[u8],
+    p: &[u8],
+    rights: &[u64],
+    list: &[usize],
+    of: u64,
+    place: usize,
+    size: usize,
+    s: u64,
+    kind: u64,
+    t: u64,
+    v: &[u8],
+    q: &[u8],
+    next: usize,
+    count: u64,
+    permission: u64,
+) -> bool
+    requires { ⌜ (w ≤ 18) × (1 ≤ permission) ⌝ }
+    ensures { λ r. ⌜ ((σ : Setting) (n : Name) → Ruled σ n (now (schema .entry)) w (now (p .entry)) (now (rights .entry)) (now (list .entry)) → place + size ≤ length (now (d .entry)) → r ≡ countsBy σ n t permission (passesBy s kind (piecesOf count (linesAt w (now (q .entry)) next)) (now (v .entry))) (part of (take size (drop place (now (d .entry)))))) ⌝ }
+{
+    if of != t {
+        return false;
+    }
+    let u = entry::bytes_at(d, place, size);
+    if passes(s, kind, v, q, next, count, w, u) {
+        return granted_value(schema, w, p, rights, list, t, u, permission);
+    }
+    false
+}
+
+// Does some value of the type `t` with the permission granted pass the item's test?
+pub fn some_value(
+    schema: &[u64],
+    w: usize,
+    d: &[u8],
+    p: &[u8],
+    rights: &[u64],
+    list: &[usize],
+    types: &[u64],
+    places: &[usize],
+    sizes: &[usize],
+    s: u64,
+    kind: u64,
+    t: u64,
+    v: &[u8],
+    q: &[u8],
+    next: usize,
+    count: u64,
+    permission: u64,
+) -> bool
+    requires { ⌜ (w ≤ 18) × (1 ≤ permission) × (length (now places) ≡ length (now types)) × (length (now sizes) ≡ length (now types)) ⌝ }
+    ensures { λ r. ⌜ ((σ : Setting) (n : Name) (ps : List Part) → Seen σ n ps (now (schema .entry)) w (now (d .entry)) (now (p .entry)) (now (rights .entry)) (now (list .entry)) (now (types .entry)) (now (places .entry)) (now (sizes .entry)) → r ≡ someValue σ (record { name = n; held = heldOf ps }) t permission (passesBy s kind (piecesOf count (linesAt w (now (q .entry)) next)) (now (v .entry)))) ⌝ }
+{
+    let mut i: usize = 0;
+    while i < types.len() {
+        if counts(
+            schema,
+            w,
+            d,
+            p,
+            rights,
+            list,
+            types[i],
+            places[i],
+            sizes[i],
+            s,
+            kind,
+            t,
+            v,
+            q,
+            next,
+            count,
+            permission,
+        ) {
+            return true;
+        }
+        i += 1;
+    }
+    false
+}
+
+// Is some value of the type `t` that the entry holds, with the permission `q` granted on it, equal to `v`?
+pub fn held_equal(
+    schema: &[u64],
+    w: usize,
+    d: &[u8],
+    p: &[u8],
+    rights: &[u64],
+    list: &[usize],
+    types: &[u64],
+    places: &[usize],
+    sizes: &[usize],
+    t: u64,
+    v: &[u8],
+    q: u64,
+) -> bool
+    requires { ⌜ (w ≤ 18) × (1 ≤ q) × (length (now places) ≡ length (now types)) × (length (now sizes) ≡ length (now types)) ⌝ }
+    ensures { λ r. ⌜ ((σ : Setting) (n : Name) (scopes : List ℕ) (ps : List Part) → σ .schema ≡ schemaOf (now (schema .entry)) → Rows w (now (p .entry)) (σ .items) (now (rights .entry)) scopes → Chosen σ n (now (list .entry)) → ValuesAt (now (d .entry)) ps (now (types .entry)) (now (places .entry)) (now (sizes .entry)) → r ≡ someValue σ (record { name = n; held = heldOf ps }) t q (λ u. equal (σ .schema) t (now (v .entry)) u)) ⌝ }
+{
+    match name::syntax_of(schema, t) {
+        // an equality item, which has no pieces
+        Found::At(s) => some_value(
+            schema,
+            w,
+            d,
+            p,
+            rights,
+            list,
+            types,
+            places,
+            sizes,
+            s as u64,
+            23,
+            t,
+            v,
+            v,
+            0,
+            0,
+            q,
+        ),
+        Found::Nothing => false,
+    }
+}
