@@ -28,6 +28,16 @@ use Rattle.answer.specs.Emit.{emitLines, Emits}
 use Rattle.answer.specs.Laws.{emits-none, emits-append, emits-before}
 use Rattle.answer.specs.declared.information.Written.{Written}
 
+-- the values from index `i` to `end`, whatever they are: all are noted
+pub record Range (w : ℕ) (d : Bytes) (places sizes : List ℕ) (i end : ℕ) : Type 0 where
+  pub narrow : 1 ≤ w
+  pub wide : w ≤ 18
+  pub small : length d ≤ 65536
+  pub rising : i ≤ end
+  pub few : end ≤ 65536
+  pub places-noted : end ≤ length places
+  pub sizes-noted : end ≤ length sizes
+
 -- what the decisions about the entry with the full name `n` rest on
 pub record Grounds (σ : Setting) (n : Name) (schema : List ℕ) (w : ℕ) (p : Bytes) (rights list : List ℕ) : Type 0 where
   pub scopes : List ℕ

@@ -18,7 +18,7 @@ ghost use Rattle.rules.specs.Places.{schemaOf, ValuesAt};
 ghost use Rattle.access.specs.Chosen.{Rows, Chosen};
 ghost use Rattle.entry.specs.Values.{bytesAt};
 ghost use Rattle.answer.specs.Emit.{Emits};
-ghost use Rattle.answer.specs.Information.{Grounds, noted, readable, Counted, Run, selectedWith, returned};
+ghost use Rattle.answer.specs.Information.{Range, Grounds, noted, readable, Counted, Run, selectedWith, returned};
 
 // The permissions by their numbers.
 const READ: u64 = 1;
@@ -129,7 +129,7 @@ fn emit_values(
     i: usize,
     end: usize,
 ) -> Written
-    requires { ⌜ (1 ≤ w) × (w ≤ 18) × (length (now d) ≤ 65536) × (at ≤ 2 ^ 52) × (i ≤ end) × (end ≤ 65536) × (end ≤ length (now places)) × (end ≤ length (now sizes)) ⌝ }
+    requires { ⌜ Range w (now d) (now places) (now sizes) i end × (at ≤ 2 ^ 52) ⌝ }
     ensures { λ r. ⌜ (r .next ≤ at + (end - i) * 2 ^ 17) × ((σ : Setting) (n : Name) → Grounds σ n (now (schema .entry)) w (now (p .entry)) (now (rights .entry)) (now (list .entry)) → Counted w (now (out .entry)) (record { next = at; count = 0 }) (readable σ n t (noted (now (d .entry)) (now (places .entry)) (now (sizes .entry)) i (end - i))) (now (out .exit)) r) ⌝ }
 {
     let mut st = Written { next: at, count: 0 };
@@ -170,7 +170,7 @@ fn emit_readable(
     i: usize,
     end: usize,
 ) -> usize
-    requires { ⌜ (1 ≤ w) × (w ≤ 18) × (length (now d) ≤ 65536) × (at ≤ 2 ^ 51) × (i ≤ end) × (end ≤ 65536) × (end ≤ length (now places)) × (end ≤ length (now sizes)) ⌝ }
+    requires { ⌜ Range w (now d) (now places) (now sizes) i end × (at ≤ 2 ^ 51) ⌝ }
     ensures { λ r. ⌜ (r ≤ at + (end - i + 1) * 2 ^ 17) × ((σ : Setting) (n : Name) → Grounds σ n (now (schema .entry)) w (now (p .entry)) (now (rights .entry)) (now (list .entry)) → Emits w (now (out .entry)) at (Answer.valueLines t (readable σ n t (noted (now (d .entry)) (now (places .entry)) (now (sizes .entry)) i (end - i)))) (now (out .exit)) r) ⌝ }
 {
     let st = emit_values(
@@ -214,7 +214,7 @@ fn emit_type(
     i: usize,
     end: usize,
 ) -> usize
-    requires { ⌜ (1 ≤ w) × (w ≤ 18) × (length (now d) ≤ 65536) × (at ≤ 2 ^ 51) × (i ≤ end) × (end ≤ 65536) × (end ≤ length (now places)) × (end ≤ length (now sizes)) ⌝ }
+    requires { ⌜ Range w (now d) (now places) (now sizes) i end × (at ≤ 2 ^ 51) ⌝ }
     ensures { λ r. ⌜ (r ≤ at + (end - i + 1) * 2 ^ 17) × ((σ : Setting) (n : Name) (s : Selection) → Grounds σ n (now (schema .entry)) w (now (p .entry)) (now (rights .entry)) (now (list .entry)) → s .listed ≡ listed → s .types ≡ now (wanted .entry) → s .values ≡ values → Emits w (now (out .entry)) at (returned σ s n (record { type = t; values = noted (now (d .entry)) (now (places .entry)) (now (sizes .entry)) i (end - i) })) (now (out .exit)) r) ⌝ }
 {
     if selected_with(rights, list, listed, wanted, t, READ) {

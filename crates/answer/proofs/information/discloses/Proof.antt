@@ -1,6 +1,7 @@
 use Rattle.answer.specs.Information.{selectedWith, any-noted, any-here, any-on, any-end}
 use Rattle.access.specs.Chosen.{Rows, Chosen}
 use Rattle.rules.specs.Lists.{any}
+use Rattle.rules.specs.Permission.{DiscloseOnError}
 use Rattle.rules.specs.Sheet.{Bytes}
 use Rattle.rules.specs.Name.{Name}
 use Rattle.rules.specs.Decision.{Setting}
@@ -18,7 +19,7 @@ use Rattle.answer.proofs.information.discloses.Lts as lts
 use Rattle.answer.proofs.information.selected_with.Reads as selected-with-reads
 
 abbrev Inv-loop : tie.InvT-loop
-Inv-loop rights list types listed wanted i₀ i = (i ≤ length types) × ((σ : Setting) (n : Name) (w : ℕ) (p : Bytes) (scopes : List ℕ) (s : Selection) → Rows w p (σ .items) rights scopes → Chosen σ n list → s .listed ≡ listed → s .types ≡ wanted → any (selectedWith σ s n 8) (drop i types) ≡ any (selectedWith σ s n 8) types)
+Inv-loop rights list types listed wanted i₀ i = (i ≤ length types) × ((σ : Setting) (n : Name) (w : ℕ) (p : Bytes) (scopes : List ℕ) (s : Selection) → Rows w p (σ .items) rights scopes → Chosen σ n list → s .listed ≡ listed → s .types ≡ wanted → any (selectedWith σ s n DiscloseOnError) (drop i types) ≡ any (selectedWith σ s n DiscloseOnError) types)
 
 abbrev μ-loop : tie.MeasureT-loop
 μ-loop rights list types listed wanted i₀ i = length types - i
@@ -43,8 +44,8 @@ selected-with-requires c κs = search needs
 returns : tie.Need-returns Inv-loop μ-loop
 returns c = let a = c .before .before .before .before .before .before .before .before .before .args in
     let L = c .before .before .before .before .loop in
-    λ σ n w d p scopes ps places sizes s rows chosen h e f. sym (any-noted (selectedWith σ s n 8) d ps (now (a .types)) places sizes h ∙ sym (L .inv .1 σ n w p scopes s rows chosen e f)
-    ∙ any-here (selectedWith σ s n 8) (now (a .types)) (L .i) (c .before .before .before .loop-test .taken) (sym (c .before .selected-with .ensures σ n w p scopes s rows chosen e f) ∙ c .if1 .taken))
+    λ σ n w d p scopes ps places sizes s rows chosen h e f. sym (any-noted (selectedWith σ s n DiscloseOnError) d ps (now (a .types)) places sizes h ∙ sym (L .inv .1 σ n w p scopes s rows chosen e f)
+    ∙ any-here (selectedWith σ s n DiscloseOnError) (now (a .types)) (L .i) (c .before .before .before .loop-test .taken) (sym (c .before .selected-with .ensures σ n w p scopes s rows chosen e f) ∙ c .if1 .taken))
 
 -- src/information.rt:84:9
 add-i : tie.Need-add-i Inv-loop μ-loop
@@ -59,7 +60,7 @@ loop-again : tie.Need-loop-again Inv-loop μ-loop
 loop-again c = let a = c .before .before .before .before .before .before .before .before .before .args in
     let L = c .before .before .before .before .loop in (
       search needs,
-      λ σ n w p scopes s rows chosen e f. sym (any-on (selectedWith σ s n 8) (now (a .types)) (L .i) (c .before .before .before .loop-test .taken) (sym (c .before .selected-with .ensures σ n w p scopes s rows chosen e f) ∙ c .if1 .left))
+      λ σ n w p scopes s rows chosen e f. sym (any-on (selectedWith σ s n DiscloseOnError) (now (a .types)) (L .i) (c .before .before .before .loop-test .taken) (sym (c .before .selected-with .ensures σ n w p scopes s rows chosen e f) ∙ c .if1 .left))
           ∙ L .inv .1 σ n w p scopes s rows chosen e f,
     )
 
@@ -67,8 +68,8 @@ loop-again c = let a = c .before .before .before .before .before .before .before
 returns-2 : tie.Need-returns-2 Inv-loop μ-loop
 returns-2 c = let a = c .before .before .before .before .before .before .args in
     let L = c .before .loop in
-    λ σ n w d p scopes ps places sizes s rows chosen h e f. sym (any-noted (selectedWith σ s n 8) d ps (now (a .types)) places sizes h ∙ sym (L .inv .1 σ n w p scopes s rows chosen e f)
-    ∙ any-end (selectedWith σ s n 8) (now (a .types)) (L .i) (c .loop-test .left))
+    λ σ n w d p scopes ps places sizes s rows chosen h e f. sym (any-noted (selectedWith σ s n DiscloseOnError) d ps (now (a .types)) places sizes h ∙ sym (L .inv .1 σ n w p scopes s rows chosen e f)
+    ∙ any-end (selectedWith σ s n DiscloseOnError) (now (a .types)) (L .i) (c .loop-test .left))
 
 pub discloses-spec : {M : Type 1} → statement M
 discloses-spec =

@@ -48,8 +48,18 @@ shared-slice-read-emit-type c = search needs
 emit-type-requires : tie.Need-emit-type-requires Inv-loop μ-loop
 emit-type-requires c κs = let s = c .before .before .before .before .before .before .before .before .before .before .before .before .before .before .before in
     let L = c .before .before .before .before .loop in
-    let r = c .before .before .run-end .ensures .alike in
-    (s .pre .0, s .pre .1, s .pre .3, omega (arith, s .pre .2, s .pre .6, L .inv .0, L .inv .1), omega (arith, r .after), omega (arith, r .within, s .pre .6), omega (arith, r .within, s .pre .4), omega (arith, r .within, s .pre .5))
+    let r = c .before .before .run-end .ensures .alike in (
+      record {
+        narrow = s .pre .0;
+        wide = s .pre .1;
+        small = s .pre .3;
+        rising = omega (arith, r .after);
+        few = omega (arith, r .within, s .pre .6);
+        places-noted = omega (arith, r .within, s .pre .4);
+        sizes-noted = omega (arith, r .within, s .pre .5);
+      },
+      omega (arith, s .pre .2, s .pre .6, L .inv .0, L .inv .1),
+    )
 
 -- src/information.rt:268:5
 loop-less : tie.Need-loop-less Inv-loop μ-loop

@@ -53,7 +53,7 @@ returns-2 : tie.Need-returns-2
 returns-2 c = let s = c .before .before .before .before .before .before .before .before .before .before .before .before .before .before .before .before .before .before .before in
     let a = s .args in
     let p = c .before .before .before .before .before .before .before .before .before .emit-values .ensures in
-    (omega (arith, s .pre .1, s .pre .4, p .0), λ σ n G. lines-some (a .w) (now (a .out)) (a .at) (a .t) _ _ _ refl (p .1 σ n G) (c .before .before .before .before .before .if1 .left) refl (c .before .before .emit .ensures))
+    (omega (arith, s .pre .0 .wide, s .pre .0 .rising, p .0), λ σ n G. lines-some (a .w) (now (a .out)) (a .at) (a .t) _ _ _ refl (p .1 σ n G) (c .before .before .before .before .before .if1 .left) refl (c .before .before .emit .ensures))
 
 pub emit-readable-spec : {M : Type 1} → statement M
 emit-readable-spec =

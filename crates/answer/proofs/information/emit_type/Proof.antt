@@ -47,7 +47,7 @@ returns-2 : tie.Need-returns-2
 returns-2 c = let s = c .before .before .before .before .before .before .before .before .before .before .before .before .before .before .before .before .before in
     let a = s .args in
     let p = c .before .before .emit .ensures in
-    (omega (arith, s .pre .1, emits-length _ _ _ _ p), λ σ n s G e f g. emits-same (a .w) (now (a .out)) (a .at) (returned-type σ s n (a .t) _ (sym (c .before .before .before .before .before .before .before .selected-with .ensures σ n (a .w) (now (a .p)) (G .scopes) s (G .rows) (G .chosen) e f) ∙ c .before .before .before .before .before .before .if1 .taken) (g ∙ c .before .before .before .before .before .if2 .left)) p)
+    (omega (arith, s .pre .0 .wide, emits-length _ _ _ _ p), λ σ n s G e f g. emits-same (a .w) (now (a .out)) (a .at) (returned-type σ s n (a .t) _ (sym (c .before .before .before .before .before .before .before .selected-with .ensures σ n (a .w) (now (a .p)) (G .scopes) s (G .rows) (G .chosen) e f) ∙ c .before .before .before .before .before .before .if1 .taken) (g ∙ c .before .before .before .before .before .if2 .left)) p)
 
 -- src/information.rt:199:1
 returns-3 : tie.Need-returns-3

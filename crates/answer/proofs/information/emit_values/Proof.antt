@@ -46,7 +46,7 @@ shared-slice-read-emit-value-2 c = search needs
 emit-value-requires : tie.Need-emit-value-requires Inv-loop μ-loop
 emit-value-requires c κs = let s = c .before .before .before .before .before .before .before .before .before .before .before .before .before in
     let L = c .before .before .before .before .loop in
-    (s .pre .0, s .pre .1, s .pre .2, omega (arith, s .pre .3, s .pre .5, L .inv .1, L .inv .2), omega (arith, s .pre .5, L .inv .1, L .inv .3))
+    (s .pre .0 .narrow, s .pre .0 .wide, s .pre .0 .small, omega (arith, s .pre .1, s .pre .0 .few, L .inv .1, L .inv .2), omega (arith, s .pre .0 .few, L .inv .1, L .inv .3))
 
 -- src/information.rt:136:9
 add-j : tie.Need-add-j Inv-loop μ-loop
