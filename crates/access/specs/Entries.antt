@@ -1,6 +1,6 @@
 -- Entries by their numbers: a child of an entry, and the entry that a name names, looked up in the noted positions, parents and naming parts.
 use Prim.Native.Nat.{ℕ, zero, suc, _+_, _-_, _*_, _≤_, _<_}
-use mathlib.Core.Path.{_≡_, refl, sym, ap, ap₂, _∙_}
+use mathlib.Core.Path.{_≡_, refl, sym, ap, ap₂, _∙_, subst}
 use mathlib.Core.Bool.{Bool, true, false, _&&_, cond}
 use mathlib.Core.List.{List, [], _∷_}
 use native.Mathlib.Numerals.{add-one}
@@ -18,6 +18,16 @@ use Rattle.name.specs.Parts.{parts-taken, parts-broken, parts-end}
 use Rattle.rules.specs.declared.Found.{Found}
 use Rattle.rules.specs.declared.Found.the-variants.{At, Nothing}
 use Rattle.rules.specs.declared.Front.the-variants.{Taken, NotInForm, End}
+
+-- ---- numbers found
+
+-- a number that was found is at most `n`
+abbrev pub UpTo : ℕ → Found → Type 0
+UpTo n (At b) = b ≤ n
+UpTo n Nothing = Unit {0}
+
+pub up-to : (n : ℕ) (f : Found) (b : ℕ) → UpTo n f → f ≡ At b → b ≤ n
+up-to n f b h e = subst (UpTo n) e h
 
 -- ---- a value by its position
 

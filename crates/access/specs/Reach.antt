@@ -9,7 +9,7 @@ use lib.Dec.{eqb, leb}
 use native.Mathlib.Nat.{not-suc-le-zero, le-of-suc-le-suc}
 use lib.ListN.{length, getD, take, drop, set, drop-of-length-le, length-set, length-map, List·getD-eq-default}
 use lib.Seq.{drop-cons, take-suc-set, drop-set-lt, append-snoc}
-use borrow.Author.Tests.{eq-eqb, ne-eqb, le-leb, lt-leb}
+use borrow.Author.Tests.{eq-eqb, ne-eqb, le-leb, lt-leb, leb-true, leb-false}
 use Rattle.rules.specs.Sheet.{Bytes}
 use Rattle.rules.specs.Directory.{Stored, blank}
 use Rattle.rules.specs.Places.{EntryAt, EntriesAt}
@@ -26,6 +26,17 @@ use Rattle.access.specs.Chosen.{Chosen}
 -- the parents' numbers of the entries
 pub record Parents (es : List Stored) (parents : List ℕ) : Type 0 where
   pub parent : (k : ℕ) → getD parents k 0 ≡ getD es k blank .parent
+
+-- the parents that are noted of the entries
+pub parents-of : (w : ℕ) (d : Bytes) (es : List Stored) (at parents naming lengths : List ℕ) → EntriesAt w d es at parents naming lengths → Parents es parents
+parents-of w d es at parents naming lengths h = record { parent = λ k. go k (leb (suc k) (length es)) refl }
+  where
+    go : (k : ℕ) (b : Bool) → leb (suc k) (length es) ≡ b → getD parents k 0 ≡ getD es k blank .parent
+    go k true e = h .entry k (leb-true (suc k) (length es) e) .parent
+    go k false e =
+        let a : length es < suc k = leb-false (suc k) (length es) e in
+        let n : length parents ≡ length es = h .parents-noted in
+        List·getD-eq-default parents 0 {n = k} (omega arith) ∙ sym (ap (λ (x : Stored). x .parent) (List·getD-eq-default es blank {n = k} (omega arith)))
 
 -- ---- climbing by numbers
 

@@ -10,7 +10,7 @@ ghost use Rattle.rules.specs.Name.{part};
 ghost use Rattle.rules.specs.Directory.{Stored};
 ghost use Rattle.rules.specs.Places.{schemaOf, linesAt, partsOf, EntriesAt};
 ghost use Rattle.rules.specs.Laws.Resolve.{childFrom, walk};
-ghost use Rattle.access.specs.Entries.{equalAt, isChild};
+ghost use Rattle.access.specs.Entries.{UpTo, equalAt, isChild};
 
 // Do the `len` bytes of the line at position `at` equal `v`, both values of type `t`? Not where the sheet ends before.
 pub fn equal_at(schema: &[u64], w: usize, d: &[u8], at: usize, len: usize, t: u64, v: &[u8]) -> bool
@@ -70,7 +70,7 @@ pub fn child(
     v: &[u8],
 ) -> Found
     requires { ⌜ (w ≤ 18) × (length (now parents) ≡ length (now at)) × (length (now naming) ≡ length (now at)) × (length (now lengths) ≡ length (now at)) ⌝ }
-    ensures { λ r. ⌜ ((es : List Stored) → EntriesAt w (now (d .entry)) es (now (at .entry)) (now (parents .entry)) (now (naming .entry)) (now (lengths .entry)) → r ≡ childFrom (schemaOf (now (schema .entry))) parent (part t (now (v .entry))) es 0) ⌝ }
+    ensures { λ r. ⌜ (UpTo (length (now (at .entry))) r) × ((es : List Stored) → EntriesAt w (now (d .entry)) es (now (at .entry)) (now (parents .entry)) (now (naming .entry)) (now (lengths .entry)) → r ≡ childFrom (schemaOf (now (schema .entry))) parent (part t (now (v .entry))) es 0) ⌝ }
 {
     let mut i: usize = 0;
     while i < at.len() {
@@ -107,7 +107,7 @@ pub fn resolve(
     n: usize,
 ) -> Found
     requires { ⌜ (w ≤ 18) × (length (now parents) ≡ length (now at)) × (length (now naming) ≡ length (now at)) × (length (now lengths) ≡ length (now at)) ⌝ }
-    ensures { λ r. ⌜ ((es : List Stored) → EntriesAt w (now (d .entry)) es (now (at .entry)) (now (parents .entry)) (now (naming .entry)) (now (lengths .entry)) → r ≡ walk (schemaOf (now (schema .entry))) es 0 (partsOf n (linesAt w (now (s .entry)) i))) ⌝ }
+    ensures { λ r. ⌜ (UpTo (length (now (at .entry))) r) × ((es : List Stored) → EntriesAt w (now (d .entry)) es (now (at .entry)) (now (parents .entry)) (now (naming .entry)) (now (lengths .entry)) → r ≡ walk (schemaOf (now (schema .entry))) es 0 (partsOf n (linesAt w (now (s .entry)) i))) ⌝ }
 {
     let mut from: usize = 0;
     let mut j = i;

@@ -1,6 +1,13 @@
 // The decision about one thing of an entry: one pass over the rows of rights of the items that concern the entry, with the greatest weight so far.
 // Bytes are compared last, and only for an item about one value.
 use super::entries::equal_at;
+use permissions::GRANTS;
+use permissions::LENGTH;
+use permissions::PERMISSIONS;
+use permissions::RIGHTS;
+use permissions::TYPE;
+use permissions::VALUE;
+use permissions::WHAT;
 ghost use mathlib.Core.Path.{_≡_};
 ghost use Prim.Native.Nat.{ℕ, _+_, _≤_};
 ghost use mathlib.Core.List.{List};
@@ -11,21 +18,6 @@ ghost use Rattle.rules.specs.Decision.{Setting, entry, ofType, ofValue, granted
 ghost use Rattle.rules.specs.Places.{schemaOf};
 ghost use Rattle.access.specs.Chosen.{Rows, Chosen};
 ghost use Rattle.access.specs.Grants.{weighBy, afterBy, permits, entryAsked, typeCovered, typeAsked, valueCovered, valueAsked};
-
-// The places of an item's numbers in its row of rights, and the length of the row.
-const GRANTS: usize = 2;
-
-const WHAT: usize = 3;
-
-const TYPE: usize = 4;
-
-const PERMISSIONS: usize = 5;
-
-const VALUE: usize = 6;
-
-const LENGTH: usize = 7;
-
-const RIGHTS: usize = 8;
 
 // The greatest weight so far, plus one (0 while no item answers), and whether all items of that weight grant.
 pub struct Standing {

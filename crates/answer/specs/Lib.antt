@@ -1,2 +1,4 @@
 pub mod Emit
 pub mod Laws
+pub mod Names
+pub mod Information

@@ -70,7 +70,7 @@ add-t26 c = search needs
 returns : tie.Need-returns Inv-loop μ-loop
 returns c = let a = c .before .before .before .before .before .before .before .before .before .before .before .before .before .before .before .args in
     let L = c .before .before .before .before .before .before .before .loop in
-    λ es h. sym (child-here (schemaOf (now (a .schema))) (a .w) (now (a .d)) (now (a .at)) (now (a .parents)) (now (a .naming)) (now (a .lengths)) (a .parent) (a .t) (now (a .v)) (L .i) es h (c .before .before .before .before .before .before .loop-test .taken) (sym (c .before .is-child .ensures) ∙ c .if1 .taken)) ∙ L .inv .1 es h
+    (omega (arith, c .before .before .before .before .before .before .loop-test .taken), λ es h. sym (child-here (schemaOf (now (a .schema))) (a .w) (now (a .d)) (now (a .at)) (now (a .parents)) (now (a .naming)) (now (a .lengths)) (a .parent) (a .t) (now (a .v)) (L .i) es h (c .before .before .before .before .before .before .loop-test .taken) (sym (c .before .is-child .ensures) ∙ c .if1 .taken)) ∙ L .inv .1 es h)
 
 -- src/entries.rt:58:9
 add-i : tie.Need-add-i Inv-loop μ-loop
@@ -93,7 +93,7 @@ loop-again c = (
 returns-2 : tie.Need-returns-2 Inv-loop μ-loop
 returns-2 c = let a = c .before .before .before .before .before .before .before .before .before .args in
     let L = c .before .loop in
-    λ es h. sym (child-end (schemaOf (now (a .schema))) (a .w) (now (a .d)) (now (a .at)) (now (a .parents)) (now (a .naming)) (now (a .lengths)) (a .parent) (a .t) (now (a .v)) (L .i) es h (c .loop-test .left)) ∙ L .inv .1 es h
+    (tt, λ es h. sym (child-end (schemaOf (now (a .schema))) (a .w) (now (a .d)) (now (a .at)) (now (a .parents)) (now (a .naming)) (now (a .lengths)) (a .parent) (a .t) (now (a .v)) (L .i) es h (c .loop-test .left)) ∙ L .inv .1 es h)
 
 pub child-spec : {M : Type 1} → statement M
 child-spec =

@@ -1,4 +1,4 @@
-use Rattle.access.specs.Entries.{walk-done, walk-end, walk-broken, walk-lost, walk-on}
+use Rattle.access.specs.Entries.{up-to, walk-done, walk-end, walk-broken, walk-lost, walk-on}
 use Rattle.rules.specs.Laws.Resolve.{walk}
 use Rattle.rules.specs.Laws.Sheet.{taken-fits}
 use Rattle.rules.specs.Places.{schemaOf, linesAt, partsOf, EntriesAt}
@@ -19,14 +19,14 @@ use Rattle.sheet.proofs.line_at.Reads as line-at-reads
 use Rattle.sheet.proofs.value_at.Reads as value-at-reads
 
 abbrev Inv-loop : tie.InvT-loop
-Inv-loop schema w d at parents naming lengths s i n from₀ j₀ left₀ from j left = (length s < 18446744073709551616) × ((es : List Stored) → EntriesAt w d es at parents naming lengths → walk (schemaOf schema) es from (partsOf left (linesAt w s j)) ≡ walk (schemaOf schema) es 0 (partsOf n (linesAt w s i)))
+Inv-loop schema w d at parents naming lengths s i n from₀ j₀ left₀ from j left = (length s < 18446744073709551616) × (from ≤ length at) × ((es : List Stored) → EntriesAt w d es at parents naming lengths → walk (schemaOf schema) es from (partsOf left (linesAt w s j)) ≡ walk (schemaOf schema) es 0 (partsOf n (linesAt w s i)))
 
 abbrev μ-loop : tie.MeasureT-loop
 μ-loop schema w d at parents naming lengths s i n from₀ j₀ left₀ from j left = left
 
 -- src/entries.rt:71:5
 loop-holds : tie.Need-loop-holds Inv-loop μ-loop
-loop-holds c = (omega arith, λ es h. refl)
+loop-holds c = (omega arith, omega arith, λ es h. refl)
 
 -- src/entries.rt:72:15
 line-at-requires : tie.Need-line-at-requires Inv-loop μ-loop
@@ -58,7 +58,7 @@ enum-told c = search needs
 returns : tie.Need-returns Inv-loop μ-loop
 returns c = let a = c .before .before .before .before .before .before .before .before .before .before .before .before .before .before .before .before .before .args in
     let L = c .before .before .before .before .before .before .before .before .before .loop in
-    λ es h. sym (walk-lost (schemaOf (now (a .schema))) es (L .from) (a .w) (now (a .s)) (L .j) (sym (c .before .before .before .before .before .before .before .line-at .ensures) ∙ c .before .before .before .before .before .a .given .1) _ (c .before .before .before .value-at .ensures) (L .left) (c .before .before .before .before .before .before .before .before .loop-test .taken) (sym (c .before .before .child .ensures es h) ∙ c .enum-told .given .1)) ∙ L .inv .1 es h
+    (tt, λ es h. sym (walk-lost (schemaOf (now (a .schema))) es (L .from) (a .w) (now (a .s)) (L .j) (sym (c .before .before .before .before .before .before .before .line-at .ensures) ∙ c .before .before .before .before .before .a .given .1) _ (c .before .before .before .value-at .ensures) (L .left) (c .before .before .before .before .before .before .before .before .loop-test .taken) (sym (c .before .before .child .ensures .1 es h) ∙ c .enum-told .given .1)) ∙ L .inv .2 es h)
 
 -- src/entries.rt:84:22
 mul-j : tie.Need-mul-j Inv-loop μ-loop
@@ -92,7 +92,7 @@ loop-less c = search needs
 loop-again : tie.Need-loop-again Inv-loop μ-loop
 loop-again c = let a = c .before .before .before .before .before .before .before .before .before .before .before .before .before .before .before .before .before .before .args in
     let L = c .before .before .before .before .before .before .before .before .before .before .loop in
-    (L .inv .0, λ es h. sym (walk-on (schemaOf (now (a .schema))) es (L .from) (a .w) (now (a .s)) (L .j) (sym (c .before .before .before .before .before .before .before .before .line-at .ensures) ∙ c .before .before .before .before .before .before .a .given .1) _ (c .before .before .before .before .value-at .ensures) (L .left) _ (c .before .before .before .before .before .before .before .before .before .loop-test .taken) (sym (c .before .before .before .child .ensures es h) ∙ c .before .k .given .1)) ∙ L .inv .1 es h)
+    (L .inv .0, up-to (length (now (a .at))) _ _ (c .before .before .before .child .ensures .0) (c .before .k .given .1), λ es h. sym (walk-on (schemaOf (now (a .schema))) es (L .from) (a .w) (now (a .s)) (L .j) (sym (c .before .before .before .before .before .before .before .before .line-at .ensures) ∙ c .before .before .before .before .before .before .a .given .1) _ (c .before .before .before .before .value-at .ensures) (L .left) _ (c .before .before .before .before .before .before .before .before .before .loop-test .taken) (sym (c .before .before .before .child .ensures .1 es h) ∙ c .before .k .given .1)) ∙ L .inv .2 es h)
 
 -- src/entries.rt:88:17
 enum-told-2 : tie.Need-enum-told-2 Inv-loop μ-loop
@@ -102,7 +102,7 @@ enum-told-2 c = search needs
 returns-2 : tie.Need-returns-2 Inv-loop μ-loop
 returns-2 c = let a = c .before .before .before .before .before .before .before .before .before .before .before .before .args in
     let L = c .before .before .before .before .loop in
-    λ es h. sym (walk-broken (schemaOf (now (a .schema))) es (L .from) (a .w) (now (a .s)) (L .j) (L .left) (c .before .before .before .loop-test .taken) (sym (c .before .before .line-at .ensures) ∙ c .enum-told2 .given .1)) ∙ L .inv .1 es h
+    (L .inv .1, λ es h. sym (walk-broken (schemaOf (now (a .schema))) es (L .from) (a .w) (now (a .s)) (L .j) (L .left) (c .before .before .before .loop-test .taken) (sym (c .before .before .line-at .ensures) ∙ c .enum-told2 .given .1)) ∙ L .inv .2 es h)
 
 -- src/entries.rt:91:17
 enum-told-3 : tie.Need-enum-told-3 Inv-loop μ-loop
@@ -112,13 +112,13 @@ enum-told-3 c = search needs
 returns-3 : tie.Need-returns-3 Inv-loop μ-loop
 returns-3 c = let a = c .before .before .before .before .before .before .before .before .before .before .before .before .args in
     let L = c .before .before .before .before .loop in
-    λ es h. sym (walk-end (schemaOf (now (a .schema))) es (L .from) (a .w) (now (a .s)) (L .j) (L .left) (c .before .before .before .loop-test .taken) (sym (c .before .before .line-at .ensures) ∙ c .enum-told3 .given .1)) ∙ L .inv .1 es h
+    (L .inv .1, λ es h. sym (walk-end (schemaOf (now (a .schema))) es (L .from) (a .w) (now (a .s)) (L .j) (L .left) (c .before .before .before .loop-test .taken) (sym (c .before .before .line-at .ensures) ∙ c .enum-told3 .given .1)) ∙ L .inv .2 es h)
 
 -- src/entries.rt:64:1
 returns-4 : tie.Need-returns-4 Inv-loop μ-loop
 returns-4 c = let a = c .before .before .before .before .before .before .before .before .before .args in
     let L = c .before .loop in
-    λ es h. sym (walk-done (schemaOf (now (a .schema))) es (L .from) (a .w) (now (a .s)) (L .j) (L .left) (c .loop-test .left)) ∙ L .inv .1 es h
+    (L .inv .1, λ es h. sym (walk-done (schemaOf (now (a .schema))) es (L .from) (a .w) (now (a .s)) (L .j) (L .left) (c .loop-test .left)) ∙ L .inv .2 es h)
 
 pub resolve-spec : {M : Type 1} → statement M
 resolve-spec =

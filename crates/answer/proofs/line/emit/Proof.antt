@@ -6,8 +6,8 @@ use denote.Ref.{now}
 use Rattle.rules.specs.Sheet.{line}
 use Rattle.answer.specs.Laws.{emits-not, emits-written}
 use borrow.Author.Needs.{needs}
-use Rattle.answer.proofs.emit.Statement.{statement}
-use Rattle.answer.proofs.emit.Tie as tie
+use Rattle.answer.proofs.line.emit.Statement.{statement}
+use Rattle.answer.proofs.line.emit.Tie as tie
 
 mul-end : tie.Need-mul-end
 mul-end c = search needs

@@ -1,0 +1,68 @@
+use Rattle.answer.specs.Laws.{emits-length}
+use Rattle.answer.specs.Information.{bytes-few, value-not, value-read}
+use denote.Ref.{now}
+use lib.ListN.{length, drop, getD}
+use native.Mathlib.Omega.{arith}
+use mathlib.Core.Path.{_≡_, refl, sym, ap, _∙_}
+use Prim.Native.Nat.{ℕ, _+_, _-_, _*_, _≤_, _<_, _^_}
+use borrow.Author.Needs.{needs}
+use Rattle.answer.proofs.information.emit_value.Statement.{statement}
+use Rattle.answer.proofs.information.emit_value.Tie as tie
+use Rattle.answer.proofs.information.emit_value.Reads as reads
+use Rattle.answer.proofs.information.emit_value.Lts as lts
+use Rattle.access.proofs.grant.granted_value.Reads as granted-value-reads
+use Rattle.answer.proofs.line.emit.Reads as emit-reads
+use Rattle.entry.proofs.bytes_at.Reads as bytes-at-reads
+
+-- src/information.rt:91:9
+bytes-at-requires : tie.Need-bytes-at-requires
+bytes-at-requires c κs = search needs
+
+-- src/information.rt:92:8
+granted-value-requires : tie.Need-granted-value-requires
+granted-value-requires c κs = search needs
+
+-- src/information.rt:94:19
+emit-requires : tie.Need-emit-requires
+emit-requires c κs = let s = c .before .before .before .before .before .before .before .before .before .before in
+    (s .pre .0, s .pre .1, omega (arith, s .pre .3, s .pre .2, bytes-few (now (s .args .d)) (s .args .place) (s .args .size) _ (c .before .before .before .bytes-at .ensures)))
+
+-- src/information.rt:95:20
+add-t17 : tie.Need-add-t17
+add-t17 c = search needs
+
+-- src/information.rt:93:9
+same-length : tie.Need-same-length
+same-length c = search needs
+
+-- src/information.rt:93:9
+returns : tie.Need-returns
+returns c = let s = c .before .before .before .before .before .before .before .before .before .before .before .before .before .before in
+    let a = s .args in
+    let v = c .before .before .before .before .before .before .before .bytes-at .ensures in
+    let p = c .before .before .before .emit .ensures in (
+      omega (arith, emits-length _ _ _ _ p, s .pre .1, s .pre .2, bytes-few (now (a .d)) (a .place) (a .size) _ v),
+      omega arith,
+      λ σ n G. value-read (a .w) (now (a .out)) σ n (a .t) _ _ v (a .st) (sym (c .before .before .before .before .before .before .granted-value .ensures σ n (G .scopes) (G .schema-is) (G .rows) (G .chosen)) ∙ c .before .before .before .before .before .if1 .taken) p,
+    )
+
+-- src/information.rt:75:1
+returns-2 : tie.Need-returns-2
+returns-2 c = let s = c .before .before .before .before .before .before .before .before .before in
+    let a = s .args in (
+      omega arith,
+      omega arith,
+      λ σ n G. value-not (a .w) (now (a .out)) σ n (a .t) _ _ (c .before .before .bytes-at .ensures) (a .st) (sym (c .before .granted-value .ensures σ n (G .scopes) (G .schema-is) (G .rows) (G .chosen)) ∙ c .if1 .left),
+    )
+
+pub emit-value-spec : {M : Type 1} → statement M
+emit-value-spec =
+    tie.close
+    (tie.spec
+    bytes-at-requires
+    granted-value-requires
+    emit-requires
+    add-t17
+    same-length
+    returns
+    returns-2)

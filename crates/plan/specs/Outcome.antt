@@ -1,0 +1,42 @@
+-- The plans of an answer without entries: "no such object" with the matched name, and the other outcomes but success.
+use Prim.Native.Nat.{ℕ, _≤_, _<_, zero-le}
+use mathlib.Core.Path.{_≡_, ap, _∙_}
+use mathlib.Core.List.{List, [], _∷_, map}
+use native.Mathlib.Omega.{arith}
+use lib.ListN.{length, getD}
+use borrow.Author.Tests.{ne-eqb}
+use Rattle.rules.specs.Name.{Name}
+use Rattle.rules.specs.Directory.{Stored, nameAt, entryOf}
+use Rattle.rules.specs.Decision.{Setting}
+use Rattle.rules.specs.Request.{Selection}
+use Rattle.rules.specs.Answer.{outcome, nameLines, matchedName, noSuchObject}
+use Rattle.rules.specs.Sheet.{Line, line}
+use Rattle.rules.specs.declared.Found.{Found}
+use Rattle.plan.specs.declared.Plan.{Plan}
+use Rattle.plan.specs.Plan.{planned}
+use Rattle.plan.specs.Lent.{Base, Sound}
+
+-- outcome 1, `missing` being the number of the entry with the matched name
+abbrev pub absentPlan : ℕ → ℕ → Plan
+absentPlan op missing = record { operation = op; outcome = 1; more = 0; name = missing; entry = 0; equal = 0; shown = 0 }
+
+-- an outcome without lines after it
+abbrev pub refusedPlan : ℕ → ℕ → Plan
+refusedPlan op b = record { operation = op; outcome = b; more = 0; name = 0; entry = 0; equal = 0; shown = 0 }
+
+module _ (σ : Setting) (es : List Stored) (s : Selection) (hits : List ℕ) (op : ℕ) where
+  pub absent-planned : (n : Name) (base : Found) (missing : ℕ) → Base σ es n base missing → planned σ es s (absentPlan op missing) hits ≡ noSuchObject σ (map entryOf es) op n
+  unfolding planned noSuchObject outcome
+  absent-planned n base missing h = ap (λ (m : Name). line 30 op 1 0 [] ∷ nameLines m) (h .matched)
+
+  pub refused-planned : (b : ℕ) → 2 ≤ b → planned σ es s (refusedPlan op b) hits ≡ outcome op b
+  unfolding planned outcome
+  refused-planned b l = rw (ne-eqb b 0 (λ e. omega arith), ne-eqb b 1 (λ e. omega arith))
+
+-- they are sound
+module _ (count : ℕ) (hits : List ℕ) (op : ℕ) where
+  pub absent-sound : (missing : ℕ) → missing ≤ count → Sound count (absentPlan op missing) hits
+  absent-sound missing l = record { name = l; entry = zero-le; shown = zero-le; hits = λ i m. absurd (omega (arith, m)) }
+
+  pub refused-sound : (b : ℕ) → Sound count (refusedPlan op b) hits
+  refused-sound b = record { name = zero-le; entry = zero-le; shown = zero-le; hits = λ i m. absurd (omega (arith, m)) }
