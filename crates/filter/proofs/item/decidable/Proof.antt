@@ -7,19 +7,19 @@ use Rattle.filter.proofs.item.decidable.Lts as lts
 use Rattle.access.proofs.grant.granted_type.Reads as granted-type-reads
 use Rattle.filter.proofs.item.defined.Reads as defined-reads
 
--- src/item.rt:64:8
+-- src/item.rt:68:8
 defined-requires : tie.Need-defined-requires
 defined-requires c κs = search needs
 
--- src/item.rt:65:9
+-- src/item.rt:69:9
 granted-type-requires : tie.Need-granted-type-requires
 granted-type-requires c κs = search needs
 
--- src/item.rt:65:9
+-- src/item.rt:69:9
 returns : tie.Need-returns
 returns c = λ σ n p scopes rows chosen. rw (sym (c .before .before .defined .ensures) ∙ c .before .if1 .taken) (c .granted-type .ensures σ n (c .before .before .before .before .before .before .before .args .w) p scopes rows chosen)
 
--- src/item.rt:49:1
+-- src/item.rt:53:1
 returns-2 : tie.Need-returns-2
 returns-2 c = λ σ n p scopes rows chosen. rw (sym (c .before .defined .ensures) ∙ c .if1 .left)
 

@@ -48,35 +48,35 @@ piece-end-requires c κs = search needs
 enum-known-k : tie.Need-enum-known-k Inv-loop μ-loop
 enum-known-k c = search needs
 
--- src/pieces.rt:92:21
+-- src/pieces.rt:93:21
 enum-told : tie.Need-enum-told Inv-loop μ-loop
 enum-told c = search needs
 
--- src/pieces.rt:92:21
+-- src/pieces.rt:93:21
 returns : tie.Need-returns Inv-loop μ-loop
 returns c = let a = c .before .before .before .before .before .before .before .before .before .before .before .before .args in let L = c .before .before .before .before .before .before .before .before .before .loop in sym (stand-lost (now (a .v)) (L .from) (a .w) (now (a .q)) (L .j) (L .left) (sym (c .before .before .before .before .before .before .before .line-at .ensures) ∙ c .before .before .before .before .before .a .given .1) _ (c .before .before .before .value-at .ensures) (c .before .before .before .before .before .before .before .before .loop-test .taken) (sym (c .before .before .piece-end .ensures) ∙ c .enum-told .given .1)) ∙ L .inv .1 .1
 
--- src/pieces.rt:94:17
+-- src/pieces.rt:95:17
 add-from : tie.Need-add-from Inv-loop μ-loop
 add-from c = omega (arith, used-fits _ _ text (now (c .before .before .before .before .before .before .before .before .before .before .before .before .before .args .v)) (c .before .before .before .before .before .before .before .before .before .before .loop .from) _ (c .before .before .before .before .before .before .before .before .before .before .loop .inv .1 .0) (sym (c .before .before .before .piece-end .ensures) ∙ c .before .k .given .1))
 
--- src/pieces.rt:95:22
+-- src/pieces.rt:96:22
 mul-j : tie.Need-mul-j Inv-loop μ-loop
 mul-j c = search needs
 
--- src/pieces.rt:95:22
+-- src/pieces.rt:96:22
 add-j : tie.Need-add-j Inv-loop μ-loop
 add-j c = search needs
 
--- src/pieces.rt:95:22
+-- src/pieces.rt:96:22
 add-j-2 : tie.Need-add-j-2 Inv-loop μ-loop
 add-j-2 c = let a = c .before .before .before .before .before .before .before .before .before .before .before .before .before .args in let h = taken-fits (a .w) (now (a .q)) (c .before .before .before .before .before .before .before .before .before .before .loop .j) (sym (c .before .before .before .before .before .before .before .before .line-at .ensures) ∙ c .before .before .before .before .before .before .a .given .1) in omega (arith, h .0, h .1)
 
--- src/pieces.rt:95:17
+-- src/pieces.rt:96:17
 add-j-3 : tie.Need-add-j-3 Inv-loop μ-loop
 add-j-3 c = let a = c .before .before .before .before .before .before .before .before .before .before .before .before .before .args in let h = taken-fits (a .w) (now (a .q)) (c .before .before .before .before .before .before .before .before .before .before .loop .j) (sym (c .before .before .before .before .before .before .before .before .line-at .ensures) ∙ c .before .before .before .before .before .before .a .given .1) in omega (arith, h .0, h .1, c .before .before .before .before .before .before .before .before .before .before .loop .inv .0)
 
--- src/pieces.rt:96:17
+-- src/pieces.rt:97:17
 sub-left : tie.Need-sub-left Inv-loop μ-loop
 sub-left c = search needs
 
@@ -88,19 +88,19 @@ loop-less c = search needs
 loop-again : tie.Need-loop-again Inv-loop μ-loop
 loop-again c = let a = c .before .before .before .before .before .before .before .before .before .before .before .before .before .args in let L = c .before .before .before .before .before .before .before .before .before .before .loop in (L .inv .0, (used-fits _ _ text (now (c .before .before .before .before .before .before .before .before .before .before .before .before .before .args .v)) (c .before .before .before .before .before .before .before .before .before .before .loop .from) _ (c .before .before .before .before .before .before .before .before .before .before .loop .inv .1 .0) (sym (c .before .before .before .piece-end .ensures) ∙ c .before .k .given .1), sym (stand-on (now (a .v)) (L .from) (a .w) (now (a .q)) (L .j) (L .left) (sym (c .before .before .before .before .before .before .before .before .line-at .ensures) ∙ c .before .before .before .before .before .before .a .given .1) _ (c .before .before .before .before .value-at .ensures) (c .before .before .before .before .before .before .before .before .before .loop-test .taken) _ (sym (c .before .before .before .piece-end .ensures) ∙ c .before .k .given .1)) ∙ L .inv .1 .1))
 
--- src/pieces.rt:99:17
+-- src/pieces.rt:100:17
 enum-told-2 : tie.Need-enum-told-2 Inv-loop μ-loop
 enum-told-2 c = search needs
 
--- src/pieces.rt:99:17
+-- src/pieces.rt:100:17
 returns-2 : tie.Need-returns-2 Inv-loop μ-loop
 returns-2 c = let a = c .before .before .before .before .before .before .before .args in let L = c .before .before .before .before .loop in sym (stand-broken (now (a .v)) (L .from) (a .w) (now (a .q)) (L .j) (L .left) (sym (c .before .before .line-at .ensures) ∙ c .enum-told2 .given .1)) ∙ L .inv .1 .1
 
--- src/pieces.rt:102:17
+-- src/pieces.rt:103:17
 enum-told-3 : tie.Need-enum-told-3 Inv-loop μ-loop
 enum-told-3 c = search needs
 
--- src/pieces.rt:102:17
+-- src/pieces.rt:103:17
 returns-3 : tie.Need-returns-3 Inv-loop μ-loop
 returns-3 c = let a = c .before .before .before .before .before .before .before .args in let L = c .before .before .before .before .loop in sym (stand-end (now (a .v)) (L .from) (a .w) (now (a .q)) (L .j) (L .left) (sym (c .before .before .line-at .ensures) ∙ c .enum-told3 .given .1)) ∙ L .inv .1 .1
 

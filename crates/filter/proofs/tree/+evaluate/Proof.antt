@@ -49,96 +49,96 @@ evaluate-Inv-loop schema w d p rights list types places sizes q at depth conjunc
 abbrev evaluate-μ-loop : evaluate-lts.MeasureT-loop
 evaluate-μ-loop schema w d p rights list types places sizes q at depth conjunction count next truth₀ pos₀ left₀ truth pos left = left
 
--- src/tree.rt:185:9
+-- src/tree.rt:192:9
 evaluate-returns : (t : ℕ) → evaluate-lts.Need-returns (calls t) (evaluate-at t) evaluate.Post evaluate-Inv-loop evaluate-μ-loop
 evaluate-returns t c = let a = c .before .before .before .before .before .before .before .before .before .before .args in λ σ n ps h. tree-none (itemTruth σ (record { name = n; held = heldOf ps })) (a .w) (now (a .q)) (a .at) (a .depth) (c .if1 .taken)
 
--- src/tree.rt:190:11
+-- src/tree.rt:197:11
 evaluate-node-at-requires : (t : ℕ) → evaluate-lts.Need-node-at-requires (calls t) (evaluate-at t) evaluate.Post evaluate-Inv-loop evaluate-μ-loop
 evaluate-node-at-requires t c κs = search needs
 
--- src/tree.rt:192:20
+-- src/tree.rt:199:20
 evaluate-enum-told : (t : ℕ) → evaluate-lts.Need-enum-told (calls t) (evaluate-at t) evaluate.Post evaluate-Inv-loop evaluate-μ-loop
 evaluate-enum-told t c = search needs
 
--- src/tree.rt:196:13
+-- src/tree.rt:203:13
 evaluate-enum-known-kind : (t : ℕ) → evaluate-lts.Need-enum-known-kind (calls t) (evaluate-at t) evaluate.Post evaluate-Inv-loop evaluate-μ-loop
 evaluate-enum-known-kind t c = search needs
 
--- src/tree.rt:201:14
+-- src/tree.rt:208:14
 evaluate-leaf-requires : (t : ℕ) → evaluate-lts.Need-leaf-requires (calls t) (evaluate-at t) evaluate.Post evaluate-Inv-loop evaluate-μ-loop
 evaluate-leaf-requires t c κs = let a = c .before .before .before .before .before .before .before .before .before .before .before .before .before .before .args in let f = item-fits (a .w) (now (a .q)) (a .at) (sym (c .before .before .before .node-at .ensures) ∙ c .before .kind .given .1) in (search needs, search needs, search needs, f)
 
--- src/tree.rt:219:19
+-- src/tree.rt:226:19
 evaluate-enum-known-next : (t : ℕ) → evaluate-lts.Need-enum-known-next (calls t) (evaluate-at t) evaluate.Post evaluate-Inv-loop evaluate-μ-loop
 evaluate-enum-known-next t c = search needs
 
--- src/tree.rt:232:17
+-- src/tree.rt:239:17
 evaluate-sub-evaluate : (t : ℕ) → evaluate-lts.Need-sub-evaluate (calls t) (evaluate-at t) evaluate.Post evaluate-Inv-loop evaluate-μ-loop
 evaluate-sub-evaluate t c = search needs
 
--- src/tree.rt:220:17
+-- src/tree.rt:227:17
 evaluate-evaluate-requires : (t : ℕ) → evaluate-lts.Need-evaluate-requires (calls t) (evaluate-at t) evaluate.Post evaluate-Inv-loop evaluate-μ-loop
 evaluate-evaluate-requires t c κs = search needs
 
--- src/tree.rt:236:24
+-- src/tree.rt:243:24
 evaluate-negated-requires : (t : ℕ) → evaluate-lts.Need-negated-requires (calls t) (evaluate-at t) evaluate.Post evaluate-Inv-loop evaluate-μ-loop
 evaluate-negated-requires t c κs = search needs
 
--- src/tree.rt:241:13
+-- src/tree.rt:248:13
 evaluate-enum-known-conjunction : (t : ℕ) → evaluate-lts.Need-enum-known-conjunction (calls t) (evaluate-at t) evaluate.Post evaluate-Inv-loop evaluate-μ-loop
 evaluate-enum-known-conjunction t c = search needs
 
--- src/tree.rt:245:17
+-- src/tree.rt:252:17
 evaluate-truth-of-requires : (t : ℕ) → evaluate-lts.Need-truth-of-requires (calls t) (evaluate-at t) evaluate.Post evaluate-Inv-loop evaluate-μ-loop
 evaluate-truth-of-requires t c κs = search needs
 
--- src/tree.rt:248:13
+-- src/tree.rt:255:13
 evaluate-loop-holds : (t : ℕ) → evaluate-lts.Need-loop-holds (calls t) (evaluate-at t) evaluate.Post evaluate-Inv-loop evaluate-μ-loop
 evaluate-loop-holds t c = let a = c .before .before .before .before .before .before .before .before .before .before .before .before .before .before .before .args in λ σ n ps h. rw (c .truth-of .ensures) (sym (tree-node (itemTruth σ (record { name = n; held = heldOf ps })) (a .w) (now (a .q)) (a .at) (a .depth) (c .before .before .before .before .before .if1 .left) _ (sym (c .before .before .before .before .node-at .ensures) ∙ c .before .before .conjunction .given .1)))
 
--- src/tree.rt:261:21
+-- src/tree.rt:268:21
 evaluate-sub-evaluate-2 : (t : ℕ) → evaluate-lts.Need-sub-evaluate-2 (calls t) (evaluate-at t) evaluate.Post evaluate-Inv-loop evaluate-μ-loop
 evaluate-sub-evaluate-2 t c = search needs
 
--- src/tree.rt:249:21
+-- src/tree.rt:256:21
 evaluate-evaluate-requires-2 : (t : ℕ) → evaluate-lts.Need-evaluate-requires-2 (calls t) (evaluate-at t) evaluate.Post evaluate-Inv-loop evaluate-μ-loop
 evaluate-evaluate-requires-2 t c κs = search needs
 
--- src/tree.rt:264:17
+-- src/tree.rt:271:17
 evaluate-joined-requires : (t : ℕ) → evaluate-lts.Need-joined-requires (calls t) (evaluate-at t) evaluate.Post evaluate-Inv-loop evaluate-μ-loop
 evaluate-joined-requires t c κs = search needs
 
--- src/tree.rt:266:17
+-- src/tree.rt:273:17
 evaluate-sub-left : (t : ℕ) → evaluate-lts.Need-sub-left (calls t) (evaluate-at t) evaluate.Post evaluate-Inv-loop evaluate-μ-loop
 evaluate-sub-left t c = search needs
 
--- src/tree.rt:248:13
+-- src/tree.rt:255:13
 evaluate-loop-less : (t : ℕ) → evaluate-lts.Need-loop-less (calls t) (evaluate-at t) evaluate.Post evaluate-Inv-loop evaluate-μ-loop
 evaluate-loop-less t c = search needs
 
--- src/tree.rt:248:13
+-- src/tree.rt:255:13
 evaluate-loop-again : (t : ℕ) → evaluate-lts.Need-loop-again (calls t) (evaluate-at t) evaluate.Post evaluate-Inv-loop evaluate-μ-loop
 evaluate-loop-again t c = let a = c .before .before .before .before .before .before .before .before .before .before .before .before .before .before .before .before .before .before .before .args in
     let L = c .before .before .before .loop in
     λ σ n ps h. rw (c .joined .ensures)
     (sym (parts-on (joinBy (c .before .before .before .before .before .before .conjunction .given .0 .0)) (evaluateLines (itemTruth σ (record { name = n; held = heldOf ps })) (a .depth - 1)) (L .left) (L .truth) (linesAt (a .w) (now (a .q)) (L .pos)) (c .before .before .loop-test .taken) _ _ (c .before .evaluate2 .ensures σ n ps h)) ∙ L .inv σ n ps h)
 
--- src/tree.rt:167:1
+-- src/tree.rt:174:1
 evaluate-returns-2 : (t : ℕ) → evaluate-lts.Need-returns-2 (calls t) (evaluate-at t) evaluate.Post evaluate-Inv-loop evaluate-μ-loop
 evaluate-returns-2 t c = let a = c .before .before .before .before .before .before .before .before .before .before .before .before .before .args in λ σ n ps h. sym (tree-node (itemTruth σ (record { name = n; held = heldOf ps })) (a .w) (now (a .q)) (a .at) (a .depth) (c .before .before .before .if1 .left) _ (sym (c .before .before .node-at .ensures) ∙ c .enum-told .given .1))
 
--- src/tree.rt:167:1
+-- src/tree.rt:174:1
 evaluate-returns-3 : (t : ℕ) → evaluate-lts.Need-returns-3 (calls t) (evaluate-at t) evaluate.Post evaluate-Inv-loop evaluate-μ-loop
 evaluate-returns-3 t c = let a = c .before .before .before .before .before .before .before .before .before .before .before .before .before .before .before .args in λ σ n ps h. c .leaf .ensures σ n ps h
     ∙ sym (tree-node (itemTruth σ (record { name = n; held = heldOf ps })) (a .w) (now (a .q)) (a .at) (a .depth) (c .before .before .before .before .before .if1 .left) _ (sym (c .before .before .before .before .node-at .ensures) ∙ c .before .before .kind .given .1))
 
--- src/tree.rt:167:1
+-- src/tree.rt:174:1
 evaluate-returns-4 : (t : ℕ) → evaluate-lts.Need-returns-4 (calls t) (evaluate-at t) evaluate.Post evaluate-Inv-loop evaluate-μ-loop
 evaluate-returns-4 t c = let a = c .before .before .before .before .before .before .before .before .before .before .before .before .before .before .before .before .args in λ σ n ps h. rw (c .negated .ensures) (ap (λ (r : Evaluated). evaluated (negation (r .truth)) (r .rest)) (c .before .evaluate .ensures σ n ps h)
     ∙ sym (tree-node (itemTruth σ (record { name = n; held = heldOf ps })) (a .w) (now (a .q)) (a .at) (a .depth) (c .before .before .before .before .before .before .if1 .left) _ (sym (c .before .before .before .before .before .node-at .ensures) ∙ c .before .before .before .next .given .1)))
 
--- src/tree.rt:167:1
+-- src/tree.rt:174:1
 evaluate-returns-5 : (t : ℕ) → evaluate-lts.Need-returns-5 (calls t) (evaluate-at t) evaluate.Post evaluate-Inv-loop evaluate-μ-loop
 evaluate-returns-5 t c = let a = c .before .before .before .before .before .before .before .before .before .before .before .before .before .before .before .before .before .args in
     let L = c .before .loop in

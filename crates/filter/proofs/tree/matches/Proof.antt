@@ -14,15 +14,15 @@ use Rattle.filter.proofs.tree.matches.Lts as lts
 use Rattle.filter.proofs.tree.evaluate.Reads as evaluate-reads
 use Rattle.filter.proofs.truth.is_true.Reads as is-true-reads
 
--- src/tree.rt:290:9
+-- src/tree.rt:297:9
 evaluate-requires : tie.Need-evaluate-requires
 evaluate-requires c κs = search needs
 
--- src/tree.rt:305:5
+-- src/tree.rt:312:5
 is-true-requires : tie.Need-is-true-requires
 is-true-requires c κs = search needs
 
--- src/tree.rt:274:1
+-- src/tree.rt:281:1
 returns : tie.Need-returns
 returns c = let a = c .before .before .before .before .before .before .before .before .before .before .before .args in λ σ n scopes ps e rows chosen values f read.
     c .is-true .ensures

@@ -9,29 +9,29 @@ use Rattle.filter.proofs.values.held_equal.Lts as lts
 use Rattle.filter.proofs.values.some_value.Reads as some-value-reads
 use Rattle.name.proofs.syntax_of.Reads as syntax-of-reads
 
--- src/values.rt:150:11
+-- src/values.rt:153:11
 syntax-of-requires : tie.Need-syntax-of-requires
 syntax-of-requires c κs = search needs
 
--- src/values.rt:152:19
+-- src/values.rt:155:19
 enum-known-s : tie.Need-enum-known-s
 enum-known-s c = search needs
 
--- src/values.rt:152:25
+-- src/values.rt:155:25
 some-value-requires : tie.Need-some-value-requires
 some-value-requires c κs = search needs
 
--- src/values.rt:155:27
+-- src/values.rt:174:27
 enum-told : tie.Need-enum-told
 enum-told c = search needs
 
--- src/values.rt:133:1
+-- src/values.rt:136:1
 returns : tie.Need-returns
 returns c = let a = c .before .before .before .before .before .before .before .before .before .before .before .before .before .before .args in λ σ n scopes ps e rows chosen values.
     c .some-value .ensures σ n ps (record { ruled = record { scopes = scopes; schema-is = e; rows = rows; chosen = chosen }; values = values })
     ∙ held-by σ (now (a .schema)) e (a .t) _ (sym (c .before .before .before .before .syntax-of .ensures) ∙ c .before .before .s .given .1) n ps (a .q) (now (a .v)) _
 
--- src/values.rt:133:1
+-- src/values.rt:136:1
 returns-2 : tie.Need-returns-2
 returns-2 c = let a = c .before .before .before .before .before .before .before .before .before .before .before .before .args in λ σ n scopes ps e rows chosen values. sym (held-unknown σ (now (a .schema)) e (a .t) (sym (c .before .before .syntax-of .ensures) ∙ c .enum-told .given .1) n ps (a .q) (now (a .v)))
 

@@ -31,39 +31,39 @@ Inv-loop schema w d p rights list types places sizes s kind t v q next count per
 abbrev μ-loop : tie.MeasureT-loop
 μ-loop schema w d p rights list types places sizes s kind t v q next count permission i₀ i = length types - i
 
--- src/values.rt:105:5
+-- src/values.rt:108:5
 loop-holds : tie.Need-loop-holds Inv-loop μ-loop
 loop-holds c = (omega arith, search needs, λ σ n ps h. refl)
 
--- src/values.rt:113:13
+-- src/values.rt:116:13
 mul-counts : tie.Need-mul-counts Inv-loop μ-loop
 mul-counts c = search needs
 
--- src/values.rt:113:13
+-- src/values.rt:116:13
 shared-slice-read-counts : tie.Need-shared-slice-read-counts Inv-loop μ-loop
 shared-slice-read-counts c = search needs
 
--- src/values.rt:114:13
+-- src/values.rt:117:13
 mul-counts-2 : tie.Need-mul-counts-2 Inv-loop μ-loop
 mul-counts-2 c = search needs
 
--- src/values.rt:114:13
+-- src/values.rt:117:13
 shared-slice-read-counts-2 : tie.Need-shared-slice-read-counts-2 Inv-loop μ-loop
 shared-slice-read-counts-2 c = search needs
 
--- src/values.rt:115:13
+-- src/values.rt:118:13
 mul-counts-3 : tie.Need-mul-counts-3 Inv-loop μ-loop
 mul-counts-3 c = search needs
 
--- src/values.rt:115:13
+-- src/values.rt:118:13
 shared-slice-read-counts-3 : tie.Need-shared-slice-read-counts-3 Inv-loop μ-loop
 shared-slice-read-counts-3 c = search needs
 
--- src/values.rt:106:12
+-- src/values.rt:109:12
 counts-requires : tie.Need-counts-requires Inv-loop μ-loop
 counts-requires c κs = search needs
 
--- src/values.rt:125:13
+-- src/values.rt:128:13
 returns : tie.Need-returns Inv-loop μ-loop
 returns c = let a = c .before .before .before .before .before .before .before .before .before .before .before .before .before .before .before .before .before .args in
     let L = c .before .before .before .before .before .before .loop in
@@ -74,15 +74,15 @@ returns c = let a = c .before .before .before .before .before .before .before .b
     (sym (c .before .counts .ensures σ n (h .ruled) (value-within (countsBy σ n (a .t) (a .permission) test) (now (a .d)) ps (now (a .types)) (now (a .places)) (now (a .sizes)) (h .values) (L .i) l)) ∙ c .if1 .taken))
     ∙ L .inv .2 σ n ps h ∙ sym (someValue-flat σ n ps (a .t) (a .permission) test)
 
--- src/values.rt:127:9
+-- src/values.rt:130:9
 add-i : tie.Need-add-i Inv-loop μ-loop
 add-i c = omega (arith, c .before .before .before .before .before .loop-test .taken, c .before .before .before .before .before .before .loop .inv .0)
 
--- src/values.rt:105:5
+-- src/values.rt:108:5
 loop-less : tie.Need-loop-less Inv-loop μ-loop
 loop-less c = search needs
 
--- src/values.rt:105:5
+-- src/values.rt:108:5
 loop-again : tie.Need-loop-again Inv-loop μ-loop
 loop-again c = let a = c .before .before .before .before .before .before .before .before .before .before .before .before .before .before .before .before .before .args in
     let L = c .before .before .before .before .before .before .loop in
@@ -96,7 +96,7 @@ loop-again c = let a = c .before .before .before .before .before .before .before
           ∙ L .inv .2 σ n ps h,
     )
 
--- src/values.rt:82:1
+-- src/values.rt:85:1
 returns-2 : tie.Need-returns-2 Inv-loop μ-loop
 returns-2 c = let a = c .before .before .before .before .before .before .before .before .before .before .before .before .args in
     let L = c .before .loop in
