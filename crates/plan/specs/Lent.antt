@@ -1,7 +1,6 @@
 -- What planning rests on: the numbers that it is lent, the entry that is asked for, and what the writer of a plan may rely on.
 use Prim.Native.Nat.{ℕ, _+_, _-_, _*_, _≤_, _<_}
 use mathlib.Core.Path.{_≡_, sym, _∙_, subst}
-use native.Mathlib.Omega.{arith}
 use mathlib.Core.List.{List, map}
 use lib.ListN.{length, getD}
 use Rattle.rules.specs.Sheet.{Bytes}
@@ -28,25 +27,6 @@ pub record Lent (w : ℕ) (d : Bytes) (at parents lengths reach list types place
   pub sizes-noted : length sizes ≡ length types
   pub values : length d ≤ (5 * w + 1) * length types
   pub modest : length types ≤ 65536
-
--- only the lengths of what is lent to be written matter
-pub lent-kept : {w : ℕ} {d : Bytes} {at parents lengths reach list types places sizes list′ types′ places′ sizes′ : List ℕ}
-    → Lent w d at parents lengths reach list types places sizes → length list′ ≡ length list → length types′ ≡ length types → length places′ ≡ length places → length sizes′ ≡ length sizes
-    → Lent w d at parents lengths reach list′ types′ places′ sizes′
-lent-kept {w} {d} {reach = reach} {types = types} l a b c e = record {
-  narrow = l .narrow;
-  wide = l .wide;
-  small = l .small;
-  few = l .few;
-  parents-noted = l .parents-noted;
-  lengths-noted = l .lengths-noted;
-  within = l .within;
-  items = omega (arith, l .items, a);
-  places-noted = c ∙ l .places-noted ∙ sym b;
-  sizes-noted = e ∙ l .sizes-noted ∙ sym b;
-  values = subst (λ (m : ℕ). length d ≤ (5 * w + 1) * m) (sym b) (l .values);
-  modest = omega (arith, l .modest, b);
-}
 
 -- the name asked for: the number that it is found at, and the number of the entry with the matched name
 pub record Base (σ : Setting) (es : List Stored) (n : Name) (base : Found) (missing : ℕ) : Type 0 where
@@ -81,4 +61,5 @@ lent-again {w} {d} {reach = reach} list′ types′ places′ sizes′ a b c e h
   places-noted = c ∙ h .places-noted ∙ sym b;
   sizes-noted = e ∙ h .sizes-noted ∙ sym b;
   values = subst (λ (n : ℕ). length d ≤ (5 * w + 1) * n) (sym b) (h .values);
+  modest = subst (λ (n : ℕ). n ≤ 65536) (sym b) (h .modest);
 }

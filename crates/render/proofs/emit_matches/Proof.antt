@@ -9,7 +9,7 @@ use Rattle.rules.specs.Decision.{Setting}
 use Rattle.rules.specs.Request.{Selection}
 use Rattle.rules.specs.Lists.{gather}
 use Rattle.access.specs.World.{World}
-use Rattle.plan.specs.Lent.{Lent, lent-kept}
+use Rattle.plan.specs.Lent.{Lent, lent-again}
 use Rattle.plan.specs.Plan.{childLines, informationAt, foundLines}
 use Rattle.answer.specs.Emit.{Emits}
 use Rattle.answer.specs.Laws.{emits-append}
@@ -52,7 +52,7 @@ emit-found-requires c κs = let a = c .before .before .before .before .before .b
     let L = c .before .before .before .before .before .before .before .loop in
     let l = c .before .before .before .before .before .before .loop-test .taken in
     let k = P .4 (L .i) l in
-    (P .0, lent-kept (P .1) (L .inv .1 .1) (L .inv .1 .2) (L .inv .1 .3) (L .inv .1 .4), omega (arith, L .inv .2, l, P .2, P .3), omega (arith, k), omega (arith, k))
+    (P .0, lent-again (L .list) (L .types) (L .places) (L .sizes) (L .inv .1 .1) (L .inv .1 .2) (L .inv .1 .3) (L .inv .1 .4) (P .1), omega (arith, L .inv .2, l, P .2, P .3), omega (arith, k), omega (arith, k))
 
 -- src/lib.rt:209:9
 add-i : tie.Need-add-i Inv-loop μ-loop
