@@ -74,7 +74,8 @@ impl Trial {
                 names[place] = wrong;
                 let output =
                     Command::new(&self.program).args(names).current_dir(&self.folder).output()?;
-                let told = output.stdout.is_empty() && !output.stderr.is_empty();
+                let ended = output.status.code().is_some();
+                let told = ended && output.stdout.is_empty() && !output.stderr.is_empty();
                 self.report.case(told, || format!("{wrong} as argument {}", place + 1));
             }
         }
@@ -90,10 +91,12 @@ impl Trial {
         let output = Command::new(&self.program).args(names).current_dir(&self.folder).output()?;
         let expected = peer::serve(sheets[0], sheets[1], sheets[2], ROOM)
             .unwrap_or_else(|refusal| format!("refused {refusal}\n").into_bytes());
-        self.report.case(output.stdout == expected && output.stderr.is_empty(), || {
+        let good = output.status.success() && output.stderr.is_empty();
+        self.report.case(good && output.stdout == expected, || {
             let text = |bytes: &[u8]| String::from_utf8_lossy(bytes).into_owned();
             let (printed, said) = (text(&output.stdout), text(&output.stderr));
-            format!("{what}\nexpected\n{}printed\n{printed}said\n{said}", text(&expected))
+            let expected = text(&expected);
+            format!("{what}: {}\nexpected\n{expected}printed\n{printed}said\n{said}", output.status)
         });
         Ok(())
     }
