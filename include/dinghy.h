@@ -21,26 +21,26 @@ enum dinghy_refusal {
     DINGHY_ANSWERED = 0,
 
     /* the directory */
-    DINGHY_DIRECTORY_TOO_LONG = 1,     /* more than 65,536 bytes */
-    DINGHY_DIRECTORY_FORM = 2,         /* a line not in form, or a kind or column not allowed */
-    DINGHY_DIRECTORY_ORDER = 3,        /* a line out of order, missing, or over a count */
-    DINGHY_DIRECTORY_VALUE = 4,        /* an unknown type, or a value outside its syntax */
-    DINGHY_DIRECTORY_TWICE = 5,        /* siblings of one name, or one value twice in a type */
-    DINGHY_DIRECTORY_NAMING = 6,       /* an entry does not hold its naming value */
+    DINGHY_DIRECTORY_TOO_LONG = 1, /* more than 65,536 bytes */
+    DINGHY_DIRECTORY_FORM = 2,     /* a line not in form, or a kind or column not allowed */
+    DINGHY_DIRECTORY_ORDER = 3,    /* a line out of order, missing, or over a count */
+    DINGHY_DIRECTORY_VALUE = 4,    /* an unknown type, or a value outside its syntax */
+    DINGHY_DIRECTORY_TWICE = 5,    /* siblings of one name, or one value twice in a type */
+    DINGHY_DIRECTORY_NAMING = 6,   /* an entry does not hold its naming value */
 
-    /* the permissions */
-    DINGHY_PERMISSIONS_TOO_LONG = 11,  /* more than 65,536 bytes */
+    /* the permissions, as 1 to 4 */
+    DINGHY_PERMISSIONS_TOO_LONG = 11,
     DINGHY_PERMISSIONS_FORM = 12,
     DINGHY_PERMISSIONS_ORDER = 13,
     DINGHY_PERMISSIONS_VALUE = 14,
 
-    /* the request */
-    DINGHY_REQUEST_TOO_LONG = 21,      /* more than 8,192 bytes */
+    /* the request, as 1 to 3 */
+    DINGHY_REQUEST_TOO_LONG = 21, /* more than 8,192 bytes */
     DINGHY_REQUEST_FORM = 22,
     DINGHY_REQUEST_ORDER = 23,
 
     /* the calling program */
-    DINGHY_BUFFER_TOO_SHORT = 31       /* the answer is longer than the lent buffer */
+    DINGHY_BUFFER_TOO_SHORT = 31 /* the answer is longer than the lent buffer */
 };
 
 /* Answers one request over one directory under one permission sheet, and writes the answer at the front of out.
