@@ -1,0 +1,64 @@
+/* The hotel directory server: three sheets and a lent buffer in, one reply out. Link with libdinghy.a. */
+#ifndef DINGHY_H
+#define DINGHY_H
+
+#include <stddef.h>
+#include <stdint.h>
+
+#ifdef __cplusplus
+extern "C" {
+#endif
+
+/* Either refusal is 0 and the answer is the first length bytes of the buffer, or refusal says why there is none and length is 0. */
+struct dinghy_reply {
+    uint64_t refusal;
+    uint64_t length;
+};
+
+/* Refusals, by who has to mend what. Directory comes first, then permissions, request and buffer; within a sheet its length, then the first
+   faulty line from the top, and on that line the lowest number. */
+enum dinghy_refusal {
+    DINGHY_ANSWERED = 0,
+
+    /* the directory */
+    DINGHY_DIRECTORY_TOO_LONG = 1, /* more than 65,536 bytes */
+    DINGHY_DIRECTORY_FORM = 2,     /* a line not in form, or a kind or column not allowed */
+    DINGHY_DIRECTORY_ORDER = 3,    /* a line out of order, missing, or over a count */
+    DINGHY_DIRECTORY_VALUE = 4,    /* an unknown type, or a value outside its syntax */
+    DINGHY_DIRECTORY_TWICE = 5,    /* siblings of one name, or one value twice in a type */
+    DINGHY_DIRECTORY_NAMING = 6,   /* an entry does not hold its naming value */
+
+    /* the permissions, as 1 to 4 */
+    DINGHY_PERMISSIONS_TOO_LONG = 11,
+    DINGHY_PERMISSIONS_FORM = 12,
+    DINGHY_PERMISSIONS_ORDER = 13,
+    DINGHY_PERMISSIONS_VALUE = 14,
+
+    /* the request, as 1 to 3 */
+    DINGHY_REQUEST_TOO_LONG = 21, /* more than 8,192 bytes */
+    DINGHY_REQUEST_FORM = 22,
+    DINGHY_REQUEST_ORDER = 23,
+
+    /* the calling program */
+    DINGHY_BUFFER_TOO_SHORT = 31 /* the answer is longer than the lent buffer */
+};
+
+/* Answers one request over one directory under one permission sheet, and writes the answer at the front of out.
+   With a refusal, and beyond the answer's length, out is unchanged; the sheets are only read.
+
+   The caller sees to it that
+   - each pointer is valid for its length, and no pointer is null: an empty sheet or buffer may be any pointer, as "", with length 0;
+   - out overlaps none of the sheets, and nobody changes a sheet or touches out during the call.
+
+   Sheets of any bytes and any length are allowed. The function keeps no state and allocates nothing, so it may be called from several
+   threads at a time. A thread that calls it needs 256 KB of stack: the call uses some 213,000 bytes (measured, with a filter at depth 16). */
+struct dinghy_reply dinghy_serve(const uint8_t *directory, size_t directory_length,
+                                 const uint8_t *permissions, size_t permissions_length,
+                                 const uint8_t *request, size_t request_length,
+                                 uint8_t *out, size_t out_length);
+
+#ifdef __cplusplus
+}
+#endif
+
+#endif
