@@ -49,6 +49,7 @@ fn main() -> Result<ExitCode> {
     Ok(report.finish())
 }
 
+/// What the program prints, or how it ended if a signal ended it.
 fn printed_by(
     program: &Path,
     folder: &Path,
@@ -59,5 +60,9 @@ fn printed_by(
     for (name, sheet) in [("dir", dir), ("perm", perm), ("request", req)] {
         std::fs::write(folder.join(name), sheet)?;
     }
-    Ok(Command::new(program).current_dir(folder).output()?.stdout)
+    let output = Command::new(program).current_dir(folder).output()?;
+    Ok(match output.status.code() {
+        Some(_) => output.stdout,
+        None => format!("{}\n", output.status).into_bytes(),
+    })
 }

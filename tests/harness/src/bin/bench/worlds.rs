@@ -10,8 +10,9 @@ const NAME: u32 = 1;
 const ROOM: u32 = 2;
 const EXTENSION: u32 = 3;
 const ROLE: u32 = 4;
-/// Numbers and syntaxes: text, integers.
-const TYPES: [(u32, u32); 4] = [(NAME, 1), (ROOM, 2), (EXTENSION, 2), (ROLE, 1)];
+const KEY: u32 = 5;
+/// Numbers and syntaxes: text, integers, octets.
+const TYPES: [(u32, u32); 5] = [(NAME, 1), (ROOM, 2), (EXTENSION, 2), (ROLE, 1), (KEY, 0)];
 const HOTEL: &str = "The Grand Hotel";
 
 pub struct World {
@@ -23,7 +24,12 @@ pub struct World {
 }
 
 pub fn worlds() -> Vec<World> {
-    vec![small(), full(), register()]
+    vec![
+        small(),
+        full(),
+        register("register", 1_900, ROLE, letters),
+        register("colliding", 1_800, KEY, alike),
+    ]
 }
 
 /// 30 entries, 12 items.
@@ -52,16 +58,16 @@ fn full() -> World {
     world("full", directory, items)
 }
 
-/// One entry with 1,900 values, 12 items.
-fn register() -> World {
+/// One entry with many values of one type, 12 items.
+fn register(name: &'static str, count: u32, kind: u32, value: fn(u32) -> Vec<u8>) -> World {
     let mut entry = EntryLines::bare(0, NAME, HOTEL.as_bytes());
-    entry.values.extend((0..1_900).map(|number| (ROLE, letters(number))));
+    entry.values.extend((0..count).map(|number| (kind, value(number))));
     let items = items(12, |number| match number % 3 {
-        0 => (true, Thing::ValuesOf(ROLE)),
-        1 => (false, Thing::Value(ROLE, letters(100 * number))),
-        _ => (true, Thing::Value(ROLE, letters(100 * number))),
+        0 => (true, Thing::ValuesOf(kind)),
+        1 => (false, Thing::Value(kind, value(100 * number))),
+        _ => (true, Thing::Value(kind, value(100 * number))),
     });
-    world("register", DirectorySheet { types: TYPES.to_vec(), entries: vec![entry] }, items)
+    world(name, DirectorySheet { types: TYPES.to_vec(), entries: vec![entry] }, items)
 }
 
 /// A hotel with departments, and people below them, each with a room, an extension and roles.
@@ -88,6 +94,12 @@ fn role(number: u32, which: u32) -> Vec<u8> {
 /// Three letters, others for each number.
 fn letters(number: u32) -> Vec<u8> {
     [number / 676, number / 26 % 26, number % 26].map(|place| b'a' + place as u8).to_vec()
+}
+
+/// Four octets, others for each number, the same in their low five bits: the library's marks of
+/// values (crate `directory`) are made of those, so that all of these values are looked through.
+fn alike(number: u32) -> Vec<u8> {
+    [number >> 9, number >> 6, number >> 3, number].map(|place| (place as u8 & 7) << 5 | 1).to_vec()
 }
 
 /// Everything open, and items from the hotel down for those at or below it.
