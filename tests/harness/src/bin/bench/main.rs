@@ -3,18 +3,20 @@
 //! `bench` prints a table of nanoseconds. `bench rows` prints the worlds and requests, and
 //! `bench once WORLD REQUEST SERVER` asks once inside `measured`, for a profiler.
 
+mod clock;
 mod worlds;
 
+use clock::processor_time;
 use harness::lent::ask;
 use harness::server::{Library, Peer, Reply, Server};
 use std::env;
 use std::hint::black_box;
-use std::time::{Duration, Instant};
+use std::time::Duration;
 use worlds::{worlds, World};
 
 const ROOM: usize = 1 << 20;
-const ROUNDS: usize = 21;
-const ROUND: Duration = Duration::from_millis(5);
+const ROUNDS: usize = 51;
+const ROUND: Duration = Duration::from_millis(1);
 
 fn main() {
     let words: Vec<String> = env::args().skip(1).collect();
@@ -81,9 +83,9 @@ struct Timed {
 
 impl Timed {
     fn new(server: &dyn Server, world: &World, request: &[u8], out: &mut [u8]) -> Self {
-        let start = Instant::now();
+        let start = processor_time();
         let mut calls = 0;
-        while start.elapsed() < ROUND {
+        while processor_time() - start < ROUND {
             measured(server, world, request, out);
             calls += 1;
         }
@@ -91,11 +93,12 @@ impl Timed {
     }
 
     fn round(&mut self, server: &dyn Server, world: &World, request: &[u8], out: &mut [u8]) {
-        let start = Instant::now();
+        let start = processor_time();
         for _ in 0..self.calls {
             measured(server, world, request, out);
         }
-        self.rounds.push(start.elapsed().as_nanos() as f64 / f64::from(self.calls));
+        let spent = processor_time() - start;
+        self.rounds.push(spent.as_nanos() as f64 / f64::from(self.calls));
     }
 
     fn median(&mut self) -> f64 {

@@ -162,13 +162,3 @@ fn deep_filter() -> FilterLines {
         _ => FilterLines::Or(vec![filter]),
     })
 }
-
-#[cfg(test)]
-mod tests {
-    use super::deep_filter;
-
-    #[test]
-    fn the_deep_filter_is_as_long_as_a_filter_may_be() {
-        assert_eq!(deep_filter().lines(), 128);
-    }
-}
