@@ -49,7 +49,6 @@ fn main() -> Result<ExitCode> {
     Ok(report.finish())
 }
 
-/// What the program prints, or how it ended if a signal ended it.
 fn printed_by(
     program: &Path,
     folder: &Path,
@@ -60,9 +59,5 @@ fn printed_by(
     for (name, sheet) in [("dir", dir), ("perm", perm), ("request", req)] {
         std::fs::write(folder.join(name), sheet)?;
     }
-    let output = Command::new(program).current_dir(folder).output()?;
-    Ok(match output.status.code() {
-        Some(_) => output.stdout,
-        None => format!("{}\n", output.status).into_bytes(),
-    })
+    Ok(Command::new(program).current_dir(folder).output()?.stdout)
 }
