@@ -27,8 +27,9 @@ pub fn worlds() -> Vec<World> {
     vec![
         small(),
         full(),
-        register("register", 1_900, ROLE, letters),
-        register("colliding", 1_800, KEY, alike),
+        register("register", 12, 1_900, ROLE, letters),
+        register("contended", 256, 1_900, ROLE, letters),
+        register("colliding", 12, 1_800, KEY, alike),
     ]
 }
 
@@ -58,15 +59,18 @@ fn full() -> World {
     world("full", directory, items)
 }
 
-/// One entry with many values of one type, 12 items.
-fn register(name: &'static str, count: u32, kind: u32, value: fn(u32) -> Vec<u8>) -> World {
+/// One entry with many values of one type; all items but two are about single values.
+fn register(
+    name: &'static str,
+    item_count: u32,
+    value_count: u32,
+    kind: u32,
+    value: fn(u32) -> Vec<u8>,
+) -> World {
     let mut entry = EntryLines::bare(0, NAME, HOTEL.as_bytes());
-    entry.values.extend((0..count).map(|number| (kind, value(number))));
-    let items = items(12, |number| match number % 3 {
-        0 => (true, Thing::ValuesOf(kind)),
-        1 => (false, Thing::Value(kind, value(100 * number))),
-        _ => (true, Thing::Value(kind, value(100 * number))),
-    });
+    entry.values.extend((0..value_count).map(|number| (kind, value(number))));
+    let items =
+        items(item_count, |number| (number % 2 == 0, Thing::Value(kind, value(7 * number))));
     world(name, DirectorySheet { types: TYPES.to_vec(), entries: vec![entry] }, items)
 }
 
