@@ -176,11 +176,19 @@ mod switch {
     }
 }
 
-#[cfg(feature = "faults")]
-pub use switch::{planted, with_fault};
-
 #[cfg(not(feature = "faults"))]
-#[inline(always)]
-pub const fn planted(_: Fault) -> bool {
-    false
+mod switch {
+    use super::Fault;
+
+    /// Runs `work`: no fault is compiled in.
+    pub fn with_fault<T>(_: Option<Fault>, work: impl FnOnce() -> T) -> T {
+        work()
+    }
+
+    #[inline(always)]
+    pub const fn planted(_: Fault) -> bool {
+        false
+    }
 }
+
+pub use switch::{planted, with_fault};

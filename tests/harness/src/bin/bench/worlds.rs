@@ -1,0 +1,164 @@
+//! Three worlds, and six requests over each.
+
+use harness::limits::open;
+use peer::builder::{
+    DirectorySheet, EntryLines, FilterLines, ItemLines, Name, OperationLines, PermissionSheet,
+    RequestSheet, Selected, Thing, User,
+};
+
+const NAME: u32 = 1;
+const ROOM: u32 = 2;
+const EXTENSION: u32 = 3;
+const ROLE: u32 = 4;
+const KEY: u32 = 5;
+/// Numbers and syntaxes: text, integers, octets.
+const TYPES: [(u32, u32); 5] = [(NAME, 1), (ROOM, 2), (EXTENSION, 2), (ROLE, 1), (KEY, 0)];
+const HOTEL: &str = "The Grand Hotel";
+
+pub struct World {
+    pub name: &'static str,
+    pub directory: Vec<u8>,
+    pub permissions: Vec<u8>,
+    /// What is asked, and the request.
+    pub requests: Vec<(&'static str, Vec<u8>)>,
+}
+
+pub fn worlds() -> Vec<World> {
+    vec![
+        small(),
+        full(),
+        register("register", 1_900, ROLE, letters),
+        register("colliding", 1_800, KEY, alike),
+    ]
+}
+
+/// 30 entries, 12 items.
+fn small() -> World {
+    let directory = hotel(2, 27, 1);
+    let items = items(12, |number| match number % 5 {
+        0 => (true, Thing::Entry),
+        1 => (true, Thing::Type(ROLE)),
+        2 => (true, Thing::ValuesOf(ROLE)),
+        3 => (false, Thing::Type(EXTENSION)),
+        _ => (false, Thing::Value(ROLE, role(number, 0))),
+    });
+    world("small", directory, items)
+}
+
+/// 256 entries, and 256 items that all concern the requester and every entry; both sheets are
+/// near 65,536 bytes.
+fn full() -> World {
+    let directory = hotel(15, 240, 2);
+    let items = items(256, |number| match number % 4 {
+        0 => (true, Thing::Entry),
+        1 => (true, Thing::Type(ROLE)),
+        2 => (true, Thing::ValuesOf(ROLE)),
+        _ => (false, Thing::Value(ROLE, role(1000 + number, 0))),
+    });
+    world("full", directory, items)
+}
+
+/// One entry with many values of one type, 12 items.
+fn register(name: &'static str, count: u32, kind: u32, value: fn(u32) -> Vec<u8>) -> World {
+    let mut entry = EntryLines::bare(0, NAME, HOTEL.as_bytes());
+    entry.values.extend((0..count).map(|number| (kind, value(number))));
+    let items = items(12, |number| match number % 3 {
+        0 => (true, Thing::ValuesOf(kind)),
+        1 => (false, Thing::Value(kind, value(100 * number))),
+        _ => (true, Thing::Value(kind, value(100 * number))),
+    });
+    world(name, DirectorySheet { types: TYPES.to_vec(), entries: vec![entry] }, items)
+}
+
+/// A hotel with departments, and people below them, each with a room, an extension and roles.
+fn hotel(departments: u32, people: u32, roles: u32) -> DirectorySheet {
+    let mut entries = vec![EntryLines::bare(0, NAME, HOTEL.as_bytes())];
+    for number in 0..departments {
+        entries.push(EntryLines::bare(1, NAME, format!("Department {number}").as_bytes()));
+    }
+    for number in 0..people {
+        let name = format!("Guest {number:03}");
+        let mut entry = EntryLines::bare(2 + number % departments, NAME, name.as_bytes());
+        entry.values.push((ROOM, (100 + number).to_string().into_bytes()));
+        entry.values.push((EXTENSION, (2000 + number).to_string().into_bytes()));
+        entry.values.extend((0..roles).map(|which| (ROLE, role(number, which))));
+        entries.push(entry);
+    }
+    DirectorySheet { types: TYPES.to_vec(), entries }
+}
+
+fn role(number: u32, which: u32) -> Vec<u8> {
+    format!("duty {number:04}, of the rank {which}").into_bytes()
+}
+
+/// Three letters, others for each number.
+fn letters(number: u32) -> Vec<u8> {
+    [number / 676, number / 26 % 26, number % 26].map(|place| b'a' + place as u8).to_vec()
+}
+
+/// Four octets, others for each number, the same in their low five bits: the library's marks of
+/// values (crate `directory`) are made of those, so that all of these values are looked through.
+fn alike(number: u32) -> Vec<u8> {
+    [number >> 9, number >> 6, number >> 3, number].map(|place| (place as u8 & 7) << 5 | 1).to_vec()
+}
+
+/// Everything open, and items from the hotel down for those at or below it.
+fn items(count: u32, grants: impl Fn(u32) -> (bool, Thing)) -> PermissionSheet {
+    let mut items = open();
+    for number in 2..count {
+        let (grants, what) = grants(number);
+        let mut item = ItemLines::everywhere(number.min(255), grants, what, 63);
+        item.base = name(&[HOTEL]);
+        item.who = User::AtOrBelow(name(&[HOTEL]));
+        items.push(item);
+    }
+    PermissionSheet { items }
+}
+
+fn name(parts: &[&str]) -> Name {
+    parts.iter().map(|part| (NAME, part.as_bytes().to_vec())).collect()
+}
+
+/// The requests are about the directory's last entry, which is also who asks.
+fn world(name: &'static str, directory: DirectorySheet, permissions: PermissionSheet) -> World {
+    let last = directory.entries.len() - 1;
+    let person = directory.name(last);
+    let (kind, held) = directory.entries[last].values.last().expect("an entry holds values");
+    let mut above = person.clone();
+    above.pop();
+    let ask = |name: &Name, operation| {
+        let request =
+            RequestSheet { level: 0, requester: person.clone(), name: name.clone(), operation };
+        request.to_bytes()
+    };
+    let search = |filter| {
+        let root = Name::new();
+        ask(&root, OperationLines::Search { limit: 0, selected: Selected::ALL, subset: 2, filter })
+    };
+    let requests = vec![
+        ("read", ask(&person, OperationLines::Read(Selected::ALL))),
+        ("compare", ask(&person, OperationLines::Compare(*kind, held.clone()))),
+        ("list", ask(&above, OperationLines::List { limit: 0 })),
+        ("broad search", search(FilterLines::Present(NAME))),
+        ("narrow search", search(FilterLines::Equality(*kind, held.clone()))),
+        ("worst search", search(deep_filter())),
+    ];
+    World { name, directory: directory.to_bytes(), permissions: permissions.to_bytes(), requests }
+}
+
+/// 128 lines, 113 of them at depth 16, all false but the last: nothing is decided early, and every
+/// entry is selected.
+fn deep_filter() -> FilterLines {
+    let mut items = Vec::new();
+    for number in 0..28 {
+        items.push(FilterLines::Equality(ROLE, role(2000 + number, 0)));
+        items.push(FilterLines::AtLeast(ROOM, (3000 + number).to_string().into_bytes()));
+        items.push(FilterLines::Substrings(ROLE, vec![(1, b"absent".to_vec())]));
+    }
+    items.push(FilterLines::Present(NAME));
+    (0..14).fold(FilterLines::Or(items), |filter, level| match level % 4 {
+        0 | 1 => FilterLines::Not(Box::new(filter)),
+        2 => FilterLines::And(vec![filter]),
+        _ => FilterLines::Or(vec![filter]),
+    })
+}
