@@ -1,12 +1,13 @@
 // The truth of one item for an entry. Undefined goes before all else; what is not held is false.
 use super::pieces::pieces_fit;
 use super::truth::truth_of;
+use super::types::FILTER_MATCH;
+use super::types::type_granted;
 use super::values::some_value;
 use crate::AT_LEAST;
 use crate::AT_MOST;
 use crate::EQUALITY;
 use crate::PRESENT;
-use access::grant::granted_type;
 use rules::Found;
 use rules::Truth;
 ghost use mathlib.Core.Path.{_≡_};
@@ -23,11 +24,9 @@ ghost use Rattle.rules.specs.FilterItem.{itemTruth};
 ghost use Rattle.rules.specs.Places.{linesAt};
 ghost use Rattle.rules.specs.Laws.Filter.{piecesOf};
 ghost use Rattle.access.specs.Chosen.{Rows, Chosen};
+ghost use Rattle.filter.specs.Asked.{Asked};
 ghost use Rattle.filter.specs.Items.{assertionBy, definedBy, satisfiedBy};
 ghost use Rattle.filter.specs.Seen.{Seen};
-
-// The permission FilterMatch.
-const FILTER_MATCH: u64 = 32;
 
 // Do the item's value or pieces fit the syntax `s`, and has the syntax the item's rule?
 fn defined(s: u64, kind: u64, v: &[u8], q: &[u8], next: usize, count: u64, w: usize) -> bool
@@ -51,8 +50,10 @@ fn defined(s: u64, kind: u64, v: &[u8], q: &[u8], next: usize, count: u64, w: us
 
 // Is the item defined, and FilterMatch granted on its type, held or not?
 fn decidable(
+    schema: &[u64],
     rights: &[u64],
     list: &[usize],
+    table: &[u64],
     s: u64,
     kind: u64,
     t: u64,
@@ -63,10 +64,10 @@ fn decidable(
     w: usize,
 ) -> bool
     requires { ⌜ w ≤ 18 ⌝ }
-    ensures { λ r. ⌜ ((σ : Setting) (n : Name) (p : Bytes) (scopes : List ℕ) → Rows w p (σ .items) (now (rights .entry)) scopes → Chosen σ n (now (list .entry)) → r ≡ (definedBy s kind (piecesOf count (linesAt w (now (q .entry)) next)) (now (v .entry)) && granted σ n (ofType t) FilterMatch)) ⌝ }
+    ensures { λ r. ⌜ ((σ : Setting) (n : Name) (p : Bytes) (scopes : List ℕ) → Rows w p (σ .items) (now (rights .entry)) scopes → Chosen σ n (now (list .entry)) → Asked σ n (now (schema .entry)) (now (table .entry)) → r ≡ (definedBy s kind (piecesOf count (linesAt w (now (q .entry)) next)) (now (v .entry)) && granted σ n (ofType t) FilterMatch)) ⌝ }
 {
     if defined(s, kind, v, q, next, count, w) {
-        return granted_type(rights, list, t, FILTER_MATCH);
+        return type_granted(schema, rights, list, table, t);
     }
     false
 }
@@ -125,6 +126,7 @@ pub(crate) fn item(
     p: &[u8],
     rights: &[u64],
     list: &[usize],
+    table: &[u64],
     types: &[u64],
     places: &[usize],
     sizes: &[usize],
@@ -136,12 +138,25 @@ pub(crate) fn item(
     count: u64,
 ) -> Truth
     requires { ⌜ (w ≤ 18) × (length (now places) ≡ length (now types)) × (length (now sizes) ≡ length (now types)) ⌝ }
-    ensures { λ r. ⌜ ((σ : Setting) (n : Name) (ps : List Part) → Seen σ n ps (now (schema .entry)) w (now (d .entry)) (now (p .entry)) (now (rights .entry)) (now (list .entry)) (now (types .entry)) (now (places .entry)) (now (sizes .entry)) → r ≡ itemTruth σ (record { name = n; held = heldOf ps }) (assertionBy kind t (now (v .entry)) (piecesOf count (linesAt w (now (q .entry)) next)))) ⌝ }
+    ensures { λ r. ⌜ ((σ : Setting) (n : Name) (ps : List Part) → Seen σ n ps (now (schema .entry)) w (now (d .entry)) (now (p .entry)) (now (rights .entry)) (now (list .entry)) (now (types .entry)) (now (places .entry)) (now (sizes .entry)) → Asked σ n (now (schema .entry)) (now (table .entry)) → r ≡ itemTruth σ (record { name = n; held = heldOf ps }) (assertionBy kind t (now (v .entry)) (piecesOf count (linesAt w (now (q .entry)) next)))) ⌝ }
 {
     let Found::At(s) = name::syntax_of(schema, t) else {
         return Truth::Undefined;
     };
-    if decidable(rights, list, s as u64, kind, t, v, q, next, count, w) {
+    if decidable(
+        schema,
+        rights,
+        list,
+        table,
+        s as u64,
+        kind,
+        t,
+        v,
+        q,
+        next,
+        count,
+        w,
+    ) {
         return truth_of(satisfied(
             schema,
             w,

@@ -4,6 +4,7 @@ mod item;
 mod pieces;
 pub mod tree;
 mod truth;
+mod types;
 pub mod values;
 
 // The kinds of a filter's lines: "and", "or", "not" and the items, a substrings item apart.

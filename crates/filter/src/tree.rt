@@ -5,6 +5,8 @@ use super::truth::is_true;
 use super::truth::joined;
 use super::truth::negated;
 use super::truth::truth_of;
+use super::types::ask;
+use super::types::worth;
 use crate::AND;
 use crate::AT_LEAST;
 use crate::AT_MOST;
@@ -30,6 +32,7 @@ ghost use Rattle.rules.specs.Request as Request;
 ghost use Rattle.rules.specs.Places.{schemaOf, linesAt, ValuesAt};
 ghost use Rattle.rules.specs.Laws.Filter.{piecesOf, evaluated, evaluateLines};
 ghost use Rattle.access.specs.Chosen.{Rows, Chosen};
+ghost use Rattle.filter.specs.Asked.{Asked};
 ghost use Rattle.filter.specs.Items.{assertionBy};
 ghost use Rattle.filter.specs.Seen.{Seen};
 ghost use Rattle.filter.specs.Tree.{nodeAt, afterBy};
@@ -131,6 +134,7 @@ fn leaf(
     p: &[u8],
     rights: &[u64],
     list: &[usize],
+    table: &[u64],
     types: &[u64],
     places: &[usize],
     sizes: &[usize],
@@ -143,7 +147,7 @@ fn leaf(
     next: usize,
 ) -> Step
     requires { ⌜ (w ≤ 18) × (length (now places) ≡ length (now types)) × (length (now sizes) ≡ length (now types)) × (at + (5 * w + len) ≤ length (now q)) ⌝ }
-    ensures { λ r. ⌜ ((σ : Setting) (n : Name) (ps : List Part) → Seen σ n ps (now (schema .entry)) w (now (d .entry)) (now (p .entry)) (now (rights .entry)) (now (list .entry)) (now (types .entry)) (now (places .entry)) (now (sizes .entry)) → evaluated (r .truth) (linesAt w (now (q .entry)) (r .next)) ≡ evaluated (itemTruth σ (record { name = n; held = heldOf ps }) (assertionBy kind a (valueOf w len (drop at (now (q .entry)))) (piecesOf b (linesAt w (now (q .entry)) next)))) (afterBy kind b (linesAt w (now (q .entry)) next))) ⌝ }
+    ensures { λ r. ⌜ ((σ : Setting) (n : Name) (ps : List Part) → Seen σ n ps (now (schema .entry)) w (now (d .entry)) (now (p .entry)) (now (rights .entry)) (now (list .entry)) (now (types .entry)) (now (places .entry)) (now (sizes .entry)) → Asked σ n (now (schema .entry)) (now (table .entry)) → evaluated (r .truth) (linesAt w (now (q .entry)) (r .next)) ≡ evaluated (itemTruth σ (record { name = n; held = heldOf ps }) (assertionBy kind a (valueOf w len (drop at (now (q .entry)))) (piecesOf b (linesAt w (now (q .entry)) next)))) (afterBy kind b (linesAt w (now (q .entry)) next))) ⌝ }
 {
     let v = sheet::value_at(q, at, len, w);
     let truth = item(
@@ -153,6 +157,7 @@ fn leaf(
         p,
         rights,
         list,
+        table,
         types,
         places,
         sizes,
@@ -178,6 +183,7 @@ pub fn evaluate(
     p: &[u8],
     rights: &[u64],
     list: &[usize],
+    table: &[u64],
     types: &[u64],
     places: &[usize],
     sizes: &[usize],
@@ -186,7 +192,7 @@ pub fn evaluate(
     depth: usize,
 ) -> Step
     requires { ⌜ (w ≤ 18) × (length (now places) ≡ length (now types)) × (length (now sizes) ≡ length (now types)) ⌝ }
-    ensures { λ r. ⌜ ((σ : Setting) (n : Name) (ps : List Part) → Seen σ n ps (now (schema .entry)) w (now (d .entry)) (now (p .entry)) (now (rights .entry)) (now (list .entry)) (now (types .entry)) (now (places .entry)) (now (sizes .entry)) → evaluated (r .truth) (linesAt w (now (q .entry)) (r .next)) ≡ evaluateLines (itemTruth σ (record { name = n; held = heldOf ps })) depth (linesAt w (now (q .entry)) at)) ⌝ }
+    ensures { λ r. ⌜ ((σ : Setting) (n : Name) (ps : List Part) → Seen σ n ps (now (schema .entry)) w (now (d .entry)) (now (p .entry)) (now (rights .entry)) (now (list .entry)) (now (types .entry)) (now (places .entry)) (now (sizes .entry)) → Asked σ n (now (schema .entry)) (now (table .entry)) → evaluated (r .truth) (linesAt w (now (q .entry)) (r .next)) ≡ evaluateLines (itemTruth σ (record { name = n; held = heldOf ps })) depth (linesAt w (now (q .entry)) at)) ⌝ }
 {
     if depth == 0 {
         return Step {
@@ -212,6 +218,7 @@ pub fn evaluate(
             p,
             rights,
             list,
+            table,
             types,
             places,
             sizes,
@@ -231,6 +238,7 @@ pub fn evaluate(
                 p,
                 rights,
                 list,
+                table,
                 types,
                 places,
                 sizes,
@@ -260,6 +268,7 @@ pub fn evaluate(
                     p,
                     rights,
                     list,
+                    table,
                     types,
                     places,
                     sizes,
@@ -294,6 +303,7 @@ pub fn matches(
     requires { ⌜ (w ≤ 18) × (length (now places) ≡ length (now types)) × (length (now sizes) ≡ length (now types)) ⌝ }
     ensures { λ r. ⌜ ((σ : Setting) (n : Name) (scopes : List ℕ) (ps : List Part) → σ .schema ≡ schemaOf (now (schema .entry)) → Rows w (now (p .entry)) (σ .items) (now (rights .entry)) scopes → Chosen σ n (now (list .entry)) → ValuesAt (now (d .entry)) ps (now (types .entry)) (now (places .entry)) (now (sizes .entry)) → (f : Filter) → Request.filter 16 128 (linesAt w (now (q .entry)) at) (λ f left rest. accept f) ≡ accept f → r ≡ isTrue (Filter.evaluate (itemTruth σ (record { name = n; held = heldOf ps })) f)) ⌝ }
 {
+    let table = ask(schema, rights, list, worth(schema, w, q, at));
     let whole = evaluate(
         schema,
         w,
@@ -301,6 +311,7 @@ pub fn matches(
         p,
         rights,
         list,
+        &table,
         types,
         places,
         sizes,

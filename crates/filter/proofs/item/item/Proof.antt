@@ -28,7 +28,7 @@ enum-told c = search needs
 
 -- src/item.rt:142:9
 returns : tie.Need-returns
-returns c = let a = c .before .before .before .before .before .before .before .before .before .before .before .before .before .args in λ σ n ps h. sym (item-unknown σ n ps (now (a .schema)) (h .ruled .schema-is) (a .kind) (a .t) (now (a .v)) (piecesOf (a .count) (linesAt (a .w) (now (a .q)) (a .next))) (sym (c .before .before .syntax-of .ensures) ∙ c .enum-told .given .1))
+returns c = let a = c .before .before .before .before .before .before .before .before .before .before .before .before .before .before .args in λ σ n ps h k. sym (item-unknown σ n ps (now (a .schema)) (h .ruled .schema-is) (a .kind) (a .t) (now (a .v)) (piecesOf (a .count) (linesAt (a .w) (now (a .q)) (a .next))) (sym (c .before .before .syntax-of .ensures) ∙ c .enum-told .given .1))
 
 -- src/item.rt:144:8
 decidable-requires : tie.Need-decidable-requires
@@ -44,15 +44,15 @@ truth-of-requires c κs = search needs
 
 -- src/item.rt:145:9
 returns-2 : tie.Need-returns-2
-returns-2 c = let a = c .before .before .before .before .before .before .before .before .before .before .before .before .before .before .before .before .before .before .args in λ σ n ps h. c .truth-of .ensures ∙ ap truth (c .before .satisfied .ensures σ n ps h)
+returns-2 c = let a = c .before .before .before .before .before .before .before .before .before .before .before .before .before .before .before .before .before .before .before .args in λ σ n ps h k. c .truth-of .ensures ∙ ap truth (c .before .satisfied .ensures σ n ps h)
     ∙ sym (item-decided σ n ps (now (a .schema)) (h .ruled .schema-is) (a .kind) (a .t) (now (a .v)) (piecesOf (a .count) (linesAt (a .w) (now (a .q)) (a .next))) _ (sym (c .before .before .before .before .before .before .before .syntax-of .ensures) ∙ c .before .before .before .before .before .s .given .1)
-    (sym (c .before .before .before .decidable .ensures σ n (now (a .p)) (h .ruled .scopes) (h .ruled .rows) (h .ruled .chosen)) ∙ c .before .before .if1 .taken))
+    (sym (c .before .before .before .decidable .ensures σ n (now (a .p)) (h .ruled .scopes) (h .ruled .rows) (h .ruled .chosen) k) ∙ c .before .before .if1 .taken))
 
 -- src/item.rt:121:1
 returns-3 : tie.Need-returns-3
-returns-3 c = let a = c .before .before .before .before .before .before .before .before .before .before .before .before .before .before .before .before .args in λ σ n ps h.
+returns-3 c = let a = c .before .before .before .before .before .before .before .before .before .before .before .before .before .before .before .before .before .args in λ σ n ps h k.
     sym (item-undecided σ n ps (now (a .schema)) (h .ruled .schema-is) (a .kind) (a .t) (now (a .v)) (piecesOf (a .count) (linesAt (a .w) (now (a .q)) (a .next))) _ (sym (c .before .before .before .before .before .syntax-of .ensures) ∙ c .before .before .before .s .given .1)
-    (sym (c .before .decidable .ensures σ n (now (a .p)) (h .ruled .scopes) (h .ruled .rows) (h .ruled .chosen)) ∙ c .if1 .left))
+    (sym (c .before .decidable .ensures σ n (now (a .p)) (h .ruled .scopes) (h .ruled .rows) (h .ruled .chosen) k) ∙ c .if1 .left))
 
 pub item-spec : {M : Type 1} → statement M
 item-spec =

@@ -9,6 +9,7 @@ use Rattle.rules.specs.Filter.{negation}
 use Rattle.rules.specs.FilterItem.{itemTruth}
 use Rattle.rules.specs.Places.{linesAt}
 use Rattle.rules.specs.Laws.Filter.{Evaluated, evaluated, partsFrom, evaluateLines}
+use Rattle.filter.specs.Asked.{Asked}
 use Rattle.filter.specs.Seen.{Seen}
 use Rattle.filter.specs.Tree.{joinBy, tree-none, tree-node, item-fits, parts-end, parts-on}
 use borrow.Author.Needs.{needs}
@@ -25,15 +26,15 @@ use Rattle.filter.proofs.truth.truth_of.Reads as truth-of-reads
 use Rattle.filter.proofs.tree.+evaluate.{statement}
 use Rattle.filter.proofs.tree.+evaluate.Tie.{close}
 
-abbrev μ-evaluate : Measures 9 evaluate-kinds.ps ℕ
-μ-evaluate κs a = a .1 .1 .1 .1 .1 .1 .1 .1 .1 .1 .1 .0
+abbrev μ-evaluate : Measures 10 evaluate-kinds.ps ℕ
+μ-evaluate κs a = a .1 .1 .1 .1 .1 .1 .1 .1 .1 .1 .1 .1 .0
 
-abbrev evaluate-at : ℕ → In 9 evaluate-kinds.ps
-evaluate-at t = and 9 evaluate-kinds.ps (is 9 evaluate-kinds.ps μ-evaluate t) evaluate.Pre
+abbrev evaluate-at : ℕ → In 10 evaluate-kinds.ps
+evaluate-at t = and 10 evaluate-kinds.ps (is 10 evaluate-kinds.ps μ-evaluate t) evaluate.Pre
 
-abbrev evaluate-below : ℕ → In 9 evaluate-kinds.ps
+abbrev evaluate-below : ℕ → In 10 evaluate-kinds.ps
 evaluate-below t =
-    and 9 evaluate-kinds.ps (falls 9 evaluate-kinds.ps _<_ μ-evaluate t) evaluate.Pre
+    and 10 evaluate-kinds.ps (falls 10 evaluate-kinds.ps _<_ μ-evaluate t) evaluate.Pre
 
 -- what is asked of each callee, and what it ensures
 abbrev calls : ℕ → evaluate-lts.Claims
@@ -41,17 +42,17 @@ calls t =
     (node-at-reads.Asked, node-at-reads.Learnt, leaf-reads.Asked, leaf-reads.Learnt, evaluate-below t, evaluate.Post, negated-reads.Asked, negated-reads.Learnt, truth-of-reads.Asked, truth-of-reads.Learnt, joined-reads.Asked, joined-reads.Learnt)
 
 abbrev evaluate-Inv-loop : evaluate-lts.InvT-loop
-evaluate-Inv-loop schema w d p rights list types places sizes q at depth conjunction count next truth₀ pos₀ left₀ truth pos left =
-    (σ : Setting) (n : Name) (ps : List Part) → Seen σ n ps schema w d p rights list types places sizes
+evaluate-Inv-loop schema w d p rights list table types places sizes q at depth conjunction count next truth₀ pos₀ left₀ truth pos left =
+    (σ : Setting) (n : Name) (ps : List Part) → Seen σ n ps schema w d p rights list types places sizes → Asked σ n schema table
     → partsFrom (joinBy conjunction) (evaluateLines (itemTruth σ (record { name = n; held = heldOf ps })) (depth - 1)) left truth (linesAt w q pos)
     ≡ evaluateLines (itemTruth σ (record { name = n; held = heldOf ps })) depth (linesAt w q at)
 
 abbrev evaluate-μ-loop : evaluate-lts.MeasureT-loop
-evaluate-μ-loop schema w d p rights list types places sizes q at depth conjunction count next truth₀ pos₀ left₀ truth pos left = left
+evaluate-μ-loop schema w d p rights list table types places sizes q at depth conjunction count next truth₀ pos₀ left₀ truth pos left = left
 
 -- src/tree.rt:192:9
 evaluate-returns : (t : ℕ) → evaluate-lts.Need-returns (calls t) (evaluate-at t) evaluate.Post evaluate-Inv-loop evaluate-μ-loop
-evaluate-returns t c = let a = c .before .before .before .before .before .before .before .before .before .before .args in λ σ n ps h. tree-none (itemTruth σ (record { name = n; held = heldOf ps })) (a .w) (now (a .q)) (a .at) (a .depth) (c .if1 .taken)
+evaluate-returns t c = let a = c .before .before .before .before .before .before .before .before .before .before .before .args in λ σ n ps h k. tree-none (itemTruth σ (record { name = n; held = heldOf ps })) (a .w) (now (a .q)) (a .at) (a .depth) (c .if1 .taken)
 
 -- src/tree.rt:197:11
 evaluate-node-at-requires : (t : ℕ) → evaluate-lts.Need-node-at-requires (calls t) (evaluate-at t) evaluate.Post evaluate-Inv-loop evaluate-μ-loop
@@ -67,7 +68,7 @@ evaluate-enum-known-kind t c = search needs
 
 -- src/tree.rt:208:14
 evaluate-leaf-requires : (t : ℕ) → evaluate-lts.Need-leaf-requires (calls t) (evaluate-at t) evaluate.Post evaluate-Inv-loop evaluate-μ-loop
-evaluate-leaf-requires t c κs = let a = c .before .before .before .before .before .before .before .before .before .before .before .before .before .before .args in let f = item-fits (a .w) (now (a .q)) (a .at) (sym (c .before .before .before .node-at .ensures) ∙ c .before .kind .given .1) in (search needs, search needs, search needs, f)
+evaluate-leaf-requires t c κs = let a = c .before .before .before .before .before .before .before .before .before .before .before .before .before .before .before .args in let f = item-fits (a .w) (now (a .q)) (a .at) (sym (c .before .before .before .node-at .ensures) ∙ c .before .kind .given .1) in (search needs, search needs, search needs, f)
 
 -- src/tree.rt:226:19
 evaluate-enum-known-next : (t : ℕ) → evaluate-lts.Need-enum-known-next (calls t) (evaluate-at t) evaluate.Post evaluate-Inv-loop evaluate-μ-loop
@@ -95,7 +96,7 @@ evaluate-truth-of-requires t c κs = search needs
 
 -- src/tree.rt:255:13
 evaluate-loop-holds : (t : ℕ) → evaluate-lts.Need-loop-holds (calls t) (evaluate-at t) evaluate.Post evaluate-Inv-loop evaluate-μ-loop
-evaluate-loop-holds t c = let a = c .before .before .before .before .before .before .before .before .before .before .before .before .before .before .before .args in λ σ n ps h. rw (c .truth-of .ensures) (sym (tree-node (itemTruth σ (record { name = n; held = heldOf ps })) (a .w) (now (a .q)) (a .at) (a .depth) (c .before .before .before .before .before .if1 .left) _ (sym (c .before .before .before .before .node-at .ensures) ∙ c .before .before .conjunction .given .1)))
+evaluate-loop-holds t c = let a = c .before .before .before .before .before .before .before .before .before .before .before .before .before .before .before .before .args in λ σ n ps h k. rw (c .truth-of .ensures) (sym (tree-node (itemTruth σ (record { name = n; held = heldOf ps })) (a .w) (now (a .q)) (a .at) (a .depth) (c .before .before .before .before .before .if1 .left) _ (sym (c .before .before .before .before .node-at .ensures) ∙ c .before .before .conjunction .given .1)))
 
 -- src/tree.rt:268:21
 evaluate-sub-evaluate-2 : (t : ℕ) → evaluate-lts.Need-sub-evaluate-2 (calls t) (evaluate-at t) evaluate.Post evaluate-Inv-loop evaluate-μ-loop
@@ -119,30 +120,30 @@ evaluate-loop-less t c = search needs
 
 -- src/tree.rt:255:13
 evaluate-loop-again : (t : ℕ) → evaluate-lts.Need-loop-again (calls t) (evaluate-at t) evaluate.Post evaluate-Inv-loop evaluate-μ-loop
-evaluate-loop-again t c = let a = c .before .before .before .before .before .before .before .before .before .before .before .before .before .before .before .before .before .before .before .args in
+evaluate-loop-again t c = let a = c .before .before .before .before .before .before .before .before .before .before .before .before .before .before .before .before .before .before .before .before .args in
     let L = c .before .before .before .loop in
-    λ σ n ps h. rw (c .joined .ensures)
-    (sym (parts-on (joinBy (c .before .before .before .before .before .before .conjunction .given .0 .0)) (evaluateLines (itemTruth σ (record { name = n; held = heldOf ps })) (a .depth - 1)) (L .left) (L .truth) (linesAt (a .w) (now (a .q)) (L .pos)) (c .before .before .loop-test .taken) _ _ (c .before .evaluate2 .ensures σ n ps h)) ∙ L .inv σ n ps h)
+    λ σ n ps h k. rw (c .joined .ensures)
+    (sym (parts-on (joinBy (c .before .before .before .before .before .before .conjunction .given .0 .0)) (evaluateLines (itemTruth σ (record { name = n; held = heldOf ps })) (a .depth - 1)) (L .left) (L .truth) (linesAt (a .w) (now (a .q)) (L .pos)) (c .before .before .loop-test .taken) _ _ (c .before .evaluate2 .ensures σ n ps h k)) ∙ L .inv σ n ps h k)
 
 -- src/tree.rt:174:1
 evaluate-returns-2 : (t : ℕ) → evaluate-lts.Need-returns-2 (calls t) (evaluate-at t) evaluate.Post evaluate-Inv-loop evaluate-μ-loop
-evaluate-returns-2 t c = let a = c .before .before .before .before .before .before .before .before .before .before .before .before .before .args in λ σ n ps h. sym (tree-node (itemTruth σ (record { name = n; held = heldOf ps })) (a .w) (now (a .q)) (a .at) (a .depth) (c .before .before .before .if1 .left) _ (sym (c .before .before .node-at .ensures) ∙ c .enum-told .given .1))
+evaluate-returns-2 t c = let a = c .before .before .before .before .before .before .before .before .before .before .before .before .before .before .args in λ σ n ps h k. sym (tree-node (itemTruth σ (record { name = n; held = heldOf ps })) (a .w) (now (a .q)) (a .at) (a .depth) (c .before .before .before .if1 .left) _ (sym (c .before .before .node-at .ensures) ∙ c .enum-told .given .1))
 
 -- src/tree.rt:174:1
 evaluate-returns-3 : (t : ℕ) → evaluate-lts.Need-returns-3 (calls t) (evaluate-at t) evaluate.Post evaluate-Inv-loop evaluate-μ-loop
-evaluate-returns-3 t c = let a = c .before .before .before .before .before .before .before .before .before .before .before .before .before .before .before .args in λ σ n ps h. c .leaf .ensures σ n ps h
+evaluate-returns-3 t c = let a = c .before .before .before .before .before .before .before .before .before .before .before .before .before .before .before .before .args in λ σ n ps h k. c .leaf .ensures σ n ps h k
     ∙ sym (tree-node (itemTruth σ (record { name = n; held = heldOf ps })) (a .w) (now (a .q)) (a .at) (a .depth) (c .before .before .before .before .before .if1 .left) _ (sym (c .before .before .before .before .node-at .ensures) ∙ c .before .before .kind .given .1))
 
 -- src/tree.rt:174:1
 evaluate-returns-4 : (t : ℕ) → evaluate-lts.Need-returns-4 (calls t) (evaluate-at t) evaluate.Post evaluate-Inv-loop evaluate-μ-loop
-evaluate-returns-4 t c = let a = c .before .before .before .before .before .before .before .before .before .before .before .before .before .before .before .before .args in λ σ n ps h. rw (c .negated .ensures) (ap (λ (r : Evaluated). evaluated (negation (r .truth)) (r .rest)) (c .before .evaluate .ensures σ n ps h)
+evaluate-returns-4 t c = let a = c .before .before .before .before .before .before .before .before .before .before .before .before .before .before .before .before .before .args in λ σ n ps h k. rw (c .negated .ensures) (ap (λ (r : Evaluated). evaluated (negation (r .truth)) (r .rest)) (c .before .evaluate .ensures σ n ps h k)
     ∙ sym (tree-node (itemTruth σ (record { name = n; held = heldOf ps })) (a .w) (now (a .q)) (a .at) (a .depth) (c .before .before .before .before .before .before .if1 .left) _ (sym (c .before .before .before .before .before .node-at .ensures) ∙ c .before .before .before .next .given .1)))
 
 -- src/tree.rt:174:1
 evaluate-returns-5 : (t : ℕ) → evaluate-lts.Need-returns-5 (calls t) (evaluate-at t) evaluate.Post evaluate-Inv-loop evaluate-μ-loop
-evaluate-returns-5 t c = let a = c .before .before .before .before .before .before .before .before .before .before .before .before .before .before .before .before .before .args in
+evaluate-returns-5 t c = let a = c .before .before .before .before .before .before .before .before .before .before .before .before .before .before .before .before .before .before .args in
     let L = c .before .loop in
-    λ σ n ps h. sym (parts-end (joinBy (c .before .before .before .before .conjunction .given .0 .0)) (evaluateLines (itemTruth σ (record { name = n; held = heldOf ps })) (a .depth - 1)) (L .left) (L .truth) (linesAt (a .w) (now (a .q)) (L .pos)) (c .loop-test .left)) ∙ L .inv σ n ps h
+    λ σ n ps h k. sym (parts-end (joinBy (c .before .before .before .before .conjunction .given .0 .0)) (evaluateLines (itemTruth σ (record { name = n; held = heldOf ps })) (a .depth - 1)) (L .left) (L .truth) (linesAt (a .w) (now (a .q)) (L .pos)) (c .loop-test .left)) ∙ L .inv σ n ps h k
 
 pub +evaluate-spec : {M : Type 1} → statement M
 +evaluate-spec = close μ-evaluate λ t. evaluate-lts.spec (calls t)

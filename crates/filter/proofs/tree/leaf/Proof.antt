@@ -29,7 +29,7 @@ after-item-requires c κs = search needs
 
 -- src/tree.rt:127:1
 returns : tie.Need-returns
-returns c = let a = c .before .before .before .before .before .before .before .before .before .before .before .before .args in λ σ n ps h. ap₂ evaluated (c .before .item .ensures σ n ps h
+returns c = let a = c .before .before .before .before .before .before .before .before .before .before .before .before .before .args in λ σ n ps h k. ap₂ evaluated (c .before .item .ensures σ n ps h k
     ∙ ap (λ (v : Bytes). itemTruth σ (record { name = n; held = heldOf ps }) (assertionBy (a .kind) (a .a) v (piecesOf (a .b) (linesAt (a .w) (now (a .q)) (a .next))))) (c .before .before .value-at .ensures)) (c .after-item .ensures)
 
 pub leaf-spec : {M : Type 1} → statement M

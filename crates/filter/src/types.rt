@@ -1,0 +1,101 @@
+// FilterMatch on the types of an entry. Before a long filter every type of the schema is asked about once, and the answers are kept in a table
+// by the types' places in the schema; what the table does not tell is asked where an item needs it.
+use access::grant::granted_type;
+ghost use mathlib.Core.Path.{_≡_};
+ghost use Prim.Native.Nat.{ℕ, _≤_};
+ghost use mathlib.Core.List.{List};
+ghost use lib.ListN.{length};
+ghost use Rattle.rules.specs.Sheet.{Bytes};
+ghost use Rattle.rules.specs.Name.{Name};
+ghost use Rattle.rules.specs.Permission.{FilterMatch};
+ghost use Rattle.rules.specs.Decision.{Setting, ofType, granted};
+ghost use Rattle.access.specs.Chosen.{Rows, Chosen};
+ghost use Rattle.filter.specs.Asked.{Tells, Asked};
+
+// The permission FilterMatch.
+pub(crate) const FILTER_MATCH: u64 = 32;
+
+// What the table has for a type: nothing yet, or FilterMatch refused or granted.
+const NOT_ASKED: u64 = 0;
+
+const REFUSED: u64 = 1;
+
+const GRANTED: u64 = 2;
+
+// How many of the schema's types are worth asking about ahead: all of them if the filter at position `at` can have twice as many lines, else none.
+pub(crate) fn worth(schema: &[u64], w: usize, q: &[u8], at: usize) -> usize
+    requires { ⌜ w ≤ 18 ⌝ }
+    ensures { λ r. ⌜ r ≤ length (now (schema .entry)) ⌝ }
+{
+    if q.len() <= at {
+        return 0;
+    }
+    if schema.len() <= (q.len() - at) / (10 * w + 2) {
+        return schema.len();
+    }
+    0
+}
+
+// The table's number for the type `t`, by the decision.
+fn asked_about(rights: &[u64], list: &[usize], t: u64) -> u64
+    ensures { λ r. ⌜ ((σ : Setting) (n : Name) (w : ℕ) (p : Bytes) (scopes : List ℕ) → Rows w p (σ .items) (now (rights .entry)) scopes → Chosen σ n (now (list .entry)) → Tells σ n t r) ⌝ }
+{
+    if granted_type(rights, list, t, FILTER_MATCH) {
+        return GRANTED;
+    }
+    REFUSED
+}
+
+// A table for the first `count` types of the schema, 64 at most.
+pub(crate) fn ask(schema: &[u64], rights: &[u64], list: &[usize], count: usize) -> [u64; 64]
+    requires { ⌜ count ≤ length (now schema) ⌝ }
+    ensures { λ r. ⌜ ((σ : Setting) (n : Name) (w : ℕ) (p : Bytes) (scopes : List ℕ) → Rows w p (σ .items) (now (rights .entry)) scopes → Chosen σ n (now (list .entry)) → Asked σ n (now (schema .entry)) r) ⌝ }
+{
+    let mut table: [u64; 64] = [NOT_ASKED; 64];
+    let mut i: usize = 0;
+    while i < 64 {
+        if count <= i {
+            return table;
+        }
+        table[i] = asked_about(rights, list, schema[i] / 4);
+        i += 1;
+    }
+    table
+}
+
+// The table's number for the type `t`.
+fn told(schema: &[u64], table: &[u64], t: u64) -> u64
+    ensures { λ r. ⌜ ((σ : Setting) (n : Name) → Asked σ n (now (schema .entry)) (now (table .entry)) → Tells σ n t r) ⌝ }
+{
+    let mut i: usize = 0;
+    while i < table.len() {
+        if schema.len() <= i {
+            return NOT_ASKED;
+        }
+        if schema[i] / 4 == t {
+            return table[i];
+        }
+        i += 1;
+    }
+    NOT_ASKED
+}
+
+// Is FilterMatch granted on the type `t`?
+pub(crate) fn type_granted(
+    schema: &[u64],
+    rights: &[u64],
+    list: &[usize],
+    table: &[u64],
+    t: u64,
+) -> bool
+    ensures { λ r. ⌜ ((σ : Setting) (n : Name) (w : ℕ) (p : Bytes) (scopes : List ℕ) → Rows w p (σ .items) (now (rights .entry)) scopes → Chosen σ n (now (list .entry)) → Asked σ n (now (schema .entry)) (now (table .entry)) → r ≡ granted σ n (ofType t) FilterMatch) ⌝ }
+{
+    let answer = told(schema, table, t);
+    if answer == GRANTED {
+        return true;
+    }
+    if answer == REFUSED {
+        return false;
+    }
+    granted_type(rights, list, t, FILTER_MATCH)
+}
