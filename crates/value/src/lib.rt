@@ -1,5 +1,6 @@
 // A value by its syntax: what the syntax allows, equality, order and substrings (document 01, "Values").
 mod compare;
+pub mod digest;
 mod numeral;
 mod pieces;
 mod text;
