@@ -24,7 +24,7 @@ use Rattle.rules.specs.declared.Front.{Front}
 use Rattle.rules.specs.declared.Front.the-variants.{Taken, NotInForm, End}
 use Rattle.directory.specs.Judged.{EntryNoted, Noted, Judged}
 use Rattle.directory.specs.Lines.{judgedFrom, lineHere, taken-wide, judged-refused, judged-on, judged-broken, judged-end, entry-columns}
-use Rattle.directory.specs.Mark.{Mark, mark, Within, digest, digest-bound, lastIn}
+use Rattle.directory.specs.Mark.{Mark, mark, Within, bucketAt, bucket-bound, lastIn}
 use Rattle.directory.specs.Schema.{Rising}
 use Rattle.directory.specs.Types.{typed, TypesStopped}
 use Rattle.directory.specs.Twins.{keyOf, any-snoc, Named, named-start, named-entry, valued-none}
@@ -177,8 +177,8 @@ module _ {w : ℕ} {s : Bytes} {ks : List ℕ} {notes : Notes} {depths marks hea
     pub standing-room : (notes .count < 256) × (a ≤ notes .count) × (getD depths a 0 < 8) × (n < 10923) × (r .bucket < 2048) × (i + (5 * w + 1 + l) ≤ length s)
     standing-room =
         let t = taking .0 in
-        let bucket : r .bucket ≡ digest (keyOf ks a b) (valueOf w l (drop i s)) = ap (λ (y : Ruling). y .bucket) (t .ruling) in
-        (t .room, t .parent, t .level, omega (arith, st .marked, st .ready .room), rw bucket (digest-bound _ _), fits-here .1)
+        let bucket : r .bucket ≡ bucketAt (keyOf ks a b) (valueOf w l (drop i s)) = ap (λ (y : Ruling). y .bucket) (t .ruling) in
+        (t .room, t .parent, t .level, omega (arith, st .marked, st .ready .room), rw bucket (bucket-bound _ _), fits-here .1)
 
     -- its value lines follow
     pub standing-begun : Begun w s ks (set marks n (r .mark)) (set heads (r .bucket) (n + 1)) (n + 1) e es d (m ∷ ms)

@@ -1,21 +1,20 @@
 -- Marks: each entry line and value line taken leaves one, and an equal value is looked for among those of its bucket alone. The marks are
 -- given newest first; in the code mark number k (from 1) stands at k - 1, with the number of the mark before it in its bucket.
-use Prim.Native.Nat.{ℕ, zero, suc, _+_, _-_, _*_, _/_, _%_, _≤_, _<_}
+use Prim.Native.Nat.{ℕ, suc, _+_, _-_, _*_, _/_, _%_, _≤_, _<_}
 use mathlib.Core.Path.{_≡_, refl, sym, ap, ap₂, _∙_, subst}
 use mathlib.Core.Bool.{Bool, true, false, _&&_, _||_, cond}
-use mathlib.Core.List.{List, [], _∷_, _++_, map}
+use mathlib.Core.List.{List, [], _∷_}
 use native.Mathlib.Omega.{arith}
-use native.Mathlib.Numerals.{add-one}
 use native.Mathlib.Decide.{ℕ-discrete}
-use lib.Dec.{eqb, leb}
-use lib.ListN.{length, getD, drop, set, length-set, drop-of-length-le}
-use lib.Seq.{drop-cons, getD-set-same, getD-set-other}
-use borrow.Author.Tests.{eq-eqb, ne-eqb, eqb-true, eqb-false, leb-true, leb-false}
+use lib.Dec.{eqb}
+use lib.ListN.{length, getD, drop, set, length-set}
+use lib.Seq.{getD-set-same, getD-set-other}
+use borrow.Author.Tests.{eq-eqb, ne-eqb, eqb-true}
 use Rattle.rules.specs.Lists.{any}
 use Rattle.rules.specs.Sheet.{Bytes, valueOf}
-use Rattle.rules.specs.Value.{text, small, normal, same}
+use Rattle.rules.specs.Value.{same}
 use Rattle.rules.specs.Laws.Tests.{and-left, and-right, contra}
-use Rattle.rules.specs.Laws.Value.{identical-eq}
+use Rattle.value.specs.Digest.{digest, digest-same}
 
 -- the owner and type of a value as one number, and the position and length of its line
 pub record Mark : Type 0 where
@@ -31,54 +30,19 @@ bytesOf w s m = valueOf w (m .size) (drop (m .place) s)
 
 -- ---- buckets
 
--- a letter and its capital differ by 32
-unfoldable pub digest : ℕ → Bytes → ℕ
-digest h [] = h % 2048
-digest h (b ∷ bs) = digest ((h * 33 + b % 32) % 65536) bs
+-- the bucket of a value under a key
+abbrev pub bucketAt : ℕ → Bytes → ℕ
+bucketAt key v = digest key v % 2048
 
 abbrev pub bucketOf : ℕ → Bytes → Mark → ℕ
-bucketOf w s m = digest (m .key) (bytesOf w s m)
+bucketOf w s m = bucketAt (m .key) (bytesOf w s m)
 
-pub digest-bound : (h : ℕ) (v : Bytes) → digest h v < 2048
-unfolding digest
-digest-bound h [] = omega arith
-digest-bound h (b ∷ bs) = digest-bound ((h * 33 + b % 32) % 65536) bs
-
--- at a place of a value
-pub digest-on : (v : Bytes) (i h : ℕ) → i < length v → digest h (drop i v) ≡ digest ((h * 33 + getD v i 0 % 32) % 65536) (drop (i + 1) v)
-unfolding digest
-digest-on v i h l = rw (add-one, drop-cons v i 0)
-
-pub digest-end : (v : Bytes) (i h : ℕ) → length v ≤ i → digest h (drop i v) ≡ h % 2048
-unfolding digest
-digest-end v i h l = rw drop-of-length-le
-
-small-low : (b : ℕ) → small b % 32 ≡ b % 32
-unfolding small
-small-low b = go (leb 65 b) (leb b 90)
-  where
-    go : (t u : Bool) → cond t (cond u (b + 32) b) b % 32 ≡ b % 32
-    go true true = omega arith
-    go true false = refl
-    go false u = refl
-
-digest-small : (h : ℕ) (v : Bytes) → digest h (map small v) ≡ digest h v
-unfolding digest
-digest-small h [] = refl
-digest-small h (b ∷ bs) = ap (λ (x : ℕ). digest ((h * 33 + x) % 65536) (map small bs)) (small-low b) ∙ digest-small ((h * 33 + b % 32) % 65536) bs
-
-digest-normal : (h s : ℕ) (v : Bytes) → digest h (normal s v) ≡ digest h v
-unfolding normal
-digest-normal h s v = go (eqb s text)
-  where
-    go : (t : Bool) → digest h (cond t (map small v) v) ≡ digest h v
-    go true = digest-small h v
-    go false = refl
+pub bucket-bound : (key : ℕ) (v : Bytes) → bucketAt key v < 2048
+bucket-bound key v = omega arith
 
 -- equal values have one bucket
-pub digest-same : (h s : ℕ) (u v : Bytes) → same s u v ≡ true → digest h u ≡ digest h v
-unfolding same
-digest-same h s u v e = sym (digest-normal h s u) ∙ ap (digest h) (identical-eq (normal s u) (normal s v) e) ∙ digest-normal h s v
+bucket-same : (key s : ℕ) (u v : Bytes) → same s u v ≡ true → bucketAt key u ≡ bucketAt key v
+bucket-same key s u v e = ap (λ (d : ℕ). d % 2048) (digest-same key s u v e)
 
 -- ---- a mark as a number
 
@@ -150,7 +114,7 @@ module _ {w : ℕ} {s : Bytes} {marks heads : List ℕ} {n : ℕ} {ms : List Mar
     where
       go : Dec (b′ ≡ bucketOf w s m) → getD (set heads (bucketOf w s m) (n + 1)) b′ 0 ≡ cond (eqb (bucketOf w s m) b′) (suc (length ms)) (lastIn w s b′ ms)
       go (yes e) =
-          let k : bucketOf w s m < length heads = omega (arith, c .buckets, digest-bound (m .key) (bytesOf w s m)) in
+          let k : bucketOf w s m < length heads = omega (arith, c .buckets, bucket-bound (m .key) (bytesOf w s m)) in
           rw (e, eq-eqb (bucketOf w s m) (bucketOf w s m) refl, getD-set-same heads (bucketOf w s m) (n + 1) 0 k) (omega (arith, c .count))
       go (no e) = rw (ne-eqb (bucketOf w s m) b′ (λ q. e (sym q)), getD-set-other heads (bucketOf w s m) b′ (n + 1) 0 e) (c .newest b′ l)
 
@@ -162,7 +126,7 @@ module _ {w : ℕ} {s : Bytes} {marks heads : List ℕ} {n : ℕ} {ms : List Mar
     chained = (
       ap (λ (k : ℕ). getD (set marks n (packed m (getD heads (bucketOf w s m) 0))) k 0) (c .count)
           ∙ getD-set-same marks n _ 0 (omega (arith, c .marked))
-          ∙ ap (packed m) (c .newest (bucketOf w s m) (digest-bound (m .key) (bytesOf w s m))),
+          ∙ ap (packed m) (c .newest (bucketOf w s m) (bucket-bound (m .key) (bytesOf w s m))),
       within,
       chained-set w s marks n _ ms (omega (arith, c .count)) (c .chained),
     );
@@ -175,10 +139,10 @@ module _ {w : ℕ} {s : Bytes} {marks heads : List ℕ} {n : ℕ} {ms : List Mar
 abbrev pub twin : ℕ → Bytes → ℕ → ℕ → Bytes → Mark → Bool
 twin w s syntax key v m = eqb (m .key) key && same syntax (bytesOf w s m) v
 
-twin-bucket : (w : ℕ) (s : Bytes) (syntax key : ℕ) (v : Bytes) (m : Mark) → twin w s syntax key v m ≡ true → bucketOf w s m ≡ digest key v
+twin-bucket : (w : ℕ) (s : Bytes) (syntax key : ℕ) (v : Bytes) (m : Mark) → twin w s syntax key v m ≡ true → bucketOf w s m ≡ bucketAt key v
 twin-bucket w s syntax key v m e =
-    ap (λ (k : ℕ). digest k (bytesOf w s m)) (eqb-true (m .key) key (and-left (eqb (m .key) key) _ e))
-    ∙ digest-same key syntax (bytesOf w s m) v (and-right (eqb (m .key) key) _ e)
+    ap (λ (k : ℕ). bucketAt k (bytesOf w s m)) (eqb-true (m .key) key (and-left (eqb (m .key) key) _ e))
+    ∙ bucket-same key syntax (bytesOf w s m) v (and-right (eqb (m .key) key) _ e)
 
 -- the newest of `ms` is in bucket `b`
 abbrev pub Top : ℕ → Bytes → ℕ → List Mark → Type 0
@@ -190,23 +154,23 @@ pub record Left (w : ℕ) (s : Bytes) (marks : List ℕ) (syntax key : ℕ) (v :
   pub count : length ms ≡ k
   pub most : length ms ≤ length all
   pub chained : Chained w s marks ms
-  pub top : Top w s (digest key v) ms
+  pub top : Top w s (bucketAt key v) ms
   pub twins : any (twin w s syntax key v) ms ≡ any (twin w s syntax key v) all
 
 module _ (w : ℕ) (s : Bytes) (marks : List ℕ) (syntax key : ℕ) (v : Bytes) where
   -- down to the newest mark in the bucket
-  pub down : (ms : List Mark) → Chained w s marks ms → (rest : List Mark) × Left w s marks syntax key v (lastIn w s (digest key v) ms) ms rest
+  pub down : (ms : List Mark) → Chained w s marks ms → (rest : List Mark) × Left w s marks syntax key v (lastIn w s (bucketAt key v) ms) ms rest
   unfolding lastIn
   down [] h = ([], record { count = refl; most = omega arith; chained = tt; top = tt; twins = refl })
-  down (m ∷ ms) h = go (eqb (bucketOf w s m) (digest key v)) refl (down ms (h .2))
+  down (m ∷ ms) h = go (eqb (bucketOf w s m) (bucketAt key v)) refl (down ms (h .2))
     where
-      go : (t : Bool) → eqb (bucketOf w s m) (digest key v) ≡ t
-          → (rest : List Mark) × Left w s marks syntax key v (lastIn w s (digest key v) ms) ms rest
-          → (rest : List Mark) × Left w s marks syntax key v (cond t (suc (length ms)) (lastIn w s (digest key v) ms)) (m ∷ ms) rest
+      go : (t : Bool) → eqb (bucketOf w s m) (bucketAt key v) ≡ t
+          → (rest : List Mark) × Left w s marks syntax key v (lastIn w s (bucketAt key v) ms) ms rest
+          → (rest : List Mark) × Left w s marks syntax key v (cond t (suc (length ms)) (lastIn w s (bucketAt key v) ms)) (m ∷ ms) rest
       go true e r = (m ∷ ms, record { count = refl; most = omega arith; chained = h; top = eqb-true _ _ e; twins = refl })
       go false e r =
           let l = r .1 in
-          let off : twin w s syntax key v m ≡ false = contra _ (eqb (bucketOf w s m) (digest key v)) (λ q. eq-eqb _ _ (twin-bucket w s syntax key v m q)) e in
+          let off : twin w s syntax key v m ≡ false = contra _ (eqb (bucketOf w s m) (bucketAt key v)) (λ q. eq-eqb _ _ (twin-bucket w s syntax key v m q)) e in
           (r .0, record { count = l .count; most = omega (arith, l .most); chained = l .chained; top = l .top; twins = l .twins ∙ ap (λ (b : Bool). b || any (twin w s syntax key v) ms) (sym off) })
 
 -- the mark of number `x` has this key and an equal value
@@ -226,7 +190,7 @@ Walkable w s marks head bucket = (all : List Mark) × Walk w s marks head bucket
 
 -- whether one of the marks has this key and an equal value
 abbrev pub Answers : ℕ → Bytes → List ℕ → ℕ → ℕ → ℕ → Bytes → Bool → Type 0
-Answers w s marks head syntax key v found = (all : List Mark) → Walk w s marks head (digest key v) all → found ≡ any (twin w s syntax key v) all
+Answers w s marks head syntax key v found = (all : List Mark) → Walk w s marks head (bucketAt key v) all → found ≡ any (twin w s syntax key v) all
 
 -- the number `x` is that of mark `m`, of which `rest` are older
 pub record Here (w : ℕ) (s : Bytes) (marks : List ℕ) (syntax key : ℕ) (v : Bytes) (k : ℕ) (all : List Mark) (x : ℕ) (m : Mark) (rest : List Mark) : Type 0 where
@@ -234,10 +198,10 @@ pub record Here (w : ℕ) (s : Bytes) (marks : List ℕ) (syntax key : ℕ) (v :
   pub below : suc (length rest) ≤ length all
   pub chained : Chained w s marks rest
   pub within : Within w s m
-  pub number : x ≡ packed m (lastIn w s (digest key v) rest)
+  pub number : x ≡ packed m (lastIn w s (bucketAt key v) rest)
   pub twins : (twin w s syntax key v m || any (twin w s syntax key v) rest) ≡ any (twin w s syntax key v) all
 
-module _ {w : ℕ} {s : Bytes} {marks : List ℕ} {syntax key : ℕ} {v : Bytes} {head : ℕ} {all : List Mark} (walk : Walk w s marks head (digest key v) all) where
+module _ {w : ℕ} {s : Bytes} {marks : List ℕ} {syntax key : ℕ} {v : Bytes} {head : ℕ} {all : List Mark} (walk : Walk w s marks head (bucketAt key v) all) where
   pub start : (rest : List Mark) × Left w s marks syntax key v head all rest
   start = subst (λ (k : ℕ). (rest : List Mark) × Left w s marks syntax key v k all rest) (sym (walk .newest)) (down w s marks syntax key v all (walk .chained))
 
@@ -266,8 +230,8 @@ module _ {w : ℕ} {s : Bytes} {marks : List ℕ} {syntax key : ℕ} {v : Bytes}
     gone (m ∷ rest) l z = absurd (omega (arith, l .count))
 
     module _ {x : ℕ} {m : Mark} {rest : List Mark} (h : Here w s marks syntax key v k all x m rest) where
-      bound : (m .place < 65536) × (m .size < 128) × (lastIn w s (digest key v) rest < 16384)
-      bound = omega (arith, h .within .size, h .within .line, walk .sheet, walk .most, h .below, last-most w s (digest key v) rest)
+      bound : (m .place < 65536) × (m .size < 128) × (lastIn w s (bucketAt key v) rest < 16384)
+      bound = omega (arith, h .within .size, h .within .line, walk .sheet, walk .most, h .below, last-most w s (bucketAt key v) rest)
 
       pub key-is : x / 137438953472 ≡ m .key
       key-is = ap (λ (n : ℕ). n / 137438953472) (h .number) ∙ packed-key m _ (bound .0) (bound .1) (bound .2)
@@ -278,7 +242,7 @@ module _ {w : ℕ} {s : Bytes} {marks : List ℕ} {syntax key : ℕ} {v : Bytes}
       pub size-is : x / 16384 % 128 ≡ m .size
       size-is = ap (λ (n : ℕ). n / 16384 % 128) (h .number) ∙ packed-size m _ (bound .0) (bound .1) (bound .2)
 
-      pub next-is : x % 16384 ≡ lastIn w s (digest key v) rest
+      pub next-is : x % 16384 ≡ lastIn w s (bucketAt key v) rest
       next-is = ap (λ (n : ℕ). n % 16384) (h .number) ∙ packed-head m _ (bound .0) (bound .1) (bound .2)
 
       -- its line may be read
@@ -287,7 +251,7 @@ module _ {w : ℕ} {s : Bytes} {marks : List ℕ} {syntax key : ℕ} {v : Bytes}
 
       -- the next is older
       pub older : x % 16384 < k
-      older = omega (arith, next-is, last-most w s (digest key v) rest, h .count)
+      older = omega (arith, next-is, last-most w s (bucketAt key v) rest, h .count)
 
       bears-is : bears w s syntax key v x ≡ twin w s syntax key v m
       bears-is = ap₂ (λ (k : ℕ) (u : Bytes). eqb k key && same syntax u v) key-is (rw (place-is, size-is))

@@ -20,7 +20,7 @@ use Rattle.rules.specs.Places.{schemaOf}
 use Rattle.rules.specs.declared.Front.the-variants.{Taken}
 use Rattle.sheet.specs.Columns.{inFormOf}
 use Rattle.directory.specs.Lines.{lineHere, formed, step-form, step-type, step-entry, step-value, other-columns}
-use Rattle.directory.specs.Mark.{Mark, mark, digest, digest-bound, bucketOf, packed, Within, Chain, chain-more, Walk, Answers, twin, last-most}
+use Rattle.directory.specs.Mark.{Mark, mark, bucketAt, bucket-bound, bucketOf, packed, Within, Chain, chain-more, Walk, Answers, twin, last-most}
 use Rattle.directory.specs.Schema.{rankOf, rank-most, Rising, Known, allowed-known}
 use Rattle.directory.specs.Twins.{ownerOf, keyOf, twins, Named, Valued}
 use Rattle.directory.specs.declared.entry.Ruling.{Ruling}
@@ -33,7 +33,7 @@ refusing n = record { refusal = n; rank = 0; bucket = 0; mark = 0 }
 -- the value's mark
 abbrev pub marking : ℕ → Bytes → List ℕ → List ℕ → ℕ → ℕ → ℕ → ℕ → Ruling
 marking w s ks heads owner t at size =
-    let bucket = digest (keyOf ks owner t) (valueOf w size (drop at s)) in
+    let bucket = bucketAt (keyOf ks owner t) (valueOf w size (drop at s)) in
     record { refusal = 0; rank = rankOf ks t; bucket = bucket; mark = packed (mark (keyOf ks owner t) at size) (getD heads bucket 0) }
 
 -- a value that the schema allows and its owner does not have yet
@@ -131,13 +131,13 @@ module _ {w : ℕ} {s : Bytes} {ks marks heads : List ℕ} {at size : ℕ} (aske
   unfolding ruledOf
   ruled-unfit a ms = let f = ap (λ (v : Bytes). allowed (schemaOf ks) t v) (sym here) ∙ a in rw f
 
-  module _ (bucket : ℕ) (bucket-is : bucket ≡ digest (owner * 64 + rank) u) where
+  module _ (bucket : ℕ) (bucket-is : bucket ≡ bucketAt (owner * 64 + rank) u) where
     pub bucket-within : bucket < length heads
-    bucket-within = omega (arith, bucket-is, digest-bound (owner * 64 + rank) u, asked .ready .chain .buckets)
+    bucket-within = omega (arith, bucket-is, bucket-bound (owner * 64 + rank) u, asked .ready .chain .buckets)
 
     pub head-small : getD heads bucket 0 < 10923
-    head-small = let walk = walk-of (asked .ready) (digest (owner * 64 + rank) u) bucket bucket-is (digest-bound _ u) in
-        omega (arith, walk .newest, last-most w s (digest (owner * 64 + rank) u) (asked .all), asked .ready .room)
+    head-small = let walk = walk-of (asked .ready) (bucketAt (owner * 64 + rank) u) bucket bucket-is (bucket-bound _ u) in
+        omega (arith, walk .newest, last-most w s (bucketAt (owner * 64 + rank) u) (asked .all), asked .ready .room)
 
     -- its numbers make one number
     pub mark-small : (owner * 64 + rank < 65536) × (at ≤ 65536) × (size ≤ 64) × (getD heads bucket 0 < 10923)
@@ -150,7 +150,7 @@ module _ {w : ℕ} {s : Bytes} {ks marks heads : List ℕ} {at size : ℕ} (aske
 
       twins-are : found ≡ twins w s ks owner t (valueOf w size (drop at s)) ms
       twins-are =
-          answers ms (walk-of ready (digest (owner * 64 + rank) u) bucket bucket-is (digest-bound _ u))
+          answers ms (walk-of ready (bucketAt (owner * 64 + rank) u) bucket bucket-is (bucket-bound _ u))
           ∙ ap₂ (λ (r : ℕ) (v : Bytes). any (twin w s (getD ks r 0 % 4) (owner * 64 + r) v) ms) is here
 
       pub ruled-twice : found ≡ true → refusing 5 ≡ ruledOf w s ks heads owner t at size ms

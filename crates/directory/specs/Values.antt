@@ -19,7 +19,7 @@ use Rattle.rules.specs.Laws.Sheet.{taken-fits}
 use Rattle.rules.specs.declared.Front.{Front}
 use Rattle.rules.specs.declared.Front.the-variants.{Taken, NotInForm, End}
 use Rattle.directory.specs.Lines.{judgedFrom, lineHere, taken-wide, judged-refused, judged-on, values-on, values-none}
-use Rattle.directory.specs.Mark.{Mark, mark, digest, digest-bound, Within}
+use Rattle.directory.specs.Mark.{Mark, mark, bucketAt, bucket-bound, Within}
 use Rattle.directory.specs.Schema.{rankOf, syntaxOf, Known, allowed-known}
 use Rattle.directory.specs.Twins.{ownerOf, keyOf, any-snoc, last-snoc, Named, Valued, part-same, named-value, valued-more}
 use Rattle.directory.specs.Rulings.{Ready, reading, filled, marking, valueRuling, Refused, ValueTaken, ValueOutcome, value-outcome, ready-more}
@@ -171,9 +171,9 @@ module _ {w : ℕ} {s : Bytes} {ks marks₀ heads₀ marks heads : List ℕ} {n�
     going-room =
         let t = taking z .0 in
         let q = allowed-known 0 ks (g .ready .rising) a here (t .fit) in
-        let bucket : r .bucket ≡ digest (keyOf ks (ownerOf (e .number)) a) here = ap (λ (x : Ruling). x .bucket) (t .ruling) in
+        let bucket : r .bucket ≡ bucketAt (keyOf ks (ownerOf (e .number)) a) here = ap (λ (x : Ruling). x .bucket) (t .ruling) in
         let rank : r .rank ≡ rankOf ks a = ap (λ (x : Ruling). x .rank) (t .ruling) in
-        (omega (arith, g .count, g .ready .room), rw bucket (digest-bound _ here), rw rank (q .within), fits-here .1, fits-here .0)
+        (omega (arith, g .count, g .ready .room), rw bucket (bucket-bound _ here), rw rank (q .within), fits-here .1, fits-here .0)
 
     -- whether the naming value is among the values now
     pub going-on : (held′ : Bool) → held′ ≡ (held || (eqb (e .naming) a && same (getD ks (r .rank) 0 % 4) (valueOf w (e .length) (drop (e .at) s)) here))

@@ -5,18 +5,11 @@ ghost use Prim.Native.Nat.{_+_, _*_, _/_, _%_, _≤_, _<_};
 ghost use lib.ListN.{length};
 ghost use Rattle.directory.specs.Mark as Mark;
 
-// The bucket of a value under a key: letters count without case, so that equal values have one bucket in every syntax.
+// The bucket of a value under a key: equal values have one.
 pub(crate) fn bucket(key: usize, v: &[u8]) -> usize
-    requires { ⌜ key < 65536 ⌝ }
-    ensures { λ r. ⌜ r ≡ Mark.digest key (now (v .entry)) ⌝ }
+    ensures { λ r. ⌜ r ≡ Mark.bucketAt key (now (v .entry)) ⌝ }
 {
-    let mut h = key;
-    let mut i: usize = 0;
-    while i < v.len() {
-        h = (h * 33 + (v[i] % 32) as usize) % 65536;
-        i += 1;
-    }
-    h % 2048
+    (value::digest::digest(key as u64, v) % 2048) as usize
 }
 
 // Whether the mark `m` has this key and an equal value.
@@ -44,7 +37,7 @@ pub(crate) fn twin(
     syntax: u64,
     v: &[u8],
 ) -> bool
-    requires { ⌜ Mark.Walkable w (now s) (now marks) head (Mark.digest key (now v)) ⌝ }
+    requires { ⌜ Mark.Walkable w (now s) (now marks) head (Mark.bucketAt key (now v)) ⌝ }
     ensures { λ r. ⌜ Mark.Answers w (now (s .entry)) (now (marks .entry)) head syntax key (now (v .entry)) r ⌝ }
 {
     let mut k = head;

@@ -1,6 +1,6 @@
 use borrow.Author.Tests.{eq-eqb, ne-eqb, le-leb, lt-leb, lt-ltb, le-ltb, not-true, not-false}
 use Rattle.directory.specs.Rulings.{Ready, walk-of, key-small, rank-within, ruled-unfit, bucket-within, mark-small, ruled-twice, ruled-marked}
-use Rattle.directory.specs.Mark.{digest-bound}
+use Rattle.directory.specs.Mark.{bucket-bound}
 use lib.ListN.{length, getD, drop}
 use mathlib.Core.List.{List}
 use mathlib.Core.Path.{_≡_, refl, sym, ap, ap₂, _∙_}
@@ -44,7 +44,7 @@ add-key c = omega (arith, key-small (c .before .before .before .before .before .
 
 -- src/entry.rt:44:9
 bucket-requires : tie.Need-bucket-requires
-bucket-requires c κs = key-small (c .before .before .before .before .before .before .before .pre .0) (c .before .before .before .before .before .before .before .args .owner) (c .before .before .before .before .before .before .before .args .t) (c .before .before .before .before .before .before .before .args .rank) (c .before .before .before .before .before .before .before .pre .1) (c .before .before .before .before .before .before .before .pre .2) _ (c .before .before .value-at .ensures)
+bucket-requires c κs = search needs
 
 -- src/entry.rt:45:16
 mul-head : tie.Need-mul-head
@@ -64,7 +64,7 @@ shared-slice-read-twin c = rank-within (c .before .before .before .before .befor
 
 -- src/entry.rt:46:8
 twin-requires : tie.Need-twin-requires
-twin-requires c κs = (c .before .before .before .before .before .before .before .before .before .before .pre .0 .all, walk-of (c .before .before .before .before .before .before .before .before .before .before .pre .0 .ready) _ (c .before .before .bucket .result) (c .before .before .bucket .ensures) (digest-bound _ _))
+twin-requires c κs = (c .before .before .before .before .before .before .before .before .before .before .pre .0 .all, walk-of (c .before .before .before .before .before .before .before .before .before .before .pre .0 .ready) _ (c .before .before .bucket .result) (c .before .before .bucket .ensures) (bucket-bound _ _))
 
 -- src/entry.rt:47:9
 refusing-requires-2 : tie.Need-refusing-requires-2

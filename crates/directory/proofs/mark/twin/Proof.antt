@@ -16,7 +16,7 @@ use Rattle.directory.proofs.mark.twin.Lts as lts
 use Rattle.directory.proofs.mark.bears.Reads as bears-reads
 
 abbrev Inv-loop : tie.InvT-loop
-Inv-loop s w marks head key syntax v k₀ k = (all : List Mark) → Walk w s marks head (Mark.digest key v) all → (rest : List Mark) × Left w s marks syntax key v k all rest
+Inv-loop s w marks head key syntax v k₀ k = (all : List Mark) → Walk w s marks head (Mark.bucketAt key v) all → (rest : List Mark) × Left w s marks syntax key v k all rest
 
 abbrev μ-loop : tie.MeasureT-loop
 μ-loop s w marks head key syntax v k₀ k = k
