@@ -233,7 +233,7 @@ module _ (σ : Setting) (q w : ℕ) (p : Bytes) (rights scopes : List ℕ) (rows
     pub type-decided : (t : ℕ) → (passBy (typeAsked rights t q) rights none list) .clear ≡ granted σ n (ofType t) q
     type-decided t = decided σ (ofType t) q w p rights scopes rows (typeAsked rights t q) (λ k l. type-asked k l t) n list c
 
-    pub value-decided : (t : ℕ) (v : Bytes) (S : Schema) → σ .schema ≡ S → (passBy (valueAsked S w p rights t v (digest 0 v) q) rights none list) .clear ≡ granted σ n (ofValue t v) q
-    value-decided t v S e =
-        ap (λ (S : Schema). (passBy (valueAsked S w p rights t v (digest 0 v) q) rights none list) .clear) (sym e)
+    pub value-decided : (t : ℕ) (v : Bytes) (d : ℕ) → d ≡ digest 0 v → (S : Schema) → σ .schema ≡ S → (passBy (valueAsked S w p rights t v d q) rights none list) .clear ≡ granted σ n (ofValue t v) q
+    value-decided t v d f S e =
+        ap₂ (λ (d : ℕ) (S : Schema). (passBy (valueAsked S w p rights t v d q) rights none list) .clear) f (sym e)
         ∙ decided σ (ofValue t v) q w p rights scopes rows (valueAsked (σ .schema) w p rights t v (digest 0 v) q) (λ k l. value-asked k l t v) n list c
