@@ -14,7 +14,7 @@ use Rattle.permissions.specs.Noted.{Row, blank}
 -- the rows of the items on the sheet `p`
 pub record Rows (w : ℕ) (p : Bytes) (is : List Item) (rights scopes : List ℕ) : Type 0 where
   pub room : length is * 8 ≤ length rights
-  pub row : (k : ℕ) → k < length is → Row w p (getD is k blank) (λ j. getD rights (k * 8 + j) 0) (λ j. getD scopes (k * 6 + j) 0)
+  pub row : (k : ℕ) → k < length is → Row w p (getD is k blank) (λ j. getD rights (k * 8 + j) 0) (λ j. getD scopes (k * 7 + j) 0)
 
 -- `list` has the numbers of the items that concern the entry with the full name `n`, in order
 pub record Chosen (σ : Setting) (n : Name) (list : List ℕ) : Type 0 where

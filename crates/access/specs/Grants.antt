@@ -19,8 +19,10 @@ use Rattle.rules.specs.Laws.Decision.{weight, weigh, weighAll, start, concerns,
 use Rattle.rules.specs.Laws.Decision as Rules
 use Rattle.rules.specs.Laws.Tests.{bool-ext}
 use Rattle.rules.specs.Laws.Name.{equal-sym}
+use Rattle.value.specs.Digest.{digest}
 use Rattle.permissions.specs.Noted.{Row, bit, blank}
 use Rattle.access.specs.Chosen.{Rows, Chosen}
+use Rattle.access.specs.Digests.{digest-first}
 use Rattle.access.specs.Entries.{equalAt, equal-within}
 use Rattle.access.specs.declared.grant.Standing.{Standing}
 
@@ -65,10 +67,14 @@ typeAsked rights t q at = typeCovered (getD rights (at + 3) 0) (getD rights (at 
 unfoldable pub valueCovered : ℕ → ℕ → ℕ → Bool
 valueCovered what type t = eqb what 2 || (eqb type t && (eqb what 4 || eqb what 5))
 
-unfoldable pub valueAsked : Schema → ℕ → Bytes → List ℕ → ℕ → Bytes → ℕ → ℕ → Bool
-valueAsked S w p rights t v q at =
+-- the item's value and `v`, whose digest is `d`, are equal
+abbrev pub valueEqual : Schema → ℕ → Bytes → List ℕ → ℕ → Bytes → ℕ → ℕ → Bool
+valueEqual S w p rights t v d at = eqb (getD rights (at + 1) 0) d && equalAt S w p (getD rights (at + 6) 0) (getD rights (at + 7) 0) t v
+
+unfoldable pub valueAsked : Schema → ℕ → Bytes → List ℕ → ℕ → Bytes → ℕ → ℕ → ℕ → Bool
+valueAsked S w p rights t v d q at =
     valueCovered (getD rights (at + 3) 0) (getD rights (at + 4) 0) t
-    && (permits (getD rights (at + 5) 0) q && cond (eqb (getD rights (at + 3) 0) 5) (equalAt S w p (getD rights (at + 6) 0) (getD rights (at + 7) 0) t v) true)
+    && (permits (getD rights (at + 5) 0) q && cond (eqb (getD rights (at + 3) 0) 5) (valueEqual S w p rights t v d at) true)
 
 -- ---- the loop
 
@@ -184,15 +190,17 @@ module _ (σ : Setting) (q w : ℕ) (p : Bytes) (rights scopes : List ℕ) (rows
         let R = rows .row k l in
         ap₂ _&&_ (ap₂ (λ (m y : ℕ). eqb m 1 || (eqb m 2 || eqb m 3 && eqb y t)) (R .what) (R .type)) (ap (λ (m : ℕ). eqb (m / q % 2) 1) (R .permissions))
 
-    value-asked : (t : ℕ) (v : Bytes) → valueAsked (σ .schema) w p rights t v q (k * 8) ≡ answers σ (ofValue t v) q (getD (σ .items) k blank)
+    value-asked : (t : ℕ) (v : Bytes) → valueAsked (σ .schema) w p rights t v (digest 0 v) q (k * 8) ≡ answers σ (ofValue t v) q (getD (σ .items) k blank)
     unfolding valueAsked valueCovered permits answers whatCovers names
     value-asked t v =
         let R = rows .row k l in
         let i : Item = getD (σ .items) k blank in
         let in-range : getD rights (k * 8 + 6) 0 + (5 * w + getD rights (k * 8 + 7) 0) ≤ length p = R .value-within in
-        let here : equalAt (σ .schema) w p (getD rights (k * 8 + 6) 0) (getD rights (k * 8 + 7) 0) t v ≡ equal (σ .schema) t (i .value) v
-        = equal-within (σ .schema) w p (getD rights (k * 8 + 6) 0) (getD rights (k * 8 + 7) 0) t v in-range ∙ ap (equal (σ .schema) t v) (R .value) ∙ flip v (i .value) in
-        ap₂ (λ (m y : ℕ). (eqb m 2 || (eqb y t && (eqb m 4 || eqb m 5))) && (eqb (getD rights (k * 8 + 5) 0 / q % 2) 1 && cond (eqb m 5) (equalAt (σ .schema) w p (getD rights (k * 8 + 6) 0) (getD rights (k * 8 + 7) 0) t v) true)) (R .what) (R .type)
+        let here : valueEqual (σ .schema) w p rights t v (digest 0 v) (k * 8) ≡ equal (σ .schema) t (i .value) v
+        = ap₂ (λ (m : ℕ) (e : Bool). eqb m (digest 0 v) && e) (R .digest)
+            (equal-within (σ .schema) w p (getD rights (k * 8 + 6) 0) (getD rights (k * 8 + 7) 0) t v in-range ∙ ap (equal (σ .schema) t v) (R .value) ∙ flip v (i .value))
+        ∙ digest-first (σ .schema) t (i .value) v in
+        ap₂ (λ (m y : ℕ). (eqb m 2 || (eqb y t && (eqb m 4 || eqb m 5))) && (eqb (getD rights (k * 8 + 5) 0 / q % 2) 1 && cond (eqb m 5) (valueEqual (σ .schema) w p rights t v (digest 0 v) (k * 8)) true)) (R .what) (R .type)
         ∙ ap₂ (λ (m : ℕ) (e : Bool). (eqb (i .what) 2 || (eqb (i .type) t && (eqb (i .what) 4 || eqb (i .what) 5))) && (eqb (m / q % 2) 1 && cond (eqb (i .what) 5) e true)) (R .permissions) here
         ∙ regroup (i .what) (eqb (i .type) t) (eqb (i .permissions / q % 2) 1) (equal (σ .schema) t (i .value) v)
       where
@@ -225,7 +233,7 @@ module _ (σ : Setting) (q w : ℕ) (p : Bytes) (rights scopes : List ℕ) (rows
     pub type-decided : (t : ℕ) → (passBy (typeAsked rights t q) rights none list) .clear ≡ granted σ n (ofType t) q
     type-decided t = decided σ (ofType t) q w p rights scopes rows (typeAsked rights t q) (λ k l. type-asked k l t) n list c
 
-    pub value-decided : (t : ℕ) (v : Bytes) (S : Schema) → σ .schema ≡ S → (passBy (valueAsked S w p rights t v q) rights none list) .clear ≡ granted σ n (ofValue t v) q
-    value-decided t v S e =
-        ap (λ (S : Schema). (passBy (valueAsked S w p rights t v q) rights none list) .clear) (sym e)
-        ∙ decided σ (ofValue t v) q w p rights scopes rows (valueAsked (σ .schema) w p rights t v q) (λ k l. value-asked k l t v) n list c
+    pub value-decided : (t : ℕ) (v : Bytes) (d : ℕ) → d ≡ digest 0 v → (S : Schema) → σ .schema ≡ S → (passBy (valueAsked S w p rights t v d q) rights none list) .clear ≡ granted σ n (ofValue t v) q
+    value-decided t v d f S e =
+        ap₂ (λ (d : ℕ) (S : Schema). (passBy (valueAsked S w p rights t v d q) rights none list) .clear) f (sym e)
+        ∙ decided σ (ofValue t v) q w p rights scopes rows (valueAsked (σ .schema) w p rights t v (digest 0 v) q) (λ k l. value-asked k l t v) n list c

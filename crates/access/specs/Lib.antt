@@ -3,6 +3,7 @@ pub mod Chosen
 pub mod Names
 pub mod Reach
 pub mod Scopes
+pub mod Digests
 pub mod Grants
 pub mod World
 pub mod Matched

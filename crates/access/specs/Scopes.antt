@@ -43,7 +43,7 @@ whoBy who c n m = cond (eqb who 0) true (cond (eqb who 2) true (cond (eqb who 1)
 
 unfoldable pub askedBy : Schema → ℕ → Bytes → List ℕ → ℕ → List ℕ → ℕ → Bytes → ℕ → ℕ → ℕ → Bool
 askedBy S w p rights r scopes s q level place parts =
-    levelBy (getD rights (r + 2) 0) (getD rights (r + 1) 0) level
+    levelBy (getD rights (r + 2) 0) (getD scopes (s + 6) 0) level
     && whoBy (getD scopes (s + 3) 0) (covers S (partsOf (getD scopes (s + 5) 0) (linesAt w p (getD scopes (s + 4) 0))) (partsOf parts (linesAt w q place))) (getD scopes (s + 5) 0) parts
 
 -- ---- the reach of the base
@@ -222,7 +222,7 @@ module _ (schema : List ℕ) (w : ℕ) (d p q : Bytes) (at parents naming length
   -- one item more
   pub resolved-on : (k : ℕ) (list : List ℕ) (o x : ℕ) → k < length list → k < count → Resolved k list
       → ((es : List Stored) → EntriesAt w d es at parents naming lengths → o ≡ numberOr0 (walk (schemaOf schema) es 0 (partsOf parts (linesAt w q place))))
-      → ((es : List Stored) → EntriesAt w d es at parents naming lengths → x ≡ itemBy (schemaOf schema) es parents w p rights (k * 8) scopes (k * 6) q level place parts o)
+      → ((es : List Stored) → EntriesAt w d es at parents naming lengths → x ≡ itemBy (schemaOf schema) es parents w p rights (k * 8) scopes (k * 7) q level place parts o)
       → Resolved (k + 1) (set list k x)
   resolved-on k list o x l m inv own item = record { front = λ σ es a e rows c. turn σ es a e rows c }
     where
@@ -232,7 +232,7 @@ module _ (schema : List ℕ) (w : ℕ) (d p q : Bytes) (at parents naming length
           let n : k < length (σ .items) = omega arith in
           let g : k < length (map (reachOf σ es) (σ .items)) = subst (λ (m : ℕ). k < m) (sym (length-map (σ .items) (reachOf σ es))) n in
           let y : x ≡ reachOf σ es (getD (σ .items) k blank)
-          = item es e ∙ item-is σ es schema w d p q at parents naming lengths rights scopes (k * 8) (k * 6) level place parts o (getD (σ .items) k blank) a e (rows .row k n) (own es e) in
+          = item es e ∙ item-is σ es schema w d p q at parents naming lengths rights scopes (k * 8) (k * 7) level place parts o (getD (σ .items) k blank) a e (rows .row k n) (own es e) in
           rw (add-one k)
           (take-suc-set list k x l
           ∙ ap₂ (λ (h : List ℕ) (y : ℕ). h ++ (y ∷ [])) (inv .front σ es a e rows c) (y ∙ sym (List·getD-map (reachOf σ es) (σ .items) k blank))

@@ -1,6 +1,7 @@
 // The decision about one thing of an entry: one pass over the rows of rights of the items that concern the entry, with the greatest weight so far.
-// Bytes are compared last, and only for an item about one value.
+// Bytes are compared last, and only for an item about one value with the same digest.
 use super::entries::equal_at;
+use permissions::DIGEST;
 use permissions::GRANTS;
 use permissions::LENGTH;
 use permissions::PERMISSIONS;
@@ -112,7 +113,7 @@ fn value_covered(what: u64, of: u64, t: u64) -> bool
     what == 5
 }
 
-// Does the row at `at` answer a question about the value `v` of the type `t`?
+// Does the row at `at` answer a question about the value `v` of the type `t`, whose digest is `digest`?
 fn value_asked(
     schema: &[u64],
     w: usize,
@@ -120,17 +121,21 @@ fn value_asked(
     rights: &[u64],
     t: u64,
     v: &[u8],
+    digest: u64,
     q: u64,
     at: usize,
 ) -> bool
     requires { ⌜ (w ≤ 18) × (1 ≤ q) × (at + 8 ≤ length (now rights)) ⌝ }
-    ensures { λ r. ⌜ r ≡ valueAsked (schemaOf (now (schema .entry))) w (now (p .entry)) (now (rights .entry)) t (now (v .entry)) q at ⌝ }
+    ensures { λ r. ⌜ r ≡ valueAsked (schemaOf (now (schema .entry))) w (now (p .entry)) (now (rights .entry)) t (now (v .entry)) digest q at ⌝ }
 {
     let what = rights[at + WHAT];
     if value_covered(what, rights[at + TYPE], t) {
         if permitted(rights[at + PERMISSIONS], q) {
             if what != 5 {
                 return true;
+            }
+            if rights[at + DIGEST] != digest {
+                return false;
             }
             return equal_at(
                 schema,
@@ -185,18 +190,19 @@ fn after_value(
     rights: &[u64],
     t: u64,
     v: &[u8],
+    digest: u64,
     q: u64,
     k: usize,
     st: Standing,
 ) -> Standing
     requires { ⌜ (w ≤ 18) × (1 ≤ q) ⌝ }
-    ensures { λ r. ⌜ r ≡ afterBy (valueAsked (schemaOf (now (schema .entry))) w (now (p .entry)) (now (rights .entry)) t (now (v .entry)) q) (now (rights .entry)) k st ⌝ }
+    ensures { λ r. ⌜ r ≡ afterBy (valueAsked (schemaOf (now (schema .entry))) w (now (p .entry)) (now (rights .entry)) t (now (v .entry)) digest q) (now (rights .entry)) k st ⌝ }
 {
     if rights.len() / RIGHTS <= k {
         return st;
     }
     let at = k * RIGHTS;
-    if value_asked(schema, w, p, rights, t, v, q, at) {
+    if value_asked(schema, w, p, rights, t, v, digest, q, at) {
         return weighed(st, rights[at], rights[at + GRANTS]);
     }
     st
@@ -250,13 +256,14 @@ pub fn granted_value(
     requires { ⌜ (w ≤ 18) × (1 ≤ q) ⌝ }
     ensures { λ r. ⌜ ((σ : Setting) (n : Name) (scopes : List ℕ) → σ .schema ≡ schemaOf (now (schema .entry)) → Rows w (now (p .entry)) (σ .items) (now (rights .entry)) scopes → Chosen σ n (now (list .entry)) → r ≡ granted σ n (ofValue t (now (v .entry))) q) ⌝ }
 {
+    let digest = value::digest::digest(0, v);
     let mut st = Standing {
         best: 0,
         clear: false,
     };
     let mut j: usize = 0;
     while j < list.len() {
-        st = after_value(schema, w, p, rights, t, v, q, list[j], st);
+        st = after_value(schema, w, p, rights, t, v, digest, q, list[j], st);
         j += 1;
     }
     st.clear

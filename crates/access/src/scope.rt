@@ -82,10 +82,10 @@ fn asked(
     place: usize,
     parts: usize,
 ) -> bool
-    requires { ⌜ (w ≤ 18) × (r + 8 ≤ length (now rights)) × (s + 6 ≤ length (now scopes)) ⌝ }
+    requires { ⌜ (w ≤ 18) × (r + 8 ≤ length (now rights)) × (s + 7 ≤ length (now scopes)) ⌝ }
     ensures { λ x. ⌜ x ≡ askedBy (schemaOf (now (schema .entry))) w (now (p .entry)) (now (rights .entry)) r (now (scopes .entry)) s (now (q .entry)) level place parts ⌝ }
 {
-    if level_fits(rights[r + GRANTS], rights[r + LEVEL], level) {
+    if level_fits(rights[r + GRANTS], scopes[s + LEVEL], level) {
         return who_fits(
             schema,
             w,
@@ -191,7 +191,7 @@ fn reach_item(
     parts: usize,
     o: usize,
 ) -> usize
-    requires { ⌜ (Numbers w (now d) (now at) (now parents) (now naming) (now lengths)) × (o ≤ 256) × (r + 8 ≤ length (now rights)) × (s + 6 ≤ length (now scopes)) ⌝ }
+    requires { ⌜ (Numbers w (now d) (now at) (now parents) (now naming) (now lengths)) × (o ≤ 256) × (r + 8 ≤ length (now rights)) × (s + 7 ≤ length (now scopes)) ⌝ }
     ensures { λ x. ⌜ ((es : List Stored) → EntriesAt w (now (d .entry)) es (now (at .entry)) (now (parents .entry)) (now (naming .entry)) (now (lengths .entry)) → x ≡ itemBy (schemaOf (now (schema .entry))) es (now (parents .entry)) w (now (p .entry)) (now (rights .entry)) r (now (scopes .entry)) s (now (q .entry)) level place parts o) ⌝ }
 {
     if asked(schema, w, p, rights, r, scopes, s, q, level, place, parts) {
@@ -254,7 +254,7 @@ pub fn reach_all(
     parts: usize,
     reach: &mut [usize],
 )
-    requires { ⌜ (Numbers w (now d) (now at) (now parents) (now naming) (now lengths)) × (length (now reach) * 8 ≤ length (now rights)) × (length (now reach) * 6 ≤ length (now scopes)) ⌝ }
+    requires { ⌜ (Numbers w (now d) (now at) (now parents) (now naming) (now lengths)) × (length (now reach) * 8 ≤ length (now rights)) × (length (now reach) * 7 ≤ length (now scopes)) ⌝ }
     ensures { λ r. ⌜ ((σ : Setting) (es : List Stored) → Asker σ (now (schema .entry)) w (now (q .entry)) level place parts → EntriesAt w (now (d .entry)) es (now (at .entry)) (now (parents .entry)) (now (naming .entry)) (now (lengths .entry)) → Rows w (now (p .entry)) (σ .items) (now (rights .entry)) (now (scopes .entry)) → length (σ .items) ≡ length (now (reach .entry)) → now (reach .exit) ≡ map (reachOf σ es) (σ .items)) ⌝ }
 {
     let o = own_number(schema, w, d, at, parents, naming, lengths, q, place, parts);

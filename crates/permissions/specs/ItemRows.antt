@@ -48,11 +48,11 @@ weight-small precedence who what h = omega (arith, rank-small who, explicit-smal
 
 -- ---- the rows
 
-pub rights-long : (i : Lines) → length (rightsRow i) ≡ 8
+pub rights-long : (w : ℕ) (p : Bytes) (i : Lines) → length (rightsRow w p i) ≡ 8
 unfolding rightsRow
-rights-long i = refl
+rights-long w p i = refl
 
-pub scopes-long : (i : Lines) → length (scopesRow i) ≡ 6
+pub scopes-long : (i : Lines) → length (scopesRow i) ≡ 7
 unfolding scopesRow
 scopes-long i = refl
 
@@ -77,13 +77,13 @@ module _ (w : ℕ) (p : Bytes) (i : Lines) (t : TookItem w p i) where
     permissions = t .permissions;
   }
 
-  pub row-is : (right scope : ℕ → ℕ) → ((j : ℕ) → j < 8 → right j ≡ getD (rightsRow i) j 0) → ((j : ℕ) → j < 6 → scope j ≡ getD (scopesRow i) j 0)
+  pub row-is : (right scope : ℕ → ℕ) → ((j : ℕ) → j < 8 → right j ≡ getD (rightsRow w p i) j 0) → ((j : ℕ) → j < 7 → scope j ≡ getD (scopesRow i) j 0)
       → Row w p (itemOf w p i) right scope
   unfolding itemOf rightsRow scopesRow
   row-is right scope r s = record {
     bounded = bounded;
     weight = r 0 (omega arith) ∙ sym (weight-is w p i);
-    level = r 1 (omega arith);
+    digest = r 1 (omega arith);
     grants = r 2 (omega arith) ∙ bit-is (i .head .c) (t .grants);
     what = r 3 (omega arith);
     type = r 4 (omega arith);
@@ -98,4 +98,5 @@ module _ (w : ℕ) (p : Bytes) (i : Lines) (t : TookItem w p i) where
     user = rw (s 4 (omega arith), s 5 (omega arith));
     user-parts = s 5 (omega arith) ∙ sym (t .user-count);
     user-within = rw (s 4 (omega arith)) (t .user-within);
+    level = s 6 (omega arith);
   }

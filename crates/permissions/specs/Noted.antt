@@ -1,6 +1,6 @@
 -- What the judge of the permission sheet gives: the refusal number, or the items as rows of numbers. The contract of `judge` is `Judged`.
--- An item has a row of rights (what a question about it touches) and a row of scopes (which entries and which users it is for). Names and values
--- are noted by their positions on the sheet.
+-- An item has a row of rights (what a question about it touches) and a row of scopes (which entries and which users it is for, by name and level).
+-- Names and values are noted by their positions on the sheet, a value by its digest too.
 use Prim.Native.Nat.{ℕ, _+_, _-_, _*_, _≤_, _<_}
 use mathlib.Core.Path.{_≡_}
 use mathlib.Core.Bool.{Bool, true, false}
@@ -11,6 +11,7 @@ use Rattle.rules.specs.Judge.{accept, refuse, refusalOf}
 use Rattle.rules.specs.Permission.{Item, permissionsOf}
 use Rattle.rules.specs.Places.{linesAt, partsOf, schemaOf}
 use Rattle.rules.specs.Laws.Decision.{weight}
+use Rattle.value.specs.Digest.{digest}
 use Rattle.permissions.specs.declared.Items.{Items}
 
 -- ---- the numbers of a row, by their places in it
@@ -19,8 +20,8 @@ use Rattle.permissions.specs.declared.Items.{Items}
 abbrev pub WEIGHT : ℕ
 WEIGHT = 0
 
-abbrev pub LEVEL : ℕ
-LEVEL = 1
+abbrev pub DIGEST : ℕ
+DIGEST = 1
 
 abbrev pub GRANTS : ℕ
 GRANTS = 2
@@ -62,8 +63,11 @@ USER = 4
 abbrev pub USER-PARTS : ℕ
 USER-PARTS = 5
 
+abbrev pub LEVEL : ℕ
+LEVEL = 6
+
 abbrev pub SCOPES : ℕ
-SCOPES = 6
+SCOPES = 7
 
 -- ---- an item and its rows
 
@@ -88,7 +92,7 @@ bit false = 0
 pub record Row (w : ℕ) (p : Bytes) (i : Item) (right scope : ℕ → ℕ) : Type 0 where
   pub bounded : Bounded i
   pub weight : right WEIGHT ≡ weight i
-  pub level : right LEVEL ≡ i .level
+  pub digest : right DIGEST ≡ digest 0 (i .value)
   pub grants : right GRANTS ≡ bit (i .grants)
   pub what : right WHAT ≡ i .what
   pub type : right TYPE ≡ i .type
@@ -103,6 +107,7 @@ pub record Row (w : ℕ) (p : Bytes) (i : Item) (right scope : ℕ → ℕ) : Ty
   pub user : partsOf (scope USER-PARTS) (linesAt w p (scope USER)) ≡ i .user
   pub user-parts : scope USER-PARTS ≡ length (i .user)
   pub user-within : scope USER ≤ length p
+  pub level : scope LEVEL ≡ i .level
 
 -- ---- the whole sheet
 
@@ -126,7 +131,7 @@ pub record Noted (w : ℕ) (p : Bytes) (is : List Item) (r : Items) : Type 0 whe
 
 -- nothing but a refusal
 abbrev pub refused : ℕ → Items
-refused n = record { refusal = n; count = 0; rights = replicate 2048 0; scopes = replicate 1536 0 }
+refused n = record { refusal = n; count = 0; rights = replicate 2048 0; scopes = replicate 1792 0 }
 
 -- what the sheet `p` gives, judged against the schema
 pub record Judged (w : ℕ) (p : Bytes) (schema : List ℕ) (r : Items) : Type 0 where

@@ -23,11 +23,11 @@ use Rattle.permissions.specs.ItemRows.{rights-long, scopes-long, row-is}
 use Rattle.permissions.specs.declared.item.Lines.{Lines}
 use Rattle.permissions.specs.declared.Items.{Items}
 
-abbrev rightsOf : List Lines → List ℕ
-rightsOf its = filled rightsRow 8 rights-long 256 its
+abbrev rightsOf : ℕ → Bytes → List Lines → List ℕ
+rightsOf w p its = filled (rightsRow w p) 8 (rights-long w p) 256 its
 
 abbrev scopesOf : List Lines → List ℕ
-scopesOf its = filled scopesRow 6 scopes-long 256 its
+scopesOf its = filled scopesRow 7 scopes-long 256 its
 
 -- no lines
 abbrev none : Lines
@@ -40,7 +40,7 @@ pub record Reading (w : ℕ) (p : Bytes) (S : Schema) (count at : ℕ) (rights s
   pub few : length its ≤ 256
   pub within : at ≤ length p
   pub took : (k : ℕ) → k < length its → TookItem w p (getD its k none)
-  pub rights-are : rights ≡ rightsOf its
+  pub rights-are : rights ≡ rightsOf w p its
   pub scopes-are : scopes ≡ scopesOf its
   pub from : items S (256 - length its) (map (itemOf w p) its) (linesAt w p at) ≡ items S 256 [] (lines w p)
 
@@ -53,15 +53,15 @@ each-more P d xs x h e k l = go (decLt k (length xs))
     go (yes q) = subst P (sym (List·getD-append xs (x ∷ []) d k q)) (h k q)
     go (no q) = subst P (sym (getD-at xs x [] d k (omega (arith, length-append xs (x ∷ []))))) e
 
-pub reading-start : (w : ℕ) (p : Bytes) (S : Schema) → Reading w p S 0 0 (replicate 2048 0) (replicate 1536 0)
+pub reading-start : (w : ℕ) (p : Bytes) (S : Schema) → Reading w p S 0 0 (replicate 2048 0) (replicate 1792 0)
 reading-start w p S = record {
   its = [];
   counted = refl;
   few = omega arith;
   within = omega arith;
   took = λ k l. absurd (not-suc-le-zero l);
-  rights-are = sym (filled-none rightsRow 8 rights-long 256);
-  scopes-are = sym (filled-none scopesRow 6 scopes-long 256);
+  rights-are = sym (filled-none (rightsRow w p) 8 (rights-long w p) 256);
+  scopes-are = sym (filled-none scopesRow 7 scopes-long 256);
   from = refl;
 }
 
@@ -72,10 +72,10 @@ pub record Ahead (w : ℕ) (p : Bytes) (S : Schema) (count at : ℕ) (i : Lines)
   pub is : i ≡ itemLines w p S at
 
 module _ {w : ℕ} {p : Bytes} {S : Schema} {count at : ℕ} {rights scopes : List ℕ} (s : Reading w p S count at rights scopes) where
-  pub reading-lengths : (length rights ≡ 2048) × (length scopes ≡ 1536)
+  pub reading-lengths : (length rights ≡ 2048) × (length scopes ≡ 1792)
   reading-lengths = (
-    ap length (s .rights-are) ∙ filled-length rightsRow 8 rights-long 256 (s .its) (s .few),
-    ap length (s .scopes-are) ∙ filled-length scopesRow 6 scopes-long 256 (s .its) (s .few),
+    ap length (s .rights-are) ∙ filled-length (rightsRow w p) 8 (rights-long w p) 256 (s .its) (s .few),
+    ap length (s .scopes-are) ∙ filled-length scopesRow 7 scopes-long 256 (s .its) (s .few),
   )
 
   module _ {i : Lines} (n : Ahead w p S count at i) where
@@ -103,11 +103,14 @@ module _ {w : ℕ} {p : Bytes} {S : Schema} {count at : ℕ} {rights scopes : Li
       pub item-small : i .head .a ≤ 255
       item-small = rw (n .is) (took-item w p S at taken .precedence)
 
+      pub item-value : i .target .at + (5 * w + i .target .length) ≤ length p
+      item-value = rw (n .is) (took-item w p S at taken .value-within)
+
       pub item-less : length p - i .mask .next < length p - at
       item-less = let f : at < i .mask .next = rw (n .is) (item-further w p S at taken) in omega (arith, n .inside)
 
       -- one item more
-      pub reading-on : {rights′ scopes′ : List ℕ} → rights′ ≡ putAt rights (count * 8) (rightsRow i) → scopes′ ≡ putAt scopes (count * 6) (scopesRow i)
+      pub reading-on : {rights′ scopes′ : List ℕ} → rights′ ≡ putAt rights (count * 8) (rightsRow w p i) → scopes′ ≡ putAt scopes (count * 7) (scopesRow i)
           → Reading w p S (count + 1) (i .mask .next) rights′ scopes′
       reading-on er es =
           let l : length (s .its ++ (i ∷ [])) ≡ length (s .its) + 1 = length-append (s .its) (i ∷ []) in
@@ -117,8 +120,8 @@ module _ {w : ℕ} {p : Bytes} {S : Schema} {count at : ℕ} {rights scopes : Li
             few = omega (arith, s .counted, n .room);
             within = rw (n .is) (item-within w p S at taken);
             took = each-more (TookItem w p) none (s .its) i (s .took) (rw (n .is) (took-item w p S at taken));
-            rights-are = er ∙ rw (s .rights-are, s .counted) (filled-more rightsRow 8 rights-long 256 (s .its) i (omega (arith, s .counted, n .room)));
-            scopes-are = es ∙ rw (s .scopes-are, s .counted) (filled-more scopesRow 6 scopes-long 256 (s .its) i (omega (arith, s .counted, n .room)));
+            rights-are = er ∙ rw (s .rights-are, s .counted) (filled-more (rightsRow w p) 8 (rights-long w p) 256 (s .its) i (omega (arith, s .counted, n .room)));
+            scopes-are = es ∙ rw (s .scopes-are, s .counted) (filled-more scopesRow 7 scopes-long 256 (s .its) i (omega (arith, s .counted, n .room)));
             from = rw (l, map-append (itemOf w p) (s .its) (i ∷ [])) (sym (items-by ∙ rw (eq-eqb (i .mask .refusal) 0 z)));
           }
 
@@ -142,11 +145,11 @@ module _ {w : ℕ} {p : Bytes} {S : Schema} {count at : ℕ} {rights scopes : Li
   unfolding itemOf partsOf
   item-at k = List·getD-map (itemOf w p) (s .its) k none
 
-  reading-rows : (k : ℕ) → k < length (s .its) → Row w p (itemOf w p (getD (s .its) k none)) (λ j. getD rights (k * 8 + j) 0) (λ j. getD scopes (k * 6 + j) 0)
+  reading-rows : (k : ℕ) → k < length (s .its) → Row w p (itemOf w p (getD (s .its) k none)) (λ j. getD rights (k * 8 + j) 0) (λ j. getD scopes (k * 7 + j) 0)
   reading-rows k l =
-      row-is w p (getD (s .its) k none) (s .took k l) (λ j. getD rights (k * 8 + j) 0) (λ j. getD scopes (k * 6 + j) 0)
-      (λ j h. rw (s .rights-are) (filled-at rightsRow 8 rights-long 256 none (s .its) k j l h))
-      (λ j h. rw (s .scopes-are) (filled-at scopesRow 6 scopes-long 256 none (s .its) k j l h))
+      row-is w p (getD (s .its) k none) (s .took k l) (λ j. getD rights (k * 8 + j) 0) (λ j. getD scopes (k * 7 + j) 0)
+      (λ j h. rw (s .rights-are) (filled-at (rightsRow w p) 8 (rights-long w p) 256 none (s .its) k j l h))
+      (λ j h. rw (s .scopes-are) (filled-at scopesRow 7 scopes-long 256 none (s .its) k j l h))
 
   reading-noted : Noted w p (map (itemOf w p) (s .its)) (record { refusal = 0; count = count; rights = rights; scopes = scopes })
   reading-noted =
@@ -159,8 +162,8 @@ module _ {w : ℕ} {p : Bytes} {S : Schema} {count at : ℕ} {rights scopes : Li
           rows = λ k l. rw (item-at k) (reading-rows k (rw n at l));
           rights-length = reading-lengths .0;
           scopes-length = reading-lengths .1;
-          rights-rest = rw (n, s .rights-are) (filled-rest rightsRow 8 rights-long 256 (s .its));
-          scopes-rest = rw (n, s .scopes-are) (filled-rest scopesRow 6 scopes-long 256 (s .its));
+          rights-rest = rw (n, s .rights-are) (filled-rest (rightsRow w p) 8 (rights-long w p) 256 (s .its));
+          scopes-rest = rw (n, s .scopes-are) (filled-rest scopesRow 7 scopes-long 256 (s .its));
         };
       }
 

@@ -11,6 +11,7 @@ use Rattle.rules.specs.Name.{Schema, known, allowed}
 use Rattle.rules.specs.declared.Front.{Front}
 use Rattle.rules.specs.declared.Front.the-variants.{Taken, NotInForm, End}
 use Rattle.sheet.specs.Columns.{inFormOf}
+use Rattle.value.specs.Digest.{digest}
 use Rattle.permissions.specs.declared.line.Due.{Due}
 use Rattle.permissions.specs.declared.line.Reached.{Reached}
 use Rattle.permissions.specs.declared.item.Lines.{Lines}
@@ -98,10 +99,10 @@ explicitOf what = cond (eqb what 3) 1 (cond (eqb what 5) 1 0)
 unfoldable pub weightOf : ℕ → ℕ → ℕ → ℕ
 weightOf precedence who what = (precedence * 3 + rankOf who) * 2 + explicitOf what
 
-unfoldable pub rightsRow : Lines → List ℕ
-rightsRow i =
+unfoldable pub rightsRow : ℕ → Bytes → Lines → List ℕ
+rightsRow w p i =
     weightOf (i .head .a) (i .user .a) (i .target .a)
-    ∷ i .head .b
+    ∷ digest 0 (valueOf w (i .target .length) (drop (i .target .at) p))
     ∷ i .head .c
     ∷ i .target .a
     ∷ i .target .b
@@ -118,6 +119,7 @@ scopesRow i =
     ∷ i .user .a
     ∷ i .user .next
     ∷ i .user .b
+    ∷ i .head .b
     ∷ []
 
 -- `row` in the place of what stands in `rows` from `at` on

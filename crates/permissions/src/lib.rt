@@ -1,5 +1,5 @@
 // The permission sheet, judged in one pass: its refusal number, or its items as rows of numbers. Names and values are noted by their
-// positions on the sheet, so that a question about a permission reads numbers and seldom bytes.
+// positions on the sheet, a value by its digest too, so that a question about a permission reads numbers and seldom bytes.
 mod item;
 mod line;
 mod row;
@@ -12,7 +12,7 @@ ghost use Rattle.permissions.specs.Noted as Noted;
 // The places of an item's numbers in its row of rights, and the length of the row.
 pub const WEIGHT: usize = 0;
 
-pub const LEVEL: usize = 1;
+pub const DIGEST: usize = 1;
 
 pub const GRANTS: usize = 2;
 
@@ -41,14 +41,16 @@ pub const USER: usize = 4;
 
 pub const USER_PARTS: usize = 5;
 
-pub const SCOPES: usize = 6;
+pub const LEVEL: usize = 6;
+
+pub const SCOPES: usize = 7;
 
 // The refusal number (0: none), and the items: 256 rows of rights and 256 rows of scopes.
 pub struct Items {
     pub refusal: u64,
     pub count: usize,
     pub rights: [u64; 2048],
-    pub scopes: [u64; 1536],
+    pub scopes: [u64; 1792],
 }
 
 // No items, but a refusal number.
@@ -59,7 +61,7 @@ fn refused(number: u64) -> Items
         refusal: number,
         count: 0,
         rights: [0; 2048],
-        scopes: [0; 1536],
+        scopes: [0; 1792],
     }
 }
 
@@ -72,7 +74,7 @@ pub fn judge(p: &[u8], w: usize, schema: &[u64]) -> Items
         return refused(11);
     }
     let mut rights: [u64; 2048] = [0; 2048];
-    let mut scopes: [u64; 1536] = [0; 1536];
+    let mut scopes: [u64; 1792] = [0; 1792];
     let mut count: usize = 0;
     let mut at: usize = 0;
     while at < p.len() {
@@ -83,7 +85,7 @@ pub fn judge(p: &[u8], w: usize, schema: &[u64]) -> Items
         if lines.mask.refusal != 0 {
             return refused(lines.mask.refusal);
         }
-        row::note(&mut rights, &mut scopes, count, lines);
+        row::note(p, w, &mut rights, &mut scopes, count, lines);
         count += 1;
         at = lines.mask.next;
     }

@@ -36,14 +36,15 @@ fn weight(precedence: u64, who: u64, what: u64) -> u64
     (precedence * 3 + rank(who)) * 2 + explicit(what)
 }
 
-// What a question about a permission touches.
-fn rights_row(lines: Lines) -> [u64; 8]
-    requires { ⌜ lines .head .a ≤ 255 ⌝ }
-    ensures { λ r. ⌜ r ≡ rightsRow lines ⌝ }
+// What a question about a permission touches. The digest of the value spares a look at its bytes.
+fn rights_row(p: &[u8], w: usize, lines: Lines) -> [u64; 8]
+    requires { ⌜ (lines .head .a ≤ 255) × (lines .target .at + (5 * w + lines .target .length) ≤ length (now p)) ⌝ }
+    ensures { λ r. ⌜ r ≡ rightsRow w (now (p .entry)) lines ⌝ }
 {
+    let v = sheet::value_at(p, lines.target.at, lines.target.length, w);
     let mut row: [u64; 8] = [0; 8];
     row[super::WEIGHT] = weight(lines.head.a, lines.user.a, lines.target.a);
-    row[super::LEVEL] = lines.head.b;
+    row[super::DIGEST] = value::digest::digest(0, v);
     row[super::GRANTS] = lines.head.c;
     row[super::WHAT] = lines.target.a;
     row[super::TYPE] = lines.target.b;
@@ -53,17 +54,18 @@ fn rights_row(lines: Lines) -> [u64; 8]
     row
 }
 
-// Which entries and which users it is for.
-fn scopes_row(lines: Lines) -> [u64; 6]
+// Which entries and which users it is for, by name and level.
+fn scopes_row(lines: Lines) -> [u64; 7]
     ensures { λ r. ⌜ r ≡ scopesRow lines ⌝ }
 {
-    let mut row: [u64; 6] = [0; 6];
+    let mut row: [u64; 7] = [0; 7];
     row[super::BELOW] = lines.base.a;
     row[super::BASE] = lines.base.next as u64;
     row[super::BASE_PARTS] = lines.base.b;
     row[super::WHO] = lines.user.a;
     row[super::USER] = lines.user.next as u64;
     row[super::USER_PARTS] = lines.user.b;
+    row[super::LEVEL] = lines.head.b;
     row
 }
 
@@ -80,11 +82,11 @@ fn put(rows: &mut [u64], at: usize, row: &[u64])
 }
 
 // The rows of item number `k` (from 0) into the arrays.
-pub fn note(rights: &mut [u64], scopes: &mut [u64], k: usize, lines: Lines)
-    requires { ⌜ (k < 256) × (length (now rights) ≡ 2048) × (length (now scopes) ≡ 1536) × (lines .head .a ≤ 255) ⌝ }
-    ensures { λ _. ⌜ (now (rights .exit) ≡ putAt (now (rights .entry)) (k * 8) (rightsRow lines)) × (now (scopes .exit) ≡ putAt (now (scopes .entry)) (k * 6) (scopesRow lines)) ⌝ }
+pub fn note(p: &[u8], w: usize, rights: &mut [u64], scopes: &mut [u64], k: usize, lines: Lines)
+    requires { ⌜ (k < 256) × (length (now rights) ≡ 2048) × (length (now scopes) ≡ 1792) × (lines .head .a ≤ 255) × (lines .target .at + (5 * w + lines .target .length) ≤ length (now p)) ⌝ }
+    ensures { λ _. ⌜ (now (rights .exit) ≡ putAt (now (rights .entry)) (k * 8) (rightsRow w (now (p .entry)) lines)) × (now (scopes .exit) ≡ putAt (now (scopes .entry)) (k * 7) (scopesRow lines)) ⌝ }
 {
-    let right = rights_row(lines);
+    let right = rights_row(p, w, lines);
     let scope = scopes_row(lines);
     put(rights, k * super::RIGHTS, &right);
     put(scopes, k * super::SCOPES, &scope);

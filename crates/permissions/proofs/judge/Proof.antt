@@ -5,7 +5,7 @@ use lib.ListN.{length}
 use borrow.Author.Needs.{needs}
 use denote.Ref.{now}
 use Rattle.rules.specs.Places.{schemaOf}
-use Rattle.permissions.specs.Reading.{Reading, Ahead, reading-start, reading-lengths, reading-on, item-small, item-less, judged-long, judged-over, judged-item, judged-end}
+use Rattle.permissions.specs.Reading.{Reading, Ahead, reading-start, reading-lengths, reading-on, item-small, item-value, item-less, judged-long, judged-over, judged-item, judged-end}
 use Rattle.permissions.proofs.judge.Statement.{statement}
 use Rattle.permissions.proofs.judge.Tie as tie
 use Rattle.permissions.proofs.judge.Reads as reads
@@ -60,7 +60,7 @@ slice-aggregate-note-2 : tie.Need-slice-aggregate-note-2 Inv-loop μ-loop
 slice-aggregate-note-2 c = sym (reading-lengths (c .before .before .before .before .before .before .before .loop .inv) .1)
 
 note-requires : tie.Need-note-requires Inv-loop μ-loop
-note-requires c κs = let s = c .before .before .before .before .before .before .before .loop .inv in let n = ahead (c .before .before .before .before) in let h = reading-lengths s in (n .room, h .0, h .1, item-small s n (c .before .before .if3 .left))
+note-requires c κs = let s = c .before .before .before .before .before .before .before .loop .inv in let n = ahead (c .before .before .before .before) in let h = reading-lengths s in let z = c .before .before .if3 .left in (n .room, h .0, h .1, item-small s n z, item-value s n z)
 
 add-count : tie.Need-add-count Inv-loop μ-loop
 add-count c = search needs

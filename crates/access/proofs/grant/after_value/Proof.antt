@@ -12,7 +12,7 @@ use Rattle.access.proofs.grant.weighed.Reads as weighed-reads
 
 -- src/grant.rt:177:9
 returns : tie.Need-returns
-returns c = let a = c .before .before .before .before .before .args in sym (after-beyond (valueAsked (schemaOf (now (a .schema))) (a .w) (now (a .p)) (now (a .rights)) (a .t) (now (a .v)) (a .q)) (now (a .rights)) (a .k) (a .st) (c .if1 .taken))
+returns c = let a = c .before .before .before .before .before .args in sym (after-beyond (valueAsked (schemaOf (now (a .schema))) (a .w) (now (a .p)) (now (a .rights)) (a .t) (now (a .v)) (a .digest) (a .q)) (now (a .rights)) (a .k) (a .st) (c .if1 .taken))
 
 -- src/grant.rt:179:14
 mul-at : tie.Need-mul-at
@@ -48,11 +48,11 @@ weighed-requires c κs = search needs
 
 -- src/grant.rt:181:9
 returns-2 : tie.Need-returns-2
-returns-2 c = let a = c .before .before .before .before .before .before .before .before .before .before .args in c .weighed .ensures ∙ sym (after-answer (valueAsked (schemaOf (now (a .schema))) (a .w) (now (a .p)) (now (a .rights)) (a .t) (now (a .v)) (a .q)) (now (a .rights)) (a .k) (a .st) (c .before .before .before .before .before .if1 .left) (sym (c .before .before .before .before .value-asked .ensures) ∙ c .before .before .before .if2 .taken))
+returns-2 c = let a = c .before .before .before .before .before .before .before .before .before .before .args in c .weighed .ensures ∙ sym (after-answer (valueAsked (schemaOf (now (a .schema))) (a .w) (now (a .p)) (now (a .rights)) (a .t) (now (a .v)) (a .digest) (a .q)) (now (a .rights)) (a .k) (a .st) (c .before .before .before .before .before .if1 .left) (sym (c .before .before .before .before .value-asked .ensures) ∙ c .before .before .before .if2 .taken))
 
 -- src/grant.rt:172:1
 returns-3 : tie.Need-returns-3
-returns-3 c = let a = c .before .before .before .before .before .before .before .args in sym (after-silent (valueAsked (schemaOf (now (a .schema))) (a .w) (now (a .p)) (now (a .rights)) (a .t) (now (a .v)) (a .q)) (now (a .rights)) (a .k) (a .st) (c .before .before .if1 .left) (sym (c .before .value-asked .ensures) ∙ c .if2 .left))
+returns-3 c = let a = c .before .before .before .before .before .before .before .args in sym (after-silent (valueAsked (schemaOf (now (a .schema))) (a .w) (now (a .p)) (now (a .rights)) (a .t) (now (a .v)) (a .digest) (a .q)) (now (a .rights)) (a .k) (a .st) (c .before .before .if1 .left) (sym (c .before .value-asked .ensures) ∙ c .if2 .left))
 
 pub after-value-spec : {M : Type 1} → statement M
 after-value-spec =

@@ -25,6 +25,9 @@ array-write-row-5 c = search needs
 array-write-row-6 : tie.Need-array-write-row-6
 array-write-row-6 c = search needs
 
+array-write-row-7 : tie.Need-array-write-row-7
+array-write-row-7 c = search needs
+
 returns : tie.Need-returns
 unfolding scopesRow
 returns c = refl
@@ -39,4 +42,5 @@ scopes-row-spec =
     array-write-row-4
     array-write-row-5
     array-write-row-6
+    array-write-row-7
     returns)
