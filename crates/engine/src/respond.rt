@@ -430,7 +430,7 @@ fn reach_known(
     reach: &mut [usize],
 ) -> Reply
     requires { ⌜ Numbers w (now d) (now positions) (now parents) (now naming) (now lengths) × (length (now places) ≡ length (now types)) × (length (now sizes) ≡ length (now types)) × (65536 ≤ (5 * w + 1) * length (now types)) × (length (now types) ≤ 65536) ⌝ }
-    requires { ⌜ (count ≤ 256) × (count ≤ length (now reach)) × (count * 8 ≤ length (now rights)) × (count * 6 ≤ length (now scopes)) × ((x : Request) × Noted w (now q) x asked) ⌝ }
+    requires { ⌜ (count ≤ 256) × (count ≤ length (now reach)) × (count * 8 ≤ length (now rights)) × (count * 7 ≤ length (now scopes)) × ((x : Request) × Noted w (now q) x asked) ⌝ }
     ensures { λ r. ⌜ ((x : Directory) (is : List Item) (y : Request) → DirectoryAt w (now (d .entry)) x (now (schema .entry)) (now (positions .entry)) (now (parents .entry)) (now (naming .entry)) (now (lengths .entry)) → Rows w (now (p .entry)) is (now (rights .entry)) (now (scopes .entry)) → length is ≡ count → Noted w (now (q .entry)) y asked → Replies (respond w x is y (length (now (out .entry)))) (now (out .entry)) r (now (out .exit))) ⌝ }
 {
     reach_all(
@@ -491,7 +491,7 @@ pub fn answered(
     sizes: &mut [usize],
 ) -> Reply
     requires { ⌜ Numbers w (now d) (now positions) (now parents) (now naming) (now lengths) × (length (now places) ≡ length (now types)) × (length (now sizes) ≡ length (now types)) × (65536 ≤ (5 * w + 1) * length (now types)) × (length (now types) ≤ 65536) ⌝ }
-    requires { ⌜ (count ≤ 256) × (count * 8 ≤ length (now rights)) × (count * 6 ≤ length (now scopes)) × ((x : Request) × Noted w (now q) x asked) ⌝ }
+    requires { ⌜ (count ≤ 256) × (count * 8 ≤ length (now rights)) × (count * 7 ≤ length (now scopes)) × ((x : Request) × Noted w (now q) x asked) ⌝ }
     ensures { λ r. ⌜ ((x : Directory) (is : List Item) (y : Request) → DirectoryAt w (now (d .entry)) x (now (schema .entry)) (now (positions .entry)) (now (parents .entry)) (now (naming .entry)) (now (lengths .entry)) → Rows w (now (p .entry)) is (now (rights .entry)) (now (scopes .entry)) → length is ≡ count → Noted w (now (q .entry)) y asked → Replies (respond w x is y (length (now (out .entry)))) (now (out .entry)) r (now (out .exit))) ⌝ }
 {
     let mut reach: [usize; 256] = [0; 256];
