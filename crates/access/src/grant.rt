@@ -1,5 +1,6 @@
-// The decision about one thing of an entry: one pass over the rows of rights of the items that concern the entry, with the greatest weight so far.
-// Bytes are compared last, and only for an item about one value with the same digest.
+// The decision about one thing of an entry. An item that answers has a score: its weight, and within a weight a denial goes before a grant. The
+// greatest score among the items that concern the entry decides, found in one pass over their rows of rights. Bytes are compared last, and only
+// for an item about one value with the same digest.
 use super::entries::equal_at;
 use permissions::DIGEST;
 use permissions::GRANTS;
@@ -10,7 +11,7 @@ use permissions::TYPE;
 use permissions::VALUE;
 use permissions::WHAT;
 ghost use mathlib.Core.Path.{_≡_};
-ghost use Prim.Native.Nat.{ℕ, _+_, _≤_};
+ghost use Prim.Native.Nat.{ℕ, _+_, _≤_, max};
 ghost use mathlib.Core.List.{List};
 ghost use lib.ListN.{length};
 ghost use Rattle.rules.specs.Sheet.{Bytes};
@@ -18,44 +19,45 @@ ghost use Rattle.rules.specs.Name.{Name};
 ghost use Rattle.rules.specs.Decision.{Setting, entry, ofType, ofValue, granted};
 ghost use Rattle.rules.specs.Places.{schemaOf};
 ghost use Rattle.access.specs.Chosen.{Rows, Chosen};
-ghost use Rattle.access.specs.Grants.{weighBy, afterBy, permits, entryAsked, typeCovered, typeAsked, valueCovered, valueAsked};
+ghost use Rattle.access.specs.Grants.{scoreOf, afterBy, passBy, permits, entryAsked, generalAsked, specificAsked, valueCovered, valueAsked};
 
-// The greatest weight so far, plus one (0 while no item answers), and whether all items of that weight grant.
-pub struct Standing {
-    pub best: u64,
-    pub clear: bool,
-}
+// The greatest score where no item answers. An even score grants.
+const NO_ITEM: u64 = 1;
 
-// The standing after an item that answers.
-fn weighed(st: Standing, weight: u64, grants: u64) -> Standing
-    ensures { λ r. ⌜ r ≡ weighBy st weight grants ⌝ }
+// The score of an item that answers.
+fn score(weight: u64, grants: u64) -> u64
+    ensures { λ r. ⌜ r ≡ scoreOf weight grants ⌝ }
 {
     if 65535 < weight {
-        return st;
+        return 0;
     }
-    if st.best <= weight {
-        return Standing {
-            best: weight + 1,
-            clear: grants == 1,
-        };
+    if grants == 1 {
+        return weight * 2 + 2;
     }
-    if st.best == weight + 1 {
-        if grants == 1 {
-            return st;
-        }
-        return Standing {
-            best: st.best,
-            clear: false,
-        };
-    }
-    st
+    weight * 2 + 3
 }
 
-// Does the sum of permissions have the permission `q` in it?
+// The greater number.
+fn greater(a: u64, b: u64) -> u64
+    ensures { λ r. ⌜ r ≡ max a b ⌝ }
+{
+    if a < b {
+        return b;
+    }
+    a
+}
+
+// Does the sum of permissions have the permission `q` in it? Read and FilterMatch, which are asked most, take no division.
 fn permitted(sum: u64, q: u64) -> bool
     requires { ⌜ 1 ≤ q ⌝ }
     ensures { λ r. ⌜ r ≡ permits sum q ⌝ }
 {
+    if q == 1 {
+        return sum % 2 == 1;
+    }
+    if q == 32 {
+        return sum / 32 % 2 == 1;
+    }
     sum / q % 2 == 1
 }
 
@@ -70,28 +72,24 @@ fn entry_asked(rights: &[u64], q: u64, at: usize) -> bool
     permitted(rights[at + PERMISSIONS], q)
 }
 
-// Does the target cover the type `t`?
-fn type_covered(what: u64, of: u64, t: u64) -> bool
-    ensures { λ r. ⌜ r ≡ typeCovered what of t ⌝ }
+// Does the row at `at` answer a question about any type?
+fn general_asked(rights: &[u64], q: u64, at: usize) -> bool
+    requires { ⌜ (1 ≤ q) × (at + 8 ≤ length (now rights)) ⌝ }
+    ensures { λ r. ⌜ r ≡ generalAsked (now (rights .entry)) q at ⌝ }
 {
-    if what == 1 {
-        return true;
+    let what = rights[at + WHAT];
+    if (what == 1) | (what == 2) {
+        return permitted(rights[at + PERMISSIONS], q);
     }
-    if what == 2 {
-        return true;
-    }
-    if what != 3 {
-        return false;
-    }
-    of == t
+    false
 }
 
-// Does the row at `at` answer a question about the type `t`?
-fn type_asked(rights: &[u64], t: u64, q: u64, at: usize) -> bool
+// Does the row at `at` answer a question about the type `t` alone?
+fn specific_asked(rights: &[u64], t: u64, q: u64, at: usize) -> bool
     requires { ⌜ (1 ≤ q) × (at + 8 ≤ length (now rights)) ⌝ }
-    ensures { λ r. ⌜ r ≡ typeAsked (now (rights .entry)) t q at ⌝ }
+    ensures { λ r. ⌜ r ≡ specificAsked (now (rights .entry)) t q at ⌝ }
 {
-    if type_covered(rights[at + WHAT], rights[at + TYPE], t) {
+    if (rights[at + WHAT] == 3) & (rights[at + TYPE] == t) {
         return permitted(rights[at + PERMISSIONS], q);
     }
     false
@@ -130,12 +128,12 @@ fn value_asked(
 {
     let what = rights[at + WHAT];
     if value_covered(what, rights[at + TYPE], t) {
+        if (what == 5) & (rights[at + DIGEST] != digest) {
+            return false;
+        }
         if permitted(rights[at + PERMISSIONS], q) {
             if what != 5 {
                 return true;
-            }
-            if rights[at + DIGEST] != digest {
-                return false;
             }
             return equal_at(
                 schema,
@@ -152,37 +150,52 @@ fn value_asked(
     false
 }
 
-// The standing after item number `k`, asked about the entry.
-fn after_entry(rights: &[u64], q: u64, k: usize, st: Standing) -> Standing
+// The greatest score with item number `k`, asked about the entry.
+fn after_entry(rights: &[u64], q: u64, k: usize, best: u64) -> u64
     requires { ⌜ 1 ≤ q ⌝ }
-    ensures { λ r. ⌜ r ≡ afterBy (entryAsked (now (rights .entry)) q) (now (rights .entry)) k st ⌝ }
+    ensures { λ r. ⌜ r ≡ afterBy (entryAsked (now (rights .entry)) q) (now (rights .entry)) k best ⌝ }
 {
     if rights.len() / RIGHTS <= k {
-        return st;
+        return best;
     }
     let at = k * RIGHTS;
     if entry_asked(rights, q, at) {
-        return weighed(st, rights[at], rights[at + GRANTS]);
+        return greater(best, score(rights[at], rights[at + GRANTS]));
     }
-    st
+    best
 }
 
-// The standing after item number `k`, asked about a type.
-fn after_type(rights: &[u64], t: u64, q: u64, k: usize, st: Standing) -> Standing
+// The greatest score with item number `k`, asked about all types.
+fn after_general(rights: &[u64], q: u64, k: usize, best: u64) -> u64
     requires { ⌜ 1 ≤ q ⌝ }
-    ensures { λ r. ⌜ r ≡ afterBy (typeAsked (now (rights .entry)) t q) (now (rights .entry)) k st ⌝ }
+    ensures { λ r. ⌜ r ≡ afterBy (generalAsked (now (rights .entry)) q) (now (rights .entry)) k best ⌝ }
 {
     if rights.len() / RIGHTS <= k {
-        return st;
+        return best;
     }
     let at = k * RIGHTS;
-    if type_asked(rights, t, q, at) {
-        return weighed(st, rights[at], rights[at + GRANTS]);
+    if general_asked(rights, q, at) {
+        return greater(best, score(rights[at], rights[at + GRANTS]));
     }
-    st
+    best
 }
 
-// The standing after item number `k`, asked about a value.
+// The greatest score with item number `k`, asked about the type `t` alone.
+fn after_specific(rights: &[u64], t: u64, q: u64, k: usize, best: u64) -> u64
+    requires { ⌜ 1 ≤ q ⌝ }
+    ensures { λ r. ⌜ r ≡ afterBy (specificAsked (now (rights .entry)) t q) (now (rights .entry)) k best ⌝ }
+{
+    if rights.len() / RIGHTS <= k {
+        return best;
+    }
+    let at = k * RIGHTS;
+    if specific_asked(rights, t, q, at) {
+        return greater(best, score(rights[at], rights[at + GRANTS]));
+    }
+    best
+}
+
+// The greatest score with item number `k`, asked about a value.
 fn after_value(
     schema: &[u64],
     w: usize,
@@ -193,19 +206,19 @@ fn after_value(
     digest: u64,
     q: u64,
     k: usize,
-    st: Standing,
-) -> Standing
+    best: u64,
+) -> u64
     requires { ⌜ (w ≤ 18) × (1 ≤ q) ⌝ }
-    ensures { λ r. ⌜ r ≡ afterBy (valueAsked (schemaOf (now (schema .entry))) w (now (p .entry)) (now (rights .entry)) t (now (v .entry)) digest q) (now (rights .entry)) k st ⌝ }
+    ensures { λ r. ⌜ r ≡ afterBy (valueAsked (schemaOf (now (schema .entry))) w (now (p .entry)) (now (rights .entry)) t (now (v .entry)) digest q) (now (rights .entry)) k best ⌝ }
 {
     if rights.len() / RIGHTS <= k {
-        return st;
+        return best;
     }
     let at = k * RIGHTS;
     if value_asked(schema, w, p, rights, t, v, digest, q, at) {
-        return weighed(st, rights[at], rights[at + GRANTS]);
+        return greater(best, score(rights[at], rights[at + GRANTS]));
     }
-    st
+    best
 }
 
 // Is the permission `q` granted on the entry that the items of `list` concern?
@@ -213,16 +226,41 @@ pub fn granted_entry(rights: &[u64], list: &[usize], q: u64) -> bool
     requires { ⌜ 1 ≤ q ⌝ }
     ensures { λ r. ⌜ ((σ : Setting) (n : Name) (w : ℕ) (p : Bytes) (scopes : List ℕ) → Rows w p (σ .items) (now (rights .entry)) scopes → Chosen σ n (now (list .entry)) → r ≡ granted σ n entry q) ⌝ }
 {
-    let mut st = Standing {
-        best: 0,
-        clear: false,
-    };
+    let mut best = NO_ITEM;
     let mut j: usize = 0;
     while j < list.len() {
-        st = after_entry(rights, q, list[j], st);
+        best = after_entry(rights, q, list[j], best);
         j += 1;
     }
-    st.clear
+    best % 2 == 0
+}
+
+// The greatest score of the items about all types of that entry.
+pub fn general_score(rights: &[u64], list: &[usize], q: u64) -> u64
+    requires { ⌜ 1 ≤ q ⌝ }
+    ensures { λ r. ⌜ r ≡ passBy (generalAsked (now (rights .entry)) q) (now (rights .entry)) 1 (now (list .entry)) ⌝ }
+{
+    let mut best = NO_ITEM;
+    let mut j: usize = 0;
+    while j < list.len() {
+        best = after_general(rights, q, list[j], best);
+        j += 1;
+    }
+    best
+}
+
+// Is the permission `q` granted on the type `t` of that entry, given the greatest score of the items about all types?
+pub fn granted_type_beside(rights: &[u64], list: &[usize], general: u64, t: u64, q: u64) -> bool
+    requires { ⌜ 1 ≤ q ⌝ }
+    ensures { λ r. ⌜ ((σ : Setting) (n : Name) (w : ℕ) (p : Bytes) (scopes : List ℕ) → Rows w p (σ .items) (now (rights .entry)) scopes → Chosen σ n (now (list .entry)) → general ≡ passBy (generalAsked (now (rights .entry)) q) (now (rights .entry)) 1 (now (list .entry)) → r ≡ granted σ n (ofType t) q) ⌝ }
+{
+    let mut best = general;
+    let mut j: usize = 0;
+    while j < list.len() {
+        best = after_specific(rights, t, q, list[j], best);
+        j += 1;
+    }
+    best % 2 == 0
 }
 
 // Is the permission `q` granted on the type `t` of that entry?
@@ -230,16 +268,8 @@ pub fn granted_type(rights: &[u64], list: &[usize], t: u64, q: u64) -> bool
     requires { ⌜ 1 ≤ q ⌝ }
     ensures { λ r. ⌜ ((σ : Setting) (n : Name) (w : ℕ) (p : Bytes) (scopes : List ℕ) → Rows w p (σ .items) (now (rights .entry)) scopes → Chosen σ n (now (list .entry)) → r ≡ granted σ n (ofType t) q) ⌝ }
 {
-    let mut st = Standing {
-        best: 0,
-        clear: false,
-    };
-    let mut j: usize = 0;
-    while j < list.len() {
-        st = after_type(rights, t, q, list[j], st);
-        j += 1;
-    }
-    st.clear
+    let general = general_score(rights, list, q);
+    granted_type_beside(rights, list, general, t, q)
 }
 
 // Is the permission `q` granted on the value `v` of the type `t` of that entry?
@@ -257,14 +287,11 @@ pub fn granted_value(
     ensures { λ r. ⌜ ((σ : Setting) (n : Name) (scopes : List ℕ) → σ .schema ≡ schemaOf (now (schema .entry)) → Rows w (now (p .entry)) (σ .items) (now (rights .entry)) scopes → Chosen σ n (now (list .entry)) → r ≡ granted σ n (ofValue t (now (v .entry))) q) ⌝ }
 {
     let digest = value::digest::digest(0, v);
-    let mut st = Standing {
-        best: 0,
-        clear: false,
-    };
+    let mut best = NO_ITEM;
     let mut j: usize = 0;
     while j < list.len() {
-        st = after_value(schema, w, p, rights, t, v, digest, q, list[j], st);
+        best = after_value(schema, w, p, rights, t, v, digest, q, list[j], best);
         j += 1;
     }
-    st.clear
+    best % 2 == 0
 }

@@ -1,58 +1,53 @@
-use Rattle.access.specs.Grants.{entryAsked, after-beyond, after-silent, after-answer}
-use Rattle.rules.specs.Places.{schemaOf}
 use denote.Ref.{now}
-use mathlib.Core.Path.{refl, sym, ap, _∙_}
+use Prim.Native.Nat.{max}
+use mathlib.Core.Path.{sym, ap, _∙_}
+use Rattle.access.specs.Grants.{entryAsked, after-beyond, after-silent, after-answer}
 use borrow.Author.Needs.{needs}
 use Rattle.access.proofs.grant.after_entry.Statement.{statement}
 use Rattle.access.proofs.grant.after_entry.Tie as tie
-use Rattle.access.proofs.grant.after_entry.Reads as reads
-use Rattle.access.proofs.grant.after_entry.Lts as lts
-use Rattle.access.proofs.grant.entry_asked.Reads as entry-asked-reads
-use Rattle.access.proofs.grant.weighed.Reads as weighed-reads
 
--- src/grant.rt:147:9
 returns : tie.Need-returns
-returns c = let a = c .before .before .args in sym (after-beyond (entryAsked (now (a .rights)) (a .q)) (now (a .rights)) (a .k) (a .st) (c .if1 .taken))
+returns c =
+    let a = c .before .before .args in sym (after-beyond (entryAsked (now (a .rights)) (a .q)) (now (a .rights)) (a .k) (a .best) (c .if1 .taken))
 
--- src/grant.rt:149:14
 mul-at : tie.Need-mul-at
 mul-at c = search needs
 
--- src/grant.rt:150:8
 entry-asked-requires : tie.Need-entry-asked-requires
 entry-asked-requires c κs = search needs
 
--- src/grant.rt:151:28
-mul-weighed : tie.Need-mul-weighed
-mul-weighed c = search needs
+mul-score : tie.Need-mul-score
+mul-score c = search needs
 
--- src/grant.rt:151:28
-shared-slice-read-weighed : tie.Need-shared-slice-read-weighed
-shared-slice-read-weighed c = search needs
+shared-slice-read-score : tie.Need-shared-slice-read-score
+shared-slice-read-score c = search needs
 
--- src/grant.rt:151:47
-add-weighed : tie.Need-add-weighed
-add-weighed c = search needs
+add-score : tie.Need-add-score
+add-score c = search needs
 
--- src/grant.rt:151:40
-mul-weighed-2 : tie.Need-mul-weighed-2
-mul-weighed-2 c = search needs
+mul-score-2 : tie.Need-mul-score-2
+mul-score-2 c = search needs
 
--- src/grant.rt:151:40
-shared-slice-read-weighed-2 : tie.Need-shared-slice-read-weighed-2
-shared-slice-read-weighed-2 c = search needs
+shared-slice-read-score-2 : tie.Need-shared-slice-read-score-2
+shared-slice-read-score-2 c = search needs
 
--- src/grant.rt:151:9
-weighed-requires : tie.Need-weighed-requires
-weighed-requires c κs = search needs
+score-requires : tie.Need-score-requires
+score-requires c κs = search needs
 
--- src/grant.rt:151:9
+greater-requires : tie.Need-greater-requires
+greater-requires c κs = search needs
+
 returns-2 : tie.Need-returns-2
-returns-2 c = let a = c .before .before .before .before .before .before .before .args in c .weighed .ensures ∙ sym (after-answer (entryAsked (now (a .rights)) (a .q)) (now (a .rights)) (a .k) (a .st) (c .before .before .before .before .before .if1 .left) (sym (c .before .before .before .before .entry-asked .ensures) ∙ c .before .before .before .if2 .taken))
+returns-2 c =
+    let a = c .before .before .before .before .before .before .before .before .args in
+    c .greater .ensures
+    ∙ ap (max (a .best)) (c .before .score .ensures)
+    ∙ sym (after-answer (entryAsked (now (a .rights)) (a .q)) (now (a .rights)) (a .k) (a .best) (c .before .before .before .before .before .before .if1 .left) (sym (c .before .before .before .before .before .entry-asked .ensures) ∙ c .before .before .before .before .if2 .taken))
 
--- src/grant.rt:142:1
 returns-3 : tie.Need-returns-3
-returns-3 c = let a = c .before .before .before .before .args in sym (after-silent (entryAsked (now (a .rights)) (a .q)) (now (a .rights)) (a .k) (a .st) (c .before .before .if1 .left) (sym (c .before .entry-asked .ensures) ∙ c .if2 .left))
+returns-3 c =
+    let a = c .before .before .before .before .args in
+    sym (after-silent (entryAsked (now (a .rights)) (a .q)) (now (a .rights)) (a .k) (a .best) (c .before .before .if1 .left) (sym (c .before .entry-asked .ensures) ∙ c .if2 .left))
 
 pub after-entry-spec : {M : Type 1} → statement M
 after-entry-spec =
@@ -61,11 +56,12 @@ after-entry-spec =
     returns
     mul-at
     entry-asked-requires
-    mul-weighed
-    shared-slice-read-weighed
-    add-weighed
-    mul-weighed-2
-    shared-slice-read-weighed-2
-    weighed-requires
+    mul-score
+    shared-slice-read-score
+    add-score
+    mul-score-2
+    shared-slice-read-score-2
+    score-requires
+    greater-requires
     returns-2
     returns-3)
