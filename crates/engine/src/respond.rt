@@ -6,11 +6,11 @@ use access::entries::resolve;
 use access::matched::matched;
 use access::scope::reach_all;
 use plan::Plan;
-use plan::compare::compare;
-use plan::read::read;
-use plan::search::search;
+use read::compare::compare;
+use read::read::read;
 use request::Asked;
 use rules::Found;
+use search::search::search;
 ghost use mathlib.Core.Path.{_≡_};
 ghost use Prim.Native.Nat.{ℕ, _+_, _*_, _≤_};
 ghost use mathlib.Core.List.{List, map};
@@ -100,7 +100,7 @@ fn plan_of(
         );
     }
     if asked.operation == 3 {
-        return plan::list::list(
+        return search::list::list(
             parents,
             rights,
             reach,

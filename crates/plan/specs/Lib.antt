@@ -2,9 +2,3 @@ pub mod Plan
 pub mod Lent
 pub mod Outcome
 pub mod Opened
-pub mod Read
-pub mod Compare
-pub mod Passing
-pub mod Hits
-pub mod Returned
-pub mod Whole

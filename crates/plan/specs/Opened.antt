@@ -23,7 +23,6 @@ use Rattle.rules.specs.declared.Found.the-variants.{At, Nothing}
 use Rattle.access.specs.Chosen.{Chosen}
 use Rattle.access.specs.Reach.{parents-of, Selected}
 use Rattle.access.specs.World.{World}
-use Rattle.filter.specs.Seen.{Seen}
 use Rattle.plan.specs.declared.Plan.{Plan}
 use Rattle.plan.specs.Plan.{planned}
 use Rattle.plan.specs.Lent.{Base, Sound}
@@ -71,20 +70,13 @@ front n xs = let e : n - 0 ≡ n = omega arith in rw e
 pub fronts : (n : ℕ) (xs ys : List ℕ) → length xs ≡ length ys → length (take (n - 0) xs) ≡ length (take (n - 0) ys)
 fronts n xs ys e = rw (length-take (n - 0) xs, length-take (n - 0) ys, e)
 
--- the items and the values of the entry of index `k`, from what the numbers stand for
+-- the items that concern the entry of index `k`, from what the numbers stand for
 module _ (σ : Setting) (es : List Stored) (schema : List ℕ) (w : ℕ) (d : Bytes) (at parents naming lengths : List ℕ) (p : Bytes) (rights scopes reach : List ℕ)
     (world : World σ es schema w d at parents naming lengths p rights scopes reach) (k : ℕ) where
   pub items-chosen : k < length parents → (before : List ℕ) (n : ℕ) (after : List ℕ) → Selected parents reach (k + 1) before n after → Chosen σ (getD es k blank .name) (take n after)
   items-chosen l before n after h =
       let m : length parents ≡ length es = world .entries .parents-noted in
       h .chosen σ es k (world .accepted) (parents-of w d es at parents naming lengths (world .entries)) (world .reached) (omega arith) (omega arith)
-
-  -- as the operations are handed them, with lists whose fronts are used
-  pub seen-here : (m n : ℕ) (list types places sizes : List ℕ) → Chosen σ (getD es k blank .name) (take m list) → ValuesAt d (getD es k blank .values) (take n types) (take n places) (take n sizes)
-      → Seen σ (getD es k blank .name) (getD es k blank .values) schema w d p rights (take (m - 0) list) (take (n - 0) types) (take (n - 0) places) (take (n - 0) sizes)
-  seen-here m n list types places sizes h v =
-      rw (front m list, front n types, front n places, front n sizes)
-      record { ruled = record { scopes = scopes; schema-is = world .schema-is; rows = world .rows; chosen = h }; values = v }
 
 pub values-noted : (w : ℕ) (d : Bytes) (es : List Stored) (at parents naming lengths : List ℕ) (k : ℕ) → k < length at → EntriesAt w d es at parents naming lengths → (types places sizes : List ℕ)
     → ValuesAt d (valuesOf (linesAt w d (getD at k 0 + (5 * w + 1 + getD lengths k 0)))) types places sizes → ValuesAt d (getD es k blank .values) types places sizes

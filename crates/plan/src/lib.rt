@@ -1,11 +1,6 @@
 // What an answer is made of, decided before a byte of it is written: the outcome, and the entries whose lines follow, by number.
-pub mod compare;
-pub mod list;
 pub mod opened;
 pub mod outcome;
-pub mod read;
-mod returned;
-pub mod search;
 
 // The permissions, K 8, by their numbers.
 pub const READ: u64 = 1;

@@ -20,10 +20,10 @@ use Rattle.engine.proofs.respond.plan_of.Statement.{statement}
 use Rattle.engine.proofs.respond.plan_of.Tie as tie
 use Rattle.engine.proofs.respond.plan_of.Reads as reads
 use Rattle.engine.proofs.respond.plan_of.Lts as lts
-use Rattle.plan.proofs.compare.compare.Reads as compare-reads
-use Rattle.plan.proofs.list.list.Reads as list-reads
-use Rattle.plan.proofs.read.read.Reads as read-reads
-use Rattle.plan.proofs.search.search.Reads as search-reads
+use Rattle.read.proofs.compare.compare.Reads as compare-reads
+use Rattle.search.proofs.list.list.Reads as list-reads
+use Rattle.read.proofs.read.read.Reads as read-reads
+use Rattle.search.proofs.search.search.Reads as search-reads
 use Rattle.sheet.proofs.value_at.Reads as value-at-reads
 
 -- src/respond.rt:60:9

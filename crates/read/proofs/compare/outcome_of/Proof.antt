@@ -1,0 +1,38 @@
+use Rattle.read.specs.Compare.{compare-granted, compare-denied}
+use denote.Ref.{now}
+use mathlib.Core.Path.{sym, _∙_}
+use borrow.Author.Needs.{needs}
+use Rattle.read.proofs.compare.outcome_of.Statement.{statement}
+use Rattle.read.proofs.compare.outcome_of.Tie as tie
+use Rattle.read.proofs.compare.outcome_of.Reads as reads
+use Rattle.read.proofs.compare.outcome_of.Lts as lts
+use Rattle.access.proofs.grant.granted_type.Reads as granted-type-reads
+use Rattle.read.proofs.compare.comparison_of.Reads as comparison-of-reads
+use Rattle.read.proofs.compare.refusal_of.Reads as refusal-of-reads
+
+-- src/compare.rt:61:8
+granted-type-requires : tie.Need-granted-type-requires
+granted-type-requires c κs = search needs
+
+-- src/compare.rt:62:9
+comparison-of-requires : tie.Need-comparison-of-requires
+comparison-of-requires c κs = search needs
+
+-- src/compare.rt:62:9
+returns : tie.Need-returns
+returns c = let a = c .before .before .before .before .before .before .before .before .args in
+    λ σ n ps w d p places sizes seen. c .comparison-of .ensures σ n ps w d p (now (a .rights)) (now (a .list)) places sizes seen ∙ sym (compare-granted σ (a .t) _ (now (a .v)) (sym (c .before .before .granted-type .ensures σ n w p (seen .ruled .scopes) (seen .ruled .rows) (seen .ruled .chosen)) ∙ c .before .if1 .taken))
+
+-- src/compare.rt:64:5
+refusal-of-requires : tie.Need-refusal-of-requires
+refusal-of-requires c κs = search needs
+
+-- src/compare.rt:51:1
+returns-2 : tie.Need-returns-2
+returns-2 c = let a = c .before .before .before .before .before .before .before .before .args in
+    λ σ n ps w d p places sizes seen. c .refusal-of .ensures σ n ps (now (a .schema)) w d p places sizes seen ∙ sym (compare-denied σ (a .t) _ (now (a .v)) (sym (c .before .before .granted-type .ensures σ n w p (seen .ruled .scopes) (seen .ruled .rows) (seen .ruled .chosen)) ∙ c .before .if1 .left))
+
+pub outcome-of-spec : {M : Type 1} → statement M
+outcome-of-spec =
+    tie.close
+    (tie.spec granted-type-requires comparison-of-requires returns refusal-of-requires returns-2)

@@ -1,0 +1,33 @@
+use Rattle.search.specs.Hits.{browse-granted, browse-base, browse-refused}
+use mathlib.Core.Path.{sym, _∙_}
+use borrow.Author.Needs.{needs}
+use Rattle.search.proofs.returned.browsable.Statement.{statement}
+use Rattle.search.proofs.returned.browsable.Tie as tie
+use Rattle.search.proofs.returned.browsable.Reads as reads
+use Rattle.search.proofs.returned.browsable.Lts as lts
+use Rattle.access.proofs.grant.granted_entry.Reads as granted-entry-reads
+
+-- src/returned.rt:31:8
+granted-entry-requires : tie.Need-granted-entry-requires
+granted-entry-requires c κs = search needs
+
+-- src/returned.rt:32:9
+returns : tie.Need-returns
+returns c = λ σ n w p scopes rows h. browse-granted σ n _ (sym (c .before .granted-entry .ensures σ n w p scopes rows h) ∙ c .if1 .taken)
+
+-- src/returned.rt:35:9
+granted-entry-requires-2 : tie.Need-granted-entry-requires-2
+granted-entry-requires-2 c κs = search needs
+
+-- src/returned.rt:35:9
+returns-2 : tie.Need-returns-2
+returns-2 c = λ σ n w p scopes rows h. c .granted-entry2 .ensures σ n w p scopes rows h ∙ browse-base σ n _ (sym (c .before .before .before .granted-entry .ensures σ n w p scopes rows h) ∙ c .before .before .if1 .left) (c .before .if2 .taken)
+
+-- src/returned.rt:28:1
+returns-3 : tie.Need-returns-3
+returns-3 c = λ σ n w p scopes rows h. browse-refused σ n _ (sym (c .before .before .granted-entry .ensures σ n w p scopes rows h) ∙ c .before .if1 .left) (c .if2 .left)
+
+pub browsable-spec : {M : Type 1} → statement M
+browsable-spec =
+    tie.close
+    (tie.spec granted-entry-requires returns granted-entry-requires-2 returns-2 returns-3)

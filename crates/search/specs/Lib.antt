@@ -1,0 +1,4 @@
+pub mod Passing
+pub mod Hits
+pub mod Returned
+pub mod Whole
