@@ -14,6 +14,7 @@ use Rattle.rules.specs.Name.{Schema, Part, part, Name, equal, samePart}
 use Rattle.rules.specs.Directory.{Stored, blank}
 use Rattle.rules.specs.Places.{linesAt, partsOf, EntryAt, EntriesAt}
 use Rattle.rules.specs.Laws.Resolve.{childFrom, walk, onFound}
+use Rattle.name.specs.Placed.{equalAt, equal-within}
 use Rattle.name.specs.Parts.{parts-taken, parts-broken, parts-end}
 use Rattle.rules.specs.declared.Found.{Found}
 use Rattle.rules.specs.declared.Found.the-variants.{At, Nothing}
@@ -28,21 +29,6 @@ UpTo n Nothing = Unit {0}
 
 pub up-to : (n : ℕ) (f : Found) (b : ℕ) → UpTo n f → f ≡ At b → b ≤ n
 up-to n f b h e = subst (UpTo n) e h
-
--- ---- a value by its position
-
--- the `len` bytes of the line at position `at` equal `v`, both values of type `t`; false where the sheet ends before
-unfoldable pub equalAt : Schema → ℕ → Bytes → ℕ → ℕ → ℕ → Bytes → Bool
-equalAt S w d at len t v = cond (leb (at + (5 * w + len)) (length d)) (equal S t v (valueOf w len (drop at d))) false
-
-module _ (S : Schema) (w : ℕ) (d : Bytes) (at len t : ℕ) (v : Bytes) where
-  pub equal-within : at + (5 * w + len) ≤ length d → equalAt S w d at len t v ≡ equal S t v (valueOf w len (drop at d))
-  unfolding equalAt
-  equal-within h = rw (le-leb (at + (5 * w + len)) (length d) h)
-
-  pub equal-beyond : length d < at + (5 * w + len) → equalAt S w d at len t v ≡ false
-  unfolding equalAt
-  equal-beyond h = rw (lt-leb (at + (5 * w + len)) (length d) h)
 
 -- ---- a child
 

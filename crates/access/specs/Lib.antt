@@ -1,9 +1,6 @@
 pub mod Entries
-pub mod Chosen
 pub mod Names
 pub mod Reach
 pub mod Scopes
-pub mod Digests
-pub mod Grants
 pub mod World
 pub mod Matched

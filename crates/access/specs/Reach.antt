@@ -21,7 +21,7 @@ use Rattle.rules.specs.Laws.Directory.{Accepted}
 use Rattle.rules.specs.Laws.Decision.{concerns}
 use Rattle.rules.specs.Laws.Reach.{reaches, reachOf, reach-concerns}
 use Rattle.permissions.specs.Noted as Noted
-use Rattle.access.specs.Chosen.{Chosen}
+use Rattle.decision.specs.Chosen.{Chosen}
 
 -- the parents' numbers of the entries
 pub record Parents (es : List Stored) (parents : List ℕ) : Type 0 where

@@ -18,7 +18,7 @@ use Rattle.rules.specs.Places.{schemaOf, linesAt, partsOf, EntriesAt}
 use Rattle.rules.specs.Laws.Resolve.{walk}
 use Rattle.rules.specs.Laws.Reach.{numberOr0, baseReach, baseReaches, ownReach, fitsAlways, reachFrom, reachOf}
 use Rattle.permissions.specs.Noted.{Row, bit, blank}
-use Rattle.access.specs.Chosen.{Rows}
+use Rattle.decision.specs.Chosen.{Rows}
 use Rattle.access.specs.Names.{same-by}
 use Rattle.access.specs.Reach.{Parents, climbsBy, climbs-by, parents-of}
 use Rattle.rules.specs.declared.Found.{Found}

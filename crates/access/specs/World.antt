@@ -9,7 +9,7 @@ use Rattle.rules.specs.Decision.{Setting}
 use Rattle.rules.specs.Places.{schemaOf, EntriesAt}
 use Rattle.rules.specs.Laws.Directory.{Accepted}
 use Rattle.rules.specs.Laws.Reach.{reachOf}
-use Rattle.access.specs.Chosen.{Rows, Chosen}
+use Rattle.decision.specs.Chosen.{Rows, Chosen}
 use Rattle.access.specs.Reach.{Selected, parents-of}
 
 -- the entries' numbers, whatever entries they stand for: every position lies within the sheet, every parent before its child

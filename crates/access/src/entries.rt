@@ -10,26 +10,7 @@ ghost use Rattle.rules.specs.Name.{part};
 ghost use Rattle.rules.specs.Directory.{Stored};
 ghost use Rattle.rules.specs.Places.{schemaOf, linesAt, partsOf, EntriesAt};
 ghost use Rattle.rules.specs.Laws.Resolve.{childFrom, walk};
-ghost use Rattle.access.specs.Entries.{UpTo, equalAt, isChild};
-
-// Do the `len` bytes of the line at position `at` equal `v`, both values of type `t`? Not where the sheet ends before.
-pub fn equal_at(schema: &[u64], w: usize, d: &[u8], at: usize, len: usize, t: u64, v: &[u8]) -> bool
-    requires { ⌜ w ≤ 18 ⌝ }
-    ensures { λ r. ⌜ r ≡ equalAt (schemaOf (now (schema .entry))) w (now (d .entry)) at len t (now (v .entry)) ⌝ }
-{
-    if d.len() < at {
-        return false;
-    }
-    let room = d.len() - at;
-    let from = 5 * w;
-    if room < from {
-        return false;
-    }
-    if room - from < len {
-        return false;
-    }
-    name::equal(schema, t, v, sheet::value_at(d, at, len, w))
-}
+ghost use Rattle.access.specs.Entries.{UpTo, isChild};
 
 // Is the entry with these numbers the child of `parent` with the naming part `t`, `v`? Numbers are compared before bytes.
 fn is_child(
@@ -53,7 +34,7 @@ fn is_child(
     if t != naming {
         return false;
     }
-    equal_at(schema, w, d, at, len, t, v)
+    name::equal_at(schema, w, d, at, len, t, v)
 }
 
 // The number of the child of entry `parent` with the naming part `t`, `v`.

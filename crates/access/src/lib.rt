@@ -1,6 +1,5 @@
-// May this requester? The entries that a name or an item is for, by entry numbers, the decision about one thing of an entry, and the matched name.
+// The entries that a name or an item is for, by entry numbers; whether the requester may, with an entry; and the matched name.
 pub mod entries;
-pub mod grant;
 pub mod matched;
 pub mod may;
 pub mod names;

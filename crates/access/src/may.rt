@@ -1,6 +1,6 @@
 // May this requester, of an entry? The items that reach the entry are selected, then asked.
-use super::grant::granted_entry;
 use super::reach::select;
+use decision::granted_entry;
 ghost use mathlib.Core.Path.{_≡_};
 ghost use Prim.Native.Nat.{ℕ, suc, _≤_, _<_};
 ghost use mathlib.Core.List.{List};

@@ -24,7 +24,7 @@ ghost use Rattle.rules.specs.Name as Name;
 ghost use Rattle.rules.specs.Places.{schemaOf, linesAt, partsOf, EntriesAt};
 ghost use Rattle.rules.specs.Laws.Resolve.{walk};
 ghost use Rattle.rules.specs.Laws.Reach.{numberOr0, baseReach, reachOf};
-ghost use Rattle.access.specs.Chosen.{Rows};
+ghost use Rattle.decision.specs.Chosen.{Rows};
 ghost use Rattle.access.specs.World.{Numbers};
 ghost use Rattle.access.specs.Scopes.{Asker, levelBy, whoBy, askedBy, ownBy, spreadBy, spreadFrom, itemBy};
 

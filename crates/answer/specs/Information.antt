@@ -22,7 +22,7 @@ use Rattle.rules.specs.Answer.{valueLines, selected, typeLines, information}
 use Rattle.rules.specs.Places.{schemaOf, ValuesAt}
 use Rattle.rules.specs.Laws.Held.{valuesAhead, afterType, held-first, any-type}
 use Rattle.rules.specs.Laws.Loops.{gather-append}
-use Rattle.access.specs.Chosen.{Rows, Chosen}
+use Rattle.decision.specs.Chosen.{Rows, Chosen}
 use Rattle.entry.specs.Values.{bytesAt, bytes-within, bytes-beyond}
 use Rattle.answer.specs.Emit.{emitLines, Emits}
 use Rattle.answer.specs.Laws.{emits-none, emits-append, emits-before}

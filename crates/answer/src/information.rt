@@ -15,7 +15,7 @@ ghost use Rattle.rules.specs.Decision.{Setting, ofType, granted};
 ghost use Rattle.rules.specs.Request.{Selection};
 ghost use Rattle.rules.specs.Answer as Answer;
 ghost use Rattle.rules.specs.Places.{schemaOf, ValuesAt};
-ghost use Rattle.access.specs.Chosen.{Rows, Chosen};
+ghost use Rattle.decision.specs.Chosen.{Rows, Chosen};
 ghost use Rattle.entry.specs.Values.{bytesAt};
 ghost use Rattle.answer.specs.Emit.{Emits};
 ghost use Rattle.answer.specs.Information.{Range, Grounds, noted, readable, Counted, Run, selectedWith, returned};
@@ -61,7 +61,7 @@ fn selected_with(
     ensures { λ r. ⌜ ((σ : Setting) (n : Name) (w : ℕ) (p : Bytes) (scopes : List ℕ) (s : Selection) → Rows w p (σ .items) (now (rights .entry)) scopes → Chosen σ n (now (list .entry)) → s .listed ≡ listed → s .types ≡ now (wanted .entry) → r ≡ selectedWith σ s n q t) ⌝ }
 {
     if selected(listed, wanted, t) {
-        return access::grant::granted_type(rights, list, t, q);
+        return decision::granted_type(rights, list, t, q);
     }
     false
 }
@@ -104,7 +104,7 @@ fn emit_value(
     ensures { λ r. ⌜ (r .next ≤ st .next + 2 ^ 17) × (r .count ≤ st .count + 1) × ((σ : Setting) (n : Name) → Grounds σ n (now (schema .entry)) w (now (p .entry)) (now (rights .entry)) (now (list .entry)) → Counted w (now (out .entry)) st (readable σ n t (bytesAt (now (d .entry)) place size ∷ [])) (now (out .exit)) r) ⌝ }
 {
     let v = entry::bytes_at(d, place, size);
-    if access::grant::granted_value(schema, w, p, rights, list, t, v, READ) {
+    if decision::granted_value(schema, w, p, rights, list, t, v, READ) {
         return Written {
             next: emit(out, st.next, w, 35, 0, 0, 0, v),
             count: st.count + 1,

@@ -22,7 +22,7 @@ use Rattle.directory.specs.Judged as Directories
 use Rattle.directory.specs.declared.Notes.{Notes}
 use Rattle.permissions.specs.Noted as Permissions
 use Rattle.permissions.specs.declared.Items.{Items}
-use Rattle.access.specs.Chosen.{Rows}
+use Rattle.decision.specs.Chosen.{Rows}
 use Rattle.access.specs.World.{Numbers, World}
 
 -- ---- the directory by numbers

@@ -20,7 +20,7 @@ use Rattle.rules.specs.Serve.{settingOf, fitting, respond, serveAt}
 use Rattle.rules.specs.Places.{schemaOf, linesAt, partsOf, typesOf}
 use Rattle.rules.specs.Laws.Resolve.{walk}
 use Rattle.rules.specs.Laws.Reach.{reachOf}
-use Rattle.access.specs.Chosen.{Rows}
+use Rattle.decision.specs.Chosen.{Rows}
 use Rattle.access.specs.Entries.{UpTo, up-to}
 use Rattle.access.specs.Scopes.{Asker}
 use Rattle.access.specs.World.{Numbers, World}

@@ -22,7 +22,7 @@ ghost use Rattle.rules.specs.Decision.{Setting};
 ghost use Rattle.rules.specs.Request.{Selection, Request};
 ghost use Rattle.rules.specs.Answer.{answer};
 ghost use Rattle.rules.specs.Serve.{fitting, respond};
-ghost use Rattle.access.specs.Chosen.{Rows};
+ghost use Rattle.decision.specs.Chosen.{Rows};
 ghost use Rattle.access.specs.World.{Numbers, World};
 ghost use Rattle.plan.specs.Lent.{Lent, Base, Numbered, Sound};
 ghost use Rattle.plan.specs.Plan.{planned};

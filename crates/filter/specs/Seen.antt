@@ -6,7 +6,7 @@ use Rattle.rules.specs.Sheet.{Bytes}
 use Rattle.rules.specs.Name.{Name, Part}
 use Rattle.rules.specs.Decision.{Setting}
 use Rattle.rules.specs.Places.{schemaOf, ValuesAt}
-use Rattle.access.specs.Chosen.{Rows, Chosen}
+use Rattle.decision.specs.Chosen.{Rows, Chosen}
 
 -- the setting, by its schema and the rows of its items; `list` has the items that concern the entry with the full name `n`
 pub record Ruled (σ : Setting) (n : Name) (schema : List ℕ) (w : ℕ) (p : Bytes) (rights list : List ℕ) : Type 0 where

@@ -1,6 +1,6 @@
 // FilterMatch on the types of an entry. Before a long filter every type of the schema is asked about once, and the answers are kept in a table
 // by the types' places in the schema; what the table does not tell is asked where an item needs it.
-use access::grant::granted_type;
+use decision::granted_type;
 ghost use mathlib.Core.Path.{_≡_};
 ghost use Prim.Native.Nat.{ℕ, _≤_};
 ghost use mathlib.Core.List.{List};
@@ -9,7 +9,7 @@ ghost use Rattle.rules.specs.Sheet.{Bytes};
 ghost use Rattle.rules.specs.Name.{Name};
 ghost use Rattle.rules.specs.Permission.{FilterMatch};
 ghost use Rattle.rules.specs.Decision.{Setting, ofType, granted};
-ghost use Rattle.access.specs.Chosen.{Rows, Chosen};
+ghost use Rattle.decision.specs.Chosen.{Rows, Chosen};
 ghost use Rattle.filter.specs.Asked.{Tells, Asked};
 
 // The permission FilterMatch.

@@ -20,7 +20,7 @@ use Rattle.rules.specs.Laws.Directory.{Accepted}
 use Rattle.rules.specs.Laws.Resolve.{numbered, entryBy, named-walk}
 use Rattle.rules.specs.declared.Found.{Found}
 use Rattle.rules.specs.declared.Found.the-variants.{At, Nothing}
-use Rattle.access.specs.Chosen.{Chosen}
+use Rattle.decision.specs.Chosen.{Chosen}
 use Rattle.access.specs.Reach.{parents-of, Selected}
 use Rattle.access.specs.World.{World}
 use Rattle.plan.specs.declared.Plan.{Plan}

@@ -13,7 +13,7 @@ ghost use Rattle.rules.specs.Name.{Name};
 ghost use Rattle.rules.specs.Directory.{Stored, blank};
 ghost use Rattle.rules.specs.Decision.{Setting};
 ghost use Rattle.rules.specs.Places.{EntriesAt, ValuesAt};
-ghost use Rattle.access.specs.Chosen.{Rows, Chosen};
+ghost use Rattle.decision.specs.Chosen.{Rows, Chosen};
 ghost use Rattle.access.specs.World.{World};
 ghost use Rattle.plan.specs.Opened.{openingOf, Opens, withheldPlan};
 
@@ -27,10 +27,10 @@ pub struct Opening {
 fn outcome_of(rights: &[u64], list: &[usize]) -> u64
     ensures { λ r. ⌜ ((σ : Setting) (n : Name) (w : ℕ) (p : Bytes) (scopes : List ℕ) → Rows w p (σ .items) (now (rights .entry)) scopes → Chosen σ n (now (list .entry)) → r ≡ openingOf σ n) ⌝ }
 {
-    if access::grant::granted_entry(rights, list, READ) {
+    if decision::granted_entry(rights, list, READ) {
         return 0;
     }
-    if access::grant::granted_entry(rights, list, DISCLOSE_ON_ERROR) {
+    if decision::granted_entry(rights, list, DISCLOSE_ON_ERROR) {
         return 2;
     }
     1

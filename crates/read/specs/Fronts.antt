@@ -6,7 +6,7 @@ use Rattle.rules.specs.Sheet.{Bytes}
 use Rattle.rules.specs.Directory.{Stored, blank}
 use Rattle.rules.specs.Decision.{Setting}
 use Rattle.rules.specs.Places.{ValuesAt}
-use Rattle.access.specs.Chosen.{Chosen}
+use Rattle.decision.specs.Chosen.{Chosen}
 use Rattle.access.specs.World.{World}
 use Rattle.filter.specs.Seen.{Seen}
 use Rattle.plan.specs.Opened.{front}

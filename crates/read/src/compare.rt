@@ -31,7 +31,7 @@ fn refusal_of(rights: &[u64], list: &[usize], types: &[u64], t: u64) -> u64
     ensures { λ r. ⌜ ((σ : Setting) (n : Name) (ps : List Part) (schema : List ℕ) (w : ℕ) (d p : Bytes) (places sizes : List ℕ) → Seen σ n ps schema w d p (now (rights .entry)) (now (list .entry)) (now (types .entry)) places sizes → r ≡ refusal σ t (record { name = n; held = heldOf ps })) ⌝ }
 {
     if entry::holds(types, t) {
-        if access::grant::granted_type(rights, list, t, DISCLOSE_ON_ERROR) {
+        if decision::granted_type(rights, list, t, DISCLOSE_ON_ERROR) {
             return 2;
         }
         return 3;
@@ -63,7 +63,7 @@ fn outcome_of(
 ) -> u64
     ensures { λ r. ⌜ ((σ : Setting) (n : Name) (ps : List Part) (w : ℕ) (d p : Bytes) (places sizes : List ℕ) → Seen σ n ps (now (schema .entry)) w d p (now (rights .entry)) (now (list .entry)) (now (types .entry)) places sizes → r ≡ compareOutcome σ t (now (v .entry)) (record { name = n; held = heldOf ps })) ⌝ }
 {
-    if access::grant::granted_type(rights, list, t, COMPARE) {
+    if decision::granted_type(rights, list, t, COMPARE) {
         return comparison_of(schema, types, t, v);
     }
     refusal_of(rights, list, types, t)

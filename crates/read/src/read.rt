@@ -46,10 +46,10 @@ fn readable_at(
     ensures { λ r. ⌜ ((σ : Setting) (n : Name) (s : Selection) → Ruled σ n (now (schema .entry)) w (now (p .entry)) (now (rights .entry)) (now (list .entry)) → s .listed ≡ listed → s .types ≡ now (wanted .entry) → s .values ≡ values → r ≡ readable σ s n (part t (bytesAt (now (d .entry)) place size))) ⌝ }
 {
     if answer::information::selected(listed, wanted, t) {
-        if access::grant::granted_type(rights, list, t, READ) {
+        if decision::granted_type(rights, list, t, READ) {
             if values {
                 let v = entry::bytes_at(d, place, size);
-                return access::grant::granted_value(schema, w, p, rights, list, t, v, READ);
+                return decision::granted_value(schema, w, p, rights, list, t, v, READ);
             }
             return true;
         }
@@ -215,7 +215,7 @@ fn read_open(
     if outcome != 0 {
         return refused(1, outcome);
     }
-    found(k, access::grant::granted_entry(rights, list, RETURN_DN))
+    found(k, decision::granted_entry(rights, list, RETURN_DN))
 }
 
 // The plan for the entry of index `k`.

@@ -12,7 +12,7 @@ use Rattle.rules.specs.Sheet.{Bytes, Line, line}
 use Rattle.rules.specs.Laws.Loops.{gather-suc}
 use Rattle.rules.specs.Name.{Part}
 use Rattle.rules.specs.Places.{ValuesAt}
-use Rattle.access.specs.Chosen.{Chosen}
+use Rattle.decision.specs.Chosen.{Chosen}
 use Rattle.access.specs.Reach.{Selected, parents-of}
 use Rattle.access.specs.World.{World}
 use Rattle.rules.specs.Directory.{Stored, blank, nameAt, heldOf, entryOf}

@@ -23,7 +23,7 @@ use Rattle.rules.specs.Laws.ByNumber.{climbs}
 use Rattle.rules.specs.Laws.Hits.{withinNumber, listed-number, candidate-number, child-hit}
 use Rattle.rules.specs.Laws.Resolve.{walk, walk-found}
 use Rattle.rules.specs.declared.Found.the-variants.{At}
-use Rattle.access.specs.Chosen.{Chosen}
+use Rattle.decision.specs.Chosen.{Chosen}
 use Rattle.access.specs.Reach.{Parents, parents-of, Selected}
 use Rattle.access.specs.World.{World}
 use Rattle.plan.specs.Plan.{childLines, foundLines, informationAt}

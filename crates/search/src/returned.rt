@@ -1,5 +1,5 @@
 // What list and search have in common: which entries may be returned, and the plan of those that were found.
-use access::grant::granted_entry;
+use decision::granted_entry;
 use plan::BROWSE;
 use plan::DISCLOSE_ON_ERROR;
 use plan::Plan;
@@ -14,7 +14,7 @@ ghost use Rattle.rules.specs.Sheet.{Bytes};
 ghost use Rattle.rules.specs.Name.{Name};
 ghost use Rattle.rules.specs.Directory.{Stored};
 ghost use Rattle.rules.specs.Decision.{Setting};
-ghost use Rattle.access.specs.Chosen.{Rows, Chosen};
+ghost use Rattle.decision.specs.Chosen.{Rows, Chosen};
 ghost use Rattle.access.specs.World.{World};
 ghost use Rattle.search.specs.Hits as Hits;
 ghost use Rattle.search.specs.Returned.{successPlan, limitedPlan, returnedPlan, disclosedAt};

@@ -20,7 +20,7 @@ ghost use Rattle.rules.specs.Request.{Search};
 ghost use Rattle.rules.specs.Places.{linesAt};
 ghost use Rattle.rules.specs.Answer.{answer};
 ghost use Rattle.rules.specs.Laws.Hits.{withinNumber};
-ghost use Rattle.access.specs.Chosen.{Chosen};
+ghost use Rattle.decision.specs.Chosen.{Chosen};
 ghost use Rattle.access.specs.Reach.{Parents};
 ghost use Rattle.access.specs.World.{World};
 ghost use Rattle.plan.specs.Plan.{planned};

@@ -7,7 +7,7 @@ use Rattle.access.proofs.entries.is_child.Statement.{statement}
 use Rattle.access.proofs.entries.is_child.Tie as tie
 use Rattle.access.proofs.entries.is_child.Reads as reads
 use Rattle.access.proofs.entries.is_child.Lts as lts
-use Rattle.access.proofs.entries.equal_at.Reads as equal-at-reads
+use Rattle.name.proofs.equal_at.Reads as equal-at-reads
 
 -- src/entries.rt:40:9
 returns : tie.Need-returns

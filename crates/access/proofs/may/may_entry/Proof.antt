@@ -9,7 +9,7 @@ use Rattle.access.proofs.may.may_entry.Statement.{statement}
 use Rattle.access.proofs.may.may_entry.Tie as tie
 use Rattle.access.proofs.may.may_entry.Reads as reads
 use Rattle.access.proofs.may.may_entry.Lts as lts
-use Rattle.access.proofs.grant.granted_entry.Reads as granted-entry-reads
+use Rattle.decision.proofs.granted_entry.Reads as granted-entry-reads
 use Rattle.access.proofs.reach.select.Reads as select-reads
 
 -- src/may.rt:25:9

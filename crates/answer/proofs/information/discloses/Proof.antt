@@ -1,5 +1,5 @@
 use Rattle.answer.specs.Information.{selectedWith, any-noted, any-here, any-on, any-end}
-use Rattle.access.specs.Chosen.{Rows, Chosen}
+use Rattle.decision.specs.Chosen.{Rows, Chosen}
 use Rattle.rules.specs.Lists.{any}
 use Rattle.rules.specs.Permission.{DiscloseOnError}
 use Rattle.rules.specs.Sheet.{Bytes}

@@ -1,5 +1,5 @@
 use Rattle.answer.specs.Information.{Sofar, sofar-start, sofar-on, sofar-end}
-use Rattle.access.specs.Chosen.{Rows, Chosen}
+use Rattle.decision.specs.Chosen.{Rows, Chosen}
 use Rattle.rules.specs.Places.{schemaOf, ValuesAt}
 use Rattle.rules.specs.Name.{Part, Name}
 use Rattle.rules.specs.Decision.{Setting}

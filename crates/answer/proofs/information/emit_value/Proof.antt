@@ -8,7 +8,7 @@ use Rattle.answer.proofs.information.emit_value.Statement.{statement}
 use Rattle.answer.proofs.information.emit_value.Tie as tie
 use Rattle.answer.proofs.information.emit_value.Reads as reads
 use Rattle.answer.proofs.information.emit_value.Lts as lts
-use Rattle.access.proofs.grant.granted_value.Reads as granted-value-reads
+use Rattle.decision.proofs.granted_value.Reads as granted-value-reads
 use Rattle.answer.proofs.line.emit.Reads as emit-reads
 use Rattle.entry.proofs.bytes_at.Reads as bytes-at-reads
 

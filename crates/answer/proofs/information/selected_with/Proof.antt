@@ -5,7 +5,7 @@ use Rattle.answer.proofs.information.selected_with.Statement.{statement
 use Rattle.answer.proofs.information.selected_with.Tie as tie
 use Rattle.answer.proofs.information.selected_with.Reads as reads
 use Rattle.answer.proofs.information.selected_with.Lts as lts
-use Rattle.access.proofs.grant.granted_type.Reads as granted-type-reads
+use Rattle.decision.proofs.granted_type.Reads as granted-type-reads
 use Rattle.answer.proofs.information.selected.Reads as selected-reads
 
 -- src/information.rt:63:8

@@ -7,7 +7,7 @@ use denote.Ref.{now}
 use Rattle.rules.specs.Sheet.{Bytes}
 use Rattle.rules.specs.Name.{Name}
 use Rattle.rules.specs.Decision.{Setting}
-use Rattle.access.specs.Chosen.{Rows, Chosen}
+use Rattle.decision.specs.Chosen.{Rows, Chosen}
 use Rattle.filter.specs.Asked.{Asked, asked-none, asked-on}
 use borrow.Author.Needs.{needs}
 use Rattle.filter.proofs.types.ask.Statement.{statement}

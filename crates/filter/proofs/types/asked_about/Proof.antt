@@ -5,7 +5,7 @@ use Rattle.filter.proofs.types.asked_about.Statement.{statement}
 use Rattle.filter.proofs.types.asked_about.Tie as tie
 use Rattle.filter.proofs.types.asked_about.Reads as reads
 use Rattle.filter.proofs.types.asked_about.Lts as lts
-use Rattle.access.proofs.grant.granted_type.Reads as granted-type-reads
+use Rattle.decision.proofs.granted_type.Reads as granted-type-reads
 
 -- src/types.rt:43:8
 granted-type-requires : tie.Need-granted-type-requires

@@ -4,7 +4,7 @@ use Rattle.filter.proofs.types.type_granted.Statement.{statement}
 use Rattle.filter.proofs.types.type_granted.Tie as tie
 use Rattle.filter.proofs.types.type_granted.Reads as reads
 use Rattle.filter.proofs.types.type_granted.Lts as lts
-use Rattle.access.proofs.grant.granted_type.Reads as granted-type-reads
+use Rattle.decision.proofs.granted_type.Reads as granted-type-reads
 use Rattle.filter.proofs.types.told.Reads as told-reads
 
 -- src/types.rt:93:9

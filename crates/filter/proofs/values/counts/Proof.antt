@@ -10,7 +10,7 @@ use Rattle.filter.proofs.values.counts.Statement.{statement}
 use Rattle.filter.proofs.values.counts.Tie as tie
 use Rattle.filter.proofs.values.counts.Reads as reads
 use Rattle.filter.proofs.values.counts.Lts as lts
-use Rattle.access.proofs.grant.granted_value.Reads as granted-value-reads
+use Rattle.decision.proofs.granted_value.Reads as granted-value-reads
 use Rattle.entry.proofs.bytes_at.Reads as bytes-at-reads
 use Rattle.filter.proofs.values.passes.Reads as passes-reads
 

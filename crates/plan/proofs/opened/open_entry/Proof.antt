@@ -1,7 +1,7 @@
 use mathlib.Core.Path.{sym, subst}
 use Rattle.plan.specs.Opened.{items-chosen, front}
 use Rattle.rules.specs.Directory.{blank}
-use Rattle.access.specs.Chosen.{Chosen}
+use Rattle.decision.specs.Chosen.{Chosen}
 use denote.Ref.{now}
 use lib.ListN.{getD, take}
 use borrow.Author.Needs.{needs}

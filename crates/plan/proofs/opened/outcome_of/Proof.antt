@@ -5,7 +5,7 @@ use Rattle.plan.proofs.opened.outcome_of.Statement.{statement}
 use Rattle.plan.proofs.opened.outcome_of.Tie as tie
 use Rattle.plan.proofs.opened.outcome_of.Reads as reads
 use Rattle.plan.proofs.opened.outcome_of.Lts as lts
-use Rattle.access.proofs.grant.granted_entry.Reads as granted-entry-reads
+use Rattle.decision.proofs.granted_entry.Reads as granted-entry-reads
 
 -- src/opened.rt:28:8
 granted-entry-requires : tie.Need-granted-entry-requires

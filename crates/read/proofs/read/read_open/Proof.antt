@@ -12,7 +12,7 @@ use Rattle.read.proofs.read.read_open.Statement.{statement}
 use Rattle.read.proofs.read.read_open.Tie as tie
 use Rattle.read.proofs.read.read_open.Reads as reads
 use Rattle.read.proofs.read.read_open.Lts as lts
-use Rattle.access.proofs.grant.granted_entry.Reads as granted-entry-reads
+use Rattle.decision.proofs.granted_entry.Reads as granted-entry-reads
 use Rattle.plan.proofs.outcome.refused.Reads as refused-reads
 use Rattle.read.proofs.read.found.Reads as found-reads
 use Rattle.read.proofs.read.outcome_of.Reads as outcome-of-reads

@@ -9,8 +9,8 @@ use Rattle.read.proofs.read.readable_at.Statement.{statement}
 use Rattle.read.proofs.read.readable_at.Tie as tie
 use Rattle.read.proofs.read.readable_at.Reads as reads
 use Rattle.read.proofs.read.readable_at.Lts as lts
-use Rattle.access.proofs.grant.granted_type.Reads as granted-type-reads
-use Rattle.access.proofs.grant.granted_value.Reads as granted-value-reads
+use Rattle.decision.proofs.granted_type.Reads as granted-type-reads
+use Rattle.decision.proofs.granted_value.Reads as granted-value-reads
 use Rattle.answer.proofs.information.selected.Reads as selected-reads
 use Rattle.entry.proofs.bytes_at.Reads as bytes-at-reads
 

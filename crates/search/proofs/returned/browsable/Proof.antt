@@ -5,7 +5,7 @@ use Rattle.search.proofs.returned.browsable.Statement.{statement}
 use Rattle.search.proofs.returned.browsable.Tie as tie
 use Rattle.search.proofs.returned.browsable.Reads as reads
 use Rattle.search.proofs.returned.browsable.Lts as lts
-use Rattle.access.proofs.grant.granted_entry.Reads as granted-entry-reads
+use Rattle.decision.proofs.granted_entry.Reads as granted-entry-reads
 
 -- src/returned.rt:31:8
 granted-entry-requires : tie.Need-granted-entry-requires

@@ -5,7 +5,7 @@ use Rattle.search.proofs.returned.returnable.Statement.{statement}
 use Rattle.search.proofs.returned.returnable.Tie as tie
 use Rattle.search.proofs.returned.returnable.Reads as reads
 use Rattle.search.proofs.returned.returnable.Lts as lts
-use Rattle.access.proofs.grant.granted_entry.Reads as granted-entry-reads
+use Rattle.decision.proofs.granted_entry.Reads as granted-entry-reads
 use Rattle.search.proofs.returned.browsable.Reads as browsable-reads
 
 -- src/returned.rt:44:8
