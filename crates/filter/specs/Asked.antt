@@ -1,48 +1,68 @@
--- FilterMatch on the types of the schema, asked ahead: a number for each type's place, and a law for each way through the code.
-use Prim.Native.Nat.{ℕ, _/_, _<_}
+-- FilterMatch asked ahead, on the types of the schema and on the values of an entry: a number for each, and a law for each way through the code.
+use Prim.Native.Nat.{ℕ, zero, suc, _/_, _<_}
 use mathlib.Core.Path.{_≡_, refl, sym, subst, _∙_}
 use mathlib.Core.Bool.{Bool, true, false, true≢false}
 use mathlib.Core.List.{List}
 use native.Mathlib.Omega.{arith}
 use lib.Dec.{eqb}
-use lib.ListN.{length, getD, set, replicate, getD-replicate, length-set, length-replicate}
+use lib.ListN.{length, getD, set, replicate}
 use borrow.Author.Tests.{eq-eqb, eqb-true}
 use lib.Seq.{getD-set-same, getD-set-other}
+use Rattle.rules.specs.Sheet.{Bytes}
 use Rattle.rules.specs.Name.{Name}
 use Rattle.rules.specs.Permission.{FilterMatch}
-use Rattle.rules.specs.Decision.{Setting, ofType, granted}
+use Rattle.rules.specs.Decision.{Setting, ofType, ofValue, granted}
+use Rattle.entry.specs.Values.{bytesAt}
 
-module _ (σ : Setting) (n : Name) where
-  -- what a number tells about FilterMatch on the type `t`: 1 refused, 2 granted, any other nothing
-  pub record Tells (t x : ℕ) : Type 0 where
-    pub refused : x ≡ 1 → granted σ n (ofType t) FilterMatch ≡ false
-    pub permitted : x ≡ 2 → granted σ n (ofType t) FilterMatch ≡ true
+-- what a number tells about a decision: 1 refused, 2 granted, any other nothing
+pub record Tells (decision : Bool) (x : ℕ) : Type 0 where
+  pub refused : x ≡ 1 → decision ≡ false
+  pub permitted : x ≡ 2 → decision ≡ true
 
-  -- a table with a number for each place of the schema, as far as it reaches
-  pub record Asked (schema table : List ℕ) : Type 0 where
-    pub tells : (i : ℕ) → i < length schema → i < length table → Tells (getD schema i 0 / 4) (getD table i 0)
+-- a table with a number for each of `count` decisions; it tells nothing after its end
+pub record Table (decision : ℕ → Bool) (count : ℕ) (table : List ℕ) : Type 0 where
+  pub tells : (i : ℕ) → i < count → Tells (decision i) (getD table i 0)
 
-  pub tells-nothing : (t : ℕ) → Tells t 0
-  tells-nothing t = record { refused = λ e. absurd (omega (arith, e)); permitted = λ e. absurd (omega (arith, e)) }
+-- FilterMatch on the type at each place of the schema
+abbrev pub Asked : Setting → Name → List ℕ → List ℕ → Type 0
+Asked σ n schema table = Table (λ i. granted σ n (ofType (getD schema i 0 / 4)) FilterMatch) (length schema) table
 
-  pub tells-refused : (t : ℕ) → granted σ n (ofType t) FilterMatch ≡ false → Tells t 1
-  tells-refused t h = record { refused = λ e. h; permitted = λ e. absurd (omega (arith, e)) }
+-- the permission `q` on each value that is noted
+abbrev pub AskedValues : Setting → Name → ℕ → Bytes → List ℕ → List ℕ → List ℕ → List ℕ → Type 0
+AskedValues σ n q d types places sizes known = Table (λ i. granted σ n (ofValue (getD types i 0) (bytesAt d (getD places i 0) (getD sizes i 0))) q) (length types) known
 
-  pub tells-permitted : (t : ℕ) → granted σ n (ofType t) FilterMatch ≡ true → Tells t 2
-  tells-permitted t h = record { refused = λ e. absurd (omega (arith, e)); permitted = λ e. h }
+module _ (b : Bool) where
+  pub tells-nothing : Tells b 0
+  tells-nothing = record { refused = λ e. absurd (omega (arith, e)); permitted = λ e. absurd (omega (arith, e)) }
 
-  -- an empty table
-  pub asked-none : (schema : List ℕ) (m : ℕ) → Asked schema (replicate m 0)
-  asked-none schema m = record { tells = λ i h k. subst (λ (x : ℕ). Tells (getD schema i 0 / 4) x) (sym (getD-replicate m i 0 0 (simp length-replicate at k))) (tells-nothing (getD schema i 0 / 4)) }
+  pub tells-refused : b ≡ false → Tells b 1
+  tells-refused h = record { refused = λ e. h; permitted = λ e. absurd (omega (arith, e)) }
+
+  pub tells-permitted : b ≡ true → Tells b 2
+  tells-permitted h = record { refused = λ e. absurd (omega (arith, e)); permitted = λ e. h }
+
+zeros : (m i : ℕ) → _≡_ {A = ℕ} (getD (replicate m 0) i 0) 0
+zeros zero i = refl
+zeros (suc m) zero = refl
+zeros (suc m) (suc i) = zeros m i
+
+module _ (decision : ℕ → Bool) (count : ℕ) where
+  -- a table of `m` places that tells nothing yet
+  pub table-none : (m : ℕ) → Table decision count (replicate m 0)
+  table-none m = record { tells = λ i h. subst (λ (x : ℕ). Tells (decision i) x) (sym (zeros m i)) (tells-nothing (decision i)) }
 
   -- one place more
-  pub asked-on : (schema table : List ℕ) → Asked schema table → (i x : ℕ) → i < length table → Tells (getD schema i 0 / 4) x → Asked schema (set table i x)
-  asked-on schema table h i x l t = record { tells = λ j hj kj. go j hj kj (eqb j i) refl }
+  pub table-on : (table : List ℕ) → Table decision count table → (i x : ℕ) → i < length table → Tells (decision i) x → Table decision count (set table i x)
+  table-on table h i x l t = record { tells = λ j k. go j k (eqb j i) refl }
     where
-      go : (j : ℕ) → j < length schema → j < length (set table i x) → (b : Bool) → eqb j i ≡ b → Tells (getD schema j 0 / 4) (getD (set table i x) j 0)
-      go j hj kj true e = subst (λ (k : ℕ). Tells (getD schema k 0 / 4) (getD (set table i x) k 0)) (sym (eqb-true j i e)) (subst (λ (y : ℕ). Tells (getD schema i 0 / 4) y) (sym (getD-set-same table i x 0 l)) t)
-      go j hj kj false e = subst (λ (y : ℕ). Tells (getD schema j 0 / 4) y) (sym (getD-set-other table i j x 0 (λ f. true≢false (sym (eq-eqb j i f) ∙ e)))) (h .tells j hj (simp length-set at kj))
+      go : (j : ℕ) → j < count → (b : Bool) → eqb j i ≡ b → Tells (decision j) (getD (set table i x) j 0)
+      go j k true e = subst (λ (m : ℕ). Tells (decision m) (getD (set table i x) m 0)) (sym (eqb-true j i e)) (subst (λ (y : ℕ). Tells (decision i) y) (sym (getD-set-same table i x 0 l)) t)
+      go j k false e = subst (λ (y : ℕ). Tells (decision j) y) (sym (getD-set-other table i j x 0 (λ f. true≢false (sym (eq-eqb j i f) ∙ e)))) (h .tells j k)
 
-  -- the place of a type
-  pub tells-at : (schema table : List ℕ) → Asked schema table → (i t : ℕ) → i < length schema → i < length table → getD schema i 0 / 4 ≡ t → Tells t (getD table i 0)
-  tells-at schema table h i t l k e = subst (λ (u : ℕ). Tells u (getD table i 0)) e (h .tells i l k)
+-- the place of a type
+pub tells-at : (σ : Setting) (n : Name) (schema table : List ℕ) → Asked σ n schema table → (i t : ℕ) → i < length schema → getD schema i 0 / 4 ≡ t → Tells (granted σ n (ofType t) FilterMatch) (getD table i 0)
+tells-at σ n schema table h i t l e = subst (λ (u : ℕ). Tells (granted σ n (ofType u) FilterMatch) (getD table i 0)) e (h .tells i l)
+
+-- a value whose bytes were read as `u`
+pub tells-bytes : (σ : Setting) (n : Name) (q t : ℕ) (u v : Bytes) → u ≡ v → (x : ℕ) → Tells (granted σ n (ofValue t u) q) x → Tells (granted σ n (ofValue t v) q) x
+tells-bytes σ n q t u v e x h = subst (λ (y : Bytes). Tells (granted σ n (ofValue t y) q) x) e h

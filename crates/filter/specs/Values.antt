@@ -33,8 +33,8 @@ module _ (σ : Setting) (n : Name) (t q : ℕ) (test : Bytes → Bool) (of : ℕ
         go true false = refl
         go false b = refl
 
-    pub counts-granted : of ≡ t → test u ≡ true → countsBy σ n t q test (part of x) ≡ granted σ n (ofValue t u) q
-    counts-granted e h = rw (← same, eq-eqb of t e, h, e) (go (granted σ n (ofValue t u) q))
+    pub counts-granted : of ≡ t → test u ≡ true → countsBy σ n t q test (part of x) ≡ granted σ n (ofValue of u) q
+    counts-granted e h = rw (← same, eq-eqb of t e, h) (go (granted σ n (ofValue of u) q))
       where
         go : (b : Bool) → (b && true) ≡ b
         go true = refl

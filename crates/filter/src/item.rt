@@ -1,12 +1,12 @@
 // The truth of one item for an entry. Undefined goes before all else; what is not held is false.
 use super::pieces::pieces_fit;
 use super::truth::truth_of;
-use super::types::FILTER_MATCH;
 use super::types::type_granted;
 use super::values::some_value;
 use crate::AT_LEAST;
 use crate::AT_MOST;
 use crate::EQUALITY;
+use crate::FILTER_MATCH;
 use crate::PRESENT;
 use rules::Found;
 use rules::Truth;
@@ -23,8 +23,8 @@ ghost use Rattle.rules.specs.Decision.{Setting, ofType, granted};
 ghost use Rattle.rules.specs.FilterItem.{itemTruth};
 ghost use Rattle.rules.specs.Places.{linesAt};
 ghost use Rattle.rules.specs.Laws.Filter.{piecesOf};
-ghost use Rattle.decision.specs.Chosen.{Rows, Chosen};
-ghost use Rattle.filter.specs.Asked.{Asked};
+ghost use Rattle.access.specs.Chosen.{Rows, Chosen};
+ghost use Rattle.filter.specs.Asked.{Asked, AskedValues};
 ghost use Rattle.filter.specs.Items.{assertionBy, definedBy, satisfiedBy};
 ghost use Rattle.filter.specs.Seen.{Seen};
 
@@ -53,7 +53,7 @@ fn decidable(
     schema: &[u64],
     rights: &[u64],
     list: &[usize],
-    table: &[u64],
+    table: &[u8],
     s: u64,
     kind: u64,
     t: u64,
@@ -83,6 +83,7 @@ fn satisfied(
     types: &[u64],
     places: &[usize],
     sizes: &[usize],
+    known: &[u8],
     s: u64,
     kind: u64,
     t: u64,
@@ -92,7 +93,7 @@ fn satisfied(
     count: u64,
 ) -> bool
     requires { ⌜ (w ≤ 18) × (length (now places) ≡ length (now types)) × (length (now sizes) ≡ length (now types)) ⌝ }
-    ensures { λ r. ⌜ ((σ : Setting) (n : Name) (ps : List Part) → Seen σ n ps (now (schema .entry)) w (now (d .entry)) (now (p .entry)) (now (rights .entry)) (now (list .entry)) (now (types .entry)) (now (places .entry)) (now (sizes .entry)) → r ≡ satisfiedBy σ (record { name = n; held = heldOf ps }) s kind t (piecesOf count (linesAt w (now (q .entry)) next)) (now (v .entry))) ⌝ }
+    ensures { λ r. ⌜ ((σ : Setting) (n : Name) (ps : List Part) → Seen σ n ps (now (schema .entry)) w (now (d .entry)) (now (p .entry)) (now (rights .entry)) (now (list .entry)) (now (types .entry)) (now (places .entry)) (now (sizes .entry)) → AskedValues σ n FilterMatch (now (d .entry)) (now (types .entry)) (now (places .entry)) (now (sizes .entry)) (now (known .entry)) → r ≡ satisfiedBy σ (record { name = n; held = heldOf ps }) s kind t (piecesOf count (linesAt w (now (q .entry)) next)) (now (v .entry))) ⌝ }
 {
     if kind == PRESENT {
         return entry::holds(types, t);
@@ -107,6 +108,7 @@ fn satisfied(
         types,
         places,
         sizes,
+        known,
         s,
         kind,
         t,
@@ -126,10 +128,11 @@ pub(crate) fn item(
     p: &[u8],
     rights: &[u64],
     list: &[usize],
-    table: &[u64],
+    table: &[u8],
     types: &[u64],
     places: &[usize],
     sizes: &[usize],
+    known: &[u8],
     kind: u64,
     t: u64,
     v: &[u8],
@@ -138,7 +141,7 @@ pub(crate) fn item(
     count: u64,
 ) -> Truth
     requires { ⌜ (w ≤ 18) × (length (now places) ≡ length (now types)) × (length (now sizes) ≡ length (now types)) ⌝ }
-    ensures { λ r. ⌜ ((σ : Setting) (n : Name) (ps : List Part) → Seen σ n ps (now (schema .entry)) w (now (d .entry)) (now (p .entry)) (now (rights .entry)) (now (list .entry)) (now (types .entry)) (now (places .entry)) (now (sizes .entry)) → Asked σ n (now (schema .entry)) (now (table .entry)) → r ≡ itemTruth σ (record { name = n; held = heldOf ps }) (assertionBy kind t (now (v .entry)) (piecesOf count (linesAt w (now (q .entry)) next)))) ⌝ }
+    ensures { λ r. ⌜ ((σ : Setting) (n : Name) (ps : List Part) → Seen σ n ps (now (schema .entry)) w (now (d .entry)) (now (p .entry)) (now (rights .entry)) (now (list .entry)) (now (types .entry)) (now (places .entry)) (now (sizes .entry)) → Asked σ n (now (schema .entry)) (now (table .entry)) → AskedValues σ n FilterMatch (now (d .entry)) (now (types .entry)) (now (places .entry)) (now (sizes .entry)) (now (known .entry)) → r ≡ itemTruth σ (record { name = n; held = heldOf ps }) (assertionBy kind t (now (v .entry)) (piecesOf count (linesAt w (now (q .entry)) next)))) ⌝ }
 {
     let Found::At(s) = name::syntax_of(schema, t) else {
         return Truth::Undefined;
@@ -167,6 +170,7 @@ pub(crate) fn item(
             types,
             places,
             sizes,
+            known,
             s as u64,
             kind,
             t,

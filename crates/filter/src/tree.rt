@@ -1,4 +1,6 @@
 // A filter evaluated where its lines stand on the request, an operator before its parts.
+use super::granted::ask_values;
+use super::granted::worth_values;
 use super::item::item;
 use super::pieces::skip;
 use super::truth::is_true;
@@ -24,6 +26,7 @@ ghost use Rattle.rules.specs.Sheet.{valueOf};
 ghost use Rattle.rules.specs.Name.{Name, Part};
 ghost use Rattle.rules.specs.Directory.{heldOf};
 ghost use Rattle.rules.specs.Judge.{accept};
+ghost use Rattle.rules.specs.Permission.{FilterMatch};
 ghost use Rattle.rules.specs.Decision.{Setting};
 ghost use Rattle.rules.specs.Filter.{Filter, isTrue};
 ghost use Rattle.rules.specs.Filter as Filter;
@@ -31,8 +34,8 @@ ghost use Rattle.rules.specs.FilterItem.{itemTruth};
 ghost use Rattle.rules.specs.Request as Request;
 ghost use Rattle.rules.specs.Places.{schemaOf, linesAt, ValuesAt};
 ghost use Rattle.rules.specs.Laws.Filter.{piecesOf, evaluated, evaluateLines};
-ghost use Rattle.decision.specs.Chosen.{Rows, Chosen};
-ghost use Rattle.filter.specs.Asked.{Asked};
+ghost use Rattle.access.specs.Chosen.{Rows, Chosen};
+ghost use Rattle.filter.specs.Asked.{Asked, AskedValues};
 ghost use Rattle.filter.specs.Items.{assertionBy};
 ghost use Rattle.filter.specs.Seen.{Seen};
 ghost use Rattle.filter.specs.Tree.{nodeAt, afterBy};
@@ -134,10 +137,11 @@ fn leaf(
     p: &[u8],
     rights: &[u64],
     list: &[usize],
-    table: &[u64],
+    table: &[u8],
     types: &[u64],
     places: &[usize],
     sizes: &[usize],
+    known: &[u8],
     q: &[u8],
     at: usize,
     kind: u64,
@@ -147,7 +151,7 @@ fn leaf(
     next: usize,
 ) -> Step
     requires { ⌜ (w ≤ 18) × (length (now places) ≡ length (now types)) × (length (now sizes) ≡ length (now types)) × (at + (5 * w + len) ≤ length (now q)) ⌝ }
-    ensures { λ r. ⌜ ((σ : Setting) (n : Name) (ps : List Part) → Seen σ n ps (now (schema .entry)) w (now (d .entry)) (now (p .entry)) (now (rights .entry)) (now (list .entry)) (now (types .entry)) (now (places .entry)) (now (sizes .entry)) → Asked σ n (now (schema .entry)) (now (table .entry)) → evaluated (r .truth) (linesAt w (now (q .entry)) (r .next)) ≡ evaluated (itemTruth σ (record { name = n; held = heldOf ps }) (assertionBy kind a (valueOf w len (drop at (now (q .entry)))) (piecesOf b (linesAt w (now (q .entry)) next)))) (afterBy kind b (linesAt w (now (q .entry)) next))) ⌝ }
+    ensures { λ r. ⌜ ((σ : Setting) (n : Name) (ps : List Part) → Seen σ n ps (now (schema .entry)) w (now (d .entry)) (now (p .entry)) (now (rights .entry)) (now (list .entry)) (now (types .entry)) (now (places .entry)) (now (sizes .entry)) → Asked σ n (now (schema .entry)) (now (table .entry)) → AskedValues σ n FilterMatch (now (d .entry)) (now (types .entry)) (now (places .entry)) (now (sizes .entry)) (now (known .entry)) → evaluated (r .truth) (linesAt w (now (q .entry)) (r .next)) ≡ evaluated (itemTruth σ (record { name = n; held = heldOf ps }) (assertionBy kind a (valueOf w len (drop at (now (q .entry)))) (piecesOf b (linesAt w (now (q .entry)) next)))) (afterBy kind b (linesAt w (now (q .entry)) next))) ⌝ }
 {
     let v = sheet::value_at(q, at, len, w);
     let truth = item(
@@ -161,6 +165,7 @@ fn leaf(
         types,
         places,
         sizes,
+        known,
         kind,
         a,
         v,
@@ -183,16 +188,17 @@ pub fn evaluate(
     p: &[u8],
     rights: &[u64],
     list: &[usize],
-    table: &[u64],
+    table: &[u8],
     types: &[u64],
     places: &[usize],
     sizes: &[usize],
+    known: &[u8],
     q: &[u8],
     at: usize,
     depth: usize,
 ) -> Step
     requires { ⌜ (w ≤ 18) × (length (now places) ≡ length (now types)) × (length (now sizes) ≡ length (now types)) ⌝ }
-    ensures { λ r. ⌜ ((σ : Setting) (n : Name) (ps : List Part) → Seen σ n ps (now (schema .entry)) w (now (d .entry)) (now (p .entry)) (now (rights .entry)) (now (list .entry)) (now (types .entry)) (now (places .entry)) (now (sizes .entry)) → Asked σ n (now (schema .entry)) (now (table .entry)) → evaluated (r .truth) (linesAt w (now (q .entry)) (r .next)) ≡ evaluateLines (itemTruth σ (record { name = n; held = heldOf ps })) depth (linesAt w (now (q .entry)) at)) ⌝ }
+    ensures { λ r. ⌜ ((σ : Setting) (n : Name) (ps : List Part) → Seen σ n ps (now (schema .entry)) w (now (d .entry)) (now (p .entry)) (now (rights .entry)) (now (list .entry)) (now (types .entry)) (now (places .entry)) (now (sizes .entry)) → Asked σ n (now (schema .entry)) (now (table .entry)) → AskedValues σ n FilterMatch (now (d .entry)) (now (types .entry)) (now (places .entry)) (now (sizes .entry)) (now (known .entry)) → evaluated (r .truth) (linesAt w (now (q .entry)) (r .next)) ≡ evaluateLines (itemTruth σ (record { name = n; held = heldOf ps })) depth (linesAt w (now (q .entry)) at)) ⌝ }
 {
     if depth == 0 {
         return Step {
@@ -222,6 +228,7 @@ pub fn evaluate(
             types,
             places,
             sizes,
+            known,
             q,
             at,
             kind,
@@ -242,6 +249,7 @@ pub fn evaluate(
                 types,
                 places,
                 sizes,
+                known,
                 q,
                 next,
                 depth - 1,
@@ -272,6 +280,7 @@ pub fn evaluate(
                     types,
                     places,
                     sizes,
+                    known,
                     q,
                     pos,
                     depth - 1,
@@ -304,6 +313,18 @@ pub fn matches(
     ensures { λ r. ⌜ ((σ : Setting) (n : Name) (scopes : List ℕ) (ps : List Part) → σ .schema ≡ schemaOf (now (schema .entry)) → Rows w (now (p .entry)) (σ .items) (now (rights .entry)) scopes → Chosen σ n (now (list .entry)) → ValuesAt (now (d .entry)) ps (now (types .entry)) (now (places .entry)) (now (sizes .entry)) → (f : Filter) → Request.filter 16 128 (linesAt w (now (q .entry)) at) (λ f left rest. accept f) ≡ accept f → r ≡ isTrue (Filter.evaluate (itemTruth σ (record { name = n; held = heldOf ps })) f)) ⌝ }
 {
     let table = ask(schema, rights, list, worth(schema, w, q, at));
+    let known = ask_values(
+        schema,
+        w,
+        d,
+        p,
+        rights,
+        list,
+        types,
+        places,
+        sizes,
+        worth_values(types, w, q, at),
+    );
     let whole = evaluate(
         schema,
         w,
@@ -315,6 +336,7 @@ pub fn matches(
         types,
         places,
         sizes,
+        &known,
         q,
         at,
         16,

@@ -1,6 +1,10 @@
 // FilterMatch on the types of an entry. Before a long filter every type of the schema is asked about once, and the answers are kept in a table
 // by the types' places in the schema; what the table does not tell is asked where an item needs it.
-use decision::granted_type;
+use crate::FILTER_MATCH;
+use crate::GRANTED;
+use crate::NOT_ASKED;
+use crate::REFUSED;
+use access::grant::granted_type;
 ghost use mathlib.Core.Path.{_≡_};
 ghost use Prim.Native.Nat.{ℕ, _≤_};
 ghost use mathlib.Core.List.{List};
@@ -12,33 +16,30 @@ ghost use Rattle.rules.specs.Decision.{Setting, ofType, granted};
 ghost use Rattle.decision.specs.Chosen.{Rows, Chosen};
 ghost use Rattle.filter.specs.Asked.{Tells, Asked};
 
-// The permission FilterMatch.
-pub(crate) const FILTER_MATCH: u64 = 32;
-
-// What the table has for a type: nothing yet, or FilterMatch refused or granted.
-const NOT_ASKED: u64 = 0;
-
-const REFUSED: u64 = 1;
-
-const GRANTED: u64 = 2;
+// How many lines there can be from position `at` on.
+pub(crate) fn lines_left(w: usize, q: &[u8], at: usize) -> usize
+    requires { ⌜ w ≤ 18 ⌝ }
+{
+    if q.len() <= at {
+        return 0;
+    }
+    (q.len() - at) / (5 * w + 1)
+}
 
 // How many of the schema's types are worth asking about ahead: all of them if the filter at position `at` can have twice as many lines, else none.
 pub(crate) fn worth(schema: &[u64], w: usize, q: &[u8], at: usize) -> usize
     requires { ⌜ w ≤ 18 ⌝ }
     ensures { λ r. ⌜ r ≤ length (now (schema .entry)) ⌝ }
 {
-    if q.len() <= at {
-        return 0;
-    }
-    if schema.len() <= (q.len() - at) / (10 * w + 2) {
+    if schema.len() <= lines_left(w, q, at) / 2 {
         return schema.len();
     }
     0
 }
 
 // The table's number for the type `t`, by the decision.
-fn asked_about(rights: &[u64], list: &[usize], t: u64) -> u64
-    ensures { λ r. ⌜ ((σ : Setting) (n : Name) (w : ℕ) (p : Bytes) (scopes : List ℕ) → Rows w p (σ .items) (now (rights .entry)) scopes → Chosen σ n (now (list .entry)) → Tells σ n t r) ⌝ }
+fn asked_about(rights: &[u64], list: &[usize], t: u64) -> u8
+    ensures { λ r. ⌜ ((σ : Setting) (n : Name) (w : ℕ) (p : Bytes) (scopes : List ℕ) → Rows w p (σ .items) (now (rights .entry)) scopes → Chosen σ n (now (list .entry)) → Tells (granted σ n (ofType t) FilterMatch) r) ⌝ }
 {
     if granted_type(rights, list, t, FILTER_MATCH) {
         return GRANTED;
@@ -47,11 +48,11 @@ fn asked_about(rights: &[u64], list: &[usize], t: u64) -> u64
 }
 
 // A table for the first `count` types of the schema, 64 at most.
-pub(crate) fn ask(schema: &[u64], rights: &[u64], list: &[usize], count: usize) -> [u64; 64]
+pub(crate) fn ask(schema: &[u64], rights: &[u64], list: &[usize], count: usize) -> [u8; 64]
     requires { ⌜ count ≤ length (now schema) ⌝ }
     ensures { λ r. ⌜ ((σ : Setting) (n : Name) (w : ℕ) (p : Bytes) (scopes : List ℕ) → Rows w p (σ .items) (now (rights .entry)) scopes → Chosen σ n (now (list .entry)) → Asked σ n (now (schema .entry)) r) ⌝ }
 {
-    let mut table: [u64; 64] = [NOT_ASKED; 64];
+    let mut table: [u8; 64] = [NOT_ASKED; 64];
     let mut i: usize = 0;
     while i < 64 {
         if count <= i {
@@ -64,8 +65,8 @@ pub(crate) fn ask(schema: &[u64], rights: &[u64], list: &[usize], count: usize) 
 }
 
 // The table's number for the type `t`.
-fn told(schema: &[u64], table: &[u64], t: u64) -> u64
-    ensures { λ r. ⌜ ((σ : Setting) (n : Name) → Asked σ n (now (schema .entry)) (now (table .entry)) → Tells σ n t r) ⌝ }
+fn told(schema: &[u64], table: &[u8], t: u64) -> u8
+    ensures { λ r. ⌜ ((σ : Setting) (n : Name) → Asked σ n (now (schema .entry)) (now (table .entry)) → Tells (granted σ n (ofType t) FilterMatch) r) ⌝ }
 {
     let mut i: usize = 0;
     while i < table.len() {
@@ -85,7 +86,7 @@ pub(crate) fn type_granted(
     schema: &[u64],
     rights: &[u64],
     list: &[usize],
-    table: &[u64],
+    table: &[u8],
     t: u64,
 ) -> bool
     ensures { λ r. ⌜ ((σ : Setting) (n : Name) (w : ℕ) (p : Bytes) (scopes : List ℕ) → Rows w p (σ .items) (now (rights .entry)) scopes → Chosen σ n (now (list .entry)) → Asked σ n (now (schema .entry)) (now (table .entry)) → r ≡ granted σ n (ofType t) FilterMatch) ⌝ }

@@ -1,23 +1,25 @@
 // The values that an entry holds, each noted by its type, the position of its bytes on the directory and their number, tested one by one.
-// Numbers are compared before bytes, and bytes before the items that concern the entry are asked.
+// Numbers are compared before bytes, and bytes before the permission is asked.
+use super::granted::value_granted;
 use super::pieces::substrings;
 use super::truth::not_below;
 use crate::AT_LEAST;
 use crate::AT_MOST;
 use crate::EQUALITY;
-use decision::granted_value;
 use rules::Found;
 ghost use mathlib.Core.Path.{_≡_};
 ghost use Prim.Native.Nat.{ℕ, _+_, _≤_};
 ghost use mathlib.Core.List.{List};
-ghost use lib.ListN.{length, take, drop};
+ghost use lib.ListN.{length, getD, take, drop};
 ghost use Rattle.rules.specs.Name.{Name, Part, part, equal};
 ghost use Rattle.rules.specs.Directory.{heldOf};
-ghost use Rattle.rules.specs.Decision.{Setting};
+ghost use Rattle.rules.specs.Decision.{Setting, ofValue, granted};
 ghost use Rattle.rules.specs.FilterItem.{someValue};
 ghost use Rattle.rules.specs.Places.{schemaOf, linesAt, ValuesAt};
 ghost use Rattle.rules.specs.Laws.Filter.{piecesOf};
-ghost use Rattle.decision.specs.Chosen.{Rows, Chosen};
+ghost use Rattle.access.specs.Chosen.{Rows, Chosen};
+ghost use Rattle.entry.specs.Values.{bytesAt};
+ghost use Rattle.filter.specs.Asked.{Tells, AskedValues};
 ghost use Rattle.filter.specs.Items.{passesBy};
 ghost use Rattle.filter.specs.Seen.{Ruled, Seen};
 ghost use Rattle.filter.specs.Values.{countsBy};
@@ -48,7 +50,8 @@ fn passes(
     substrings(q, next, count, w, u)
 }
 
-// Is the value noted by `of`, `place` and `size` of the type `t`, does it pass the item's test, and is the permission granted on it?
+// Is the value noted by `of`, `place` and `size`, the one with number `i`, of the type `t`, does it pass the item's test, and is the permission granted
+// on it? `known` is a table of what was asked ahead.
 fn counts(
     schema: &[u64],
     w: usize,
@@ -56,6 +59,8 @@ fn counts(
     p: &[u8],
     rights: &[u64],
     list: &[usize],
+    known: &[u8],
+    i: usize,
     of: u64,
     place: usize,
     size: usize,
@@ -69,19 +74,19 @@ fn counts(
     permission: u64,
 ) -> bool
     requires { ⌜ (w ≤ 18) × (1 ≤ permission) ⌝ }
-    ensures { λ r. ⌜ ((σ : Setting) (n : Name) → Ruled σ n (now (schema .entry)) w (now (p .entry)) (now (rights .entry)) (now (list .entry)) → place + size ≤ length (now (d .entry)) → r ≡ countsBy σ n t permission (passesBy s kind (piecesOf count (linesAt w (now (q .entry)) next)) (now (v .entry))) (part of (take size (drop place (now (d .entry)))))) ⌝ }
+    ensures { λ r. ⌜ ((σ : Setting) (n : Name) → Ruled σ n (now (schema .entry)) w (now (p .entry)) (now (rights .entry)) (now (list .entry)) → place + size ≤ length (now (d .entry)) → Tells (granted σ n (ofValue of (bytesAt (now (d .entry)) place size)) permission) (getD (now (known .entry)) i 0) → r ≡ countsBy σ n t permission (passesBy s kind (piecesOf count (linesAt w (now (q .entry)) next)) (now (v .entry))) (part of (take size (drop place (now (d .entry)))))) ⌝ }
 {
     if of != t {
         return false;
     }
     let u = entry::bytes_at(d, place, size);
     if passes(s, kind, v, q, next, count, w, u) {
-        return granted_value(schema, w, p, rights, list, t, u, permission);
+        return value_granted(schema, w, p, rights, list, known, i, of, u, permission);
     }
     false
 }
 
-// Does some value of the type `t` with the permission granted pass the item's test?
+// Does some value of the type `t` with the permission granted pass the item's test? `known` is a table of what was asked ahead.
 pub(crate) fn some_value(
     schema: &[u64],
     w: usize,
@@ -92,6 +97,7 @@ pub(crate) fn some_value(
     types: &[u64],
     places: &[usize],
     sizes: &[usize],
+    known: &[u8],
     s: u64,
     kind: u64,
     t: u64,
@@ -102,7 +108,7 @@ pub(crate) fn some_value(
     permission: u64,
 ) -> bool
     requires { ⌜ (w ≤ 18) × (1 ≤ permission) × (length (now places) ≡ length (now types)) × (length (now sizes) ≡ length (now types)) ⌝ }
-    ensures { λ r. ⌜ ((σ : Setting) (n : Name) (ps : List Part) → Seen σ n ps (now (schema .entry)) w (now (d .entry)) (now (p .entry)) (now (rights .entry)) (now (list .entry)) (now (types .entry)) (now (places .entry)) (now (sizes .entry)) → r ≡ someValue σ (record { name = n; held = heldOf ps }) t permission (passesBy s kind (piecesOf count (linesAt w (now (q .entry)) next)) (now (v .entry)))) ⌝ }
+    ensures { λ r. ⌜ ((σ : Setting) (n : Name) (ps : List Part) → Seen σ n ps (now (schema .entry)) w (now (d .entry)) (now (p .entry)) (now (rights .entry)) (now (list .entry)) (now (types .entry)) (now (places .entry)) (now (sizes .entry)) → AskedValues σ n permission (now (d .entry)) (now (types .entry)) (now (places .entry)) (now (sizes .entry)) (now (known .entry)) → r ≡ someValue σ (record { name = n; held = heldOf ps }) t permission (passesBy s kind (piecesOf count (linesAt w (now (q .entry)) next)) (now (v .entry)))) ⌝ }
 {
     let mut i: usize = 0;
     while i < types.len() {
@@ -113,6 +119,8 @@ pub(crate) fn some_value(
             p,
             rights,
             list,
+            known,
+            i,
             types[i],
             places[i],
             sizes[i],
@@ -151,7 +159,7 @@ pub fn held_equal(
     ensures { λ r. ⌜ ((σ : Setting) (n : Name) (scopes : List ℕ) (ps : List Part) → σ .schema ≡ schemaOf (now (schema .entry)) → Rows w (now (p .entry)) (σ .items) (now (rights .entry)) scopes → Chosen σ n (now (list .entry)) → ValuesAt (now (d .entry)) ps (now (types .entry)) (now (places .entry)) (now (sizes .entry)) → r ≡ someValue σ (record { name = n; held = heldOf ps }) t q (λ u. equal (σ .schema) t (now (v .entry)) u)) ⌝ }
 {
     match name::syntax_of(schema, t) {
-        // an equality item, which has no pieces
+        // an equality item, which has no pieces; nothing was asked ahead
         Found::At(s) => some_value(
             schema,
             w,
@@ -162,6 +170,7 @@ pub fn held_equal(
             types,
             places,
             sizes,
+            b"",
             s as u64,
             EQUALITY,
             t,

@@ -12,51 +12,51 @@ use Rattle.value.proofs.fits.Reads as fits-reads
 use Rattle.value.proofs.ordered.Reads as ordered-reads
 use Rattle.value.proofs.searchable.Reads as searchable-reads
 
--- src/item.rt:38:9
+-- src/item.rt:37:9
 fits-requires : tie.Need-fits-requires
 fits-requires c κs = search needs
 
--- src/item.rt:38:9
+-- src/item.rt:37:9
 returns : tie.Need-returns
 returns c = unfold definedBy in rw (eq-eqb _ _ (c .before .if1 .taken)) (c .fits2 .ensures)
 
--- src/item.rt:41:16
+-- src/item.rt:40:16
 ordered-requires : tie.Need-ordered-requires
 ordered-requires c κs = search needs
 
--- src/item.rt:41:36
+-- src/item.rt:40:36
 fits-requires-2 : tie.Need-fits-requires-2
 fits-requires-2 c κs = search needs
 
--- src/item.rt:41:9
+-- src/item.rt:40:9
 returns-2 : tie.Need-returns-2
 returns-2 c = unfold definedBy in rw (ne-eqb _ _ (c .before .before .before .if1 .left), eq-eqb _ _ (c .before .before .if2 .taken)) (ap₂ _&&_ (c .before .ordered .ensures) (c .fits3 .ensures))
 
--- src/item.rt:44:16
+-- src/item.rt:43:16
 ordered-requires-2 : tie.Need-ordered-requires-2
 ordered-requires-2 c κs = search needs
 
--- src/item.rt:44:36
+-- src/item.rt:43:36
 fits-requires-3 : tie.Need-fits-requires-3
 fits-requires-3 c κs = search needs
 
--- src/item.rt:44:9
+-- src/item.rt:43:9
 returns-3 : tie.Need-returns-3
 returns-3 c = unfold definedBy in rw (ne-eqb _ _ (c .before .before .before .before .if1 .left), ne-eqb _ _ (c .before .before .before .if2 .left), eq-eqb _ _ (c .before .before .if3 .taken)) (ap₂ _&&_ (c .before .ordered2 .ensures) (c .fits4 .ensures))
 
--- src/item.rt:47:9
+-- src/item.rt:46:9
 returns-4 : tie.Need-returns-4
 returns-4 c = unfold definedBy in rw (ne-eqb _ _ (c .before .before .before .if1 .left), ne-eqb _ _ (c .before .before .if2 .left), ne-eqb _ _ (c .before .if3 .left), eq-eqb _ _ (c .if4 .taken))
 
--- src/item.rt:49:5
+-- src/item.rt:48:5
 searchable-requires : tie.Need-searchable-requires
 searchable-requires c κs = search needs
 
--- src/item.rt:49:28
+-- src/item.rt:48:28
 pieces-fit-requires : tie.Need-pieces-fit-requires
 pieces-fit-requires c κs = search needs
 
--- src/item.rt:33:1
+-- src/item.rt:32:1
 returns-5 : tie.Need-returns-5
 returns-5 c = unfold definedBy in rw (ne-eqb _ _ (c .before .before .before .before .before .if1 .left), ne-eqb _ _ (c .before .before .before .before .if2 .left), ne-eqb _ _ (c .before .before .before .if3 .left), ne-eqb _ _ (c .before .before .if4 .left)) (ap₂ _&&_ (c .before .searchable .ensures) (c .pieces-fit .ensures))
 

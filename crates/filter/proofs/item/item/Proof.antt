@@ -14,43 +14,43 @@ use Rattle.filter.proofs.item.satisfied.Reads as satisfied-reads
 use Rattle.filter.proofs.truth.truth_of.Reads as truth-of-reads
 use Rattle.name.proofs.syntax_of.Reads as syntax-of-reads
 
--- src/item.rt:141:24
+-- src/item.rt:146:24
 syntax-of-requires : tie.Need-syntax-of-requires
 syntax-of-requires c κs = search needs
 
--- src/item.rt:141:19
+-- src/item.rt:146:19
 enum-known-s : tie.Need-enum-known-s
 enum-known-s c = search needs
 
--- src/item.rt:142:9
+-- src/item.rt:147:9
 enum-told : tie.Need-enum-told
 enum-told c = search needs
 
--- src/item.rt:142:9
+-- src/item.rt:147:9
 returns : tie.Need-returns
-returns c = let a = c .before .before .before .before .before .before .before .before .before .before .before .before .before .before .args in λ σ n ps h k. sym (item-unknown σ n ps (now (a .schema)) (h .ruled .schema-is) (a .kind) (a .t) (now (a .v)) (piecesOf (a .count) (linesAt (a .w) (now (a .q)) (a .next))) (sym (c .before .before .syntax-of .ensures) ∙ c .enum-told .given .1))
+returns c = let a = c .before .before .before .before .before .before .before .before .before .before .before .before .before .before .before .args in λ σ n ps h k l. sym (item-unknown σ n ps (now (a .schema)) (h .ruled .schema-is) (a .kind) (a .t) (now (a .v)) (piecesOf (a .count) (linesAt (a .w) (now (a .q)) (a .next))) (sym (c .before .before .syntax-of .ensures) ∙ c .enum-told .given .1))
 
--- src/item.rt:144:8
+-- src/item.rt:149:8
 decidable-requires : tie.Need-decidable-requires
 decidable-requires c κs = search needs
 
--- src/item.rt:145:25
+-- src/item.rt:163:25
 satisfied-requires : tie.Need-satisfied-requires
 satisfied-requires c κs = search needs
 
--- src/item.rt:145:9
+-- src/item.rt:163:9
 truth-of-requires : tie.Need-truth-of-requires
 truth-of-requires c κs = search needs
 
--- src/item.rt:145:9
+-- src/item.rt:163:9
 returns-2 : tie.Need-returns-2
-returns-2 c = let a = c .before .before .before .before .before .before .before .before .before .before .before .before .before .before .before .before .before .before .before .args in λ σ n ps h k. c .truth-of .ensures ∙ ap truth (c .before .satisfied .ensures σ n ps h)
+returns-2 c = let a = c .before .before .before .before .before .before .before .before .before .before .before .before .before .before .before .before .before .before .before .before .args in λ σ n ps h k l. c .truth-of .ensures ∙ ap truth (c .before .satisfied .ensures σ n ps h l)
     ∙ sym (item-decided σ n ps (now (a .schema)) (h .ruled .schema-is) (a .kind) (a .t) (now (a .v)) (piecesOf (a .count) (linesAt (a .w) (now (a .q)) (a .next))) _ (sym (c .before .before .before .before .before .before .before .syntax-of .ensures) ∙ c .before .before .before .before .before .s .given .1)
     (sym (c .before .before .before .decidable .ensures σ n (now (a .p)) (h .ruled .scopes) (h .ruled .rows) (h .ruled .chosen) k) ∙ c .before .before .if1 .taken))
 
--- src/item.rt:121:1
+-- src/item.rt:124:1
 returns-3 : tie.Need-returns-3
-returns-3 c = let a = c .before .before .before .before .before .before .before .before .before .before .before .before .before .before .before .before .before .args in λ σ n ps h k.
+returns-3 c = let a = c .before .before .before .before .before .before .before .before .before .before .before .before .before .before .before .before .before .before .args in λ σ n ps h k l.
     sym (item-undecided σ n ps (now (a .schema)) (h .ruled .schema-is) (a .kind) (a .t) (now (a .v)) (piecesOf (a .count) (linesAt (a .w) (now (a .q)) (a .next))) _ (sym (c .before .before .before .before .before .syntax-of .ensures) ∙ c .before .before .before .s .given .1)
     (sym (c .before .decidable .ensures σ n (now (a .p)) (h .ruled .scopes) (h .ruled .rows) (h .ruled .chosen) k) ∙ c .if1 .left))
 

@@ -3,12 +3,11 @@ use mathlib.Core.Path.{_≡_, refl, sym, _∙_}
 use mathlib.Core.List.{List}
 use native.Mathlib.Omega.{arith}
 use lib.ListN.{length}
-use denote.Ref.{now}
 use Rattle.rules.specs.Sheet.{Bytes}
 use Rattle.rules.specs.Name.{Name}
 use Rattle.rules.specs.Decision.{Setting}
-use Rattle.decision.specs.Chosen.{Rows, Chosen}
-use Rattle.filter.specs.Asked.{Asked, asked-none, asked-on}
+use Rattle.access.specs.Chosen.{Rows, Chosen}
+use Rattle.filter.specs.Asked.{Asked, table-none, table-on}
 use borrow.Author.Needs.{needs}
 use Rattle.filter.proofs.types.ask.Statement.{statement}
 use Rattle.filter.proofs.types.ask.Tie as tie
@@ -23,51 +22,46 @@ Inv-loop schema rights list count table₀ i₀ table i = (length table ≡ 64)
 abbrev μ-loop : tie.MeasureT-loop
 μ-loop schema rights list count table₀ i₀ table i = 64 - i
 
--- src/types.rt:56:5
+-- src/types.rt:57:5
 loop-holds : tie.Need-loop-holds Inv-loop μ-loop
-loop-holds c = (search needs, λ σ n w p scopes rows chosen. asked-none σ n (now (c .before .before .before .args .schema)) 64)
+loop-holds c = (search needs, λ σ n w p scopes rows chosen. table-none _ _ 64)
 
--- src/types.rt:58:13
+-- src/types.rt:59:13
 returns : tie.Need-returns Inv-loop μ-loop
 returns c = c .before .before .loop .inv .1
 
--- src/types.rt:60:46
+-- src/types.rt:61:46
 mul-asked-about : tie.Need-mul-asked-about Inv-loop μ-loop
 mul-asked-about c = search needs
 
--- src/types.rt:60:46
+-- src/types.rt:61:46
 shared-slice-read-asked-about : tie.Need-shared-slice-read-asked-about Inv-loop μ-loop
 shared-slice-read-asked-about c = search needs
 
--- src/types.rt:60:20
+-- src/types.rt:61:20
 asked-about-requires : tie.Need-asked-about-requires Inv-loop μ-loop
 asked-about-requires c κs = search needs
 
--- src/types.rt:60:9
-mul-table : tie.Need-mul-table Inv-loop μ-loop
-mul-table c = search needs
-
--- src/types.rt:60:9
+-- src/types.rt:61:9
 array-write-table : tie.Need-array-write-table Inv-loop μ-loop
 array-write-table c = search needs
 
--- src/types.rt:61:9
+-- src/types.rt:62:9
 add-i : tie.Need-add-i Inv-loop μ-loop
 add-i c = search needs
 
--- src/types.rt:56:5
+-- src/types.rt:57:5
 loop-less : tie.Need-loop-less Inv-loop μ-loop
 loop-less c = search needs
 
--- src/types.rt:56:5
+-- src/types.rt:57:5
 loop-again : tie.Need-loop-again Inv-loop μ-loop
-loop-again c = let a = c .before .before .before .before .before .before .before .before .args in
-    let L = c .before .before .before .before .loop in (
-      search needs,
-      λ σ n w p scopes rows chosen. asked-on σ n (now (a .schema)) (L .table) (L .inv .1 σ n w p scopes rows chosen) (L .i) (c .asked-about .result) (omega (arith, L .inv .0, c .before .before .before .loop-test .taken)) (c .asked-about .ensures σ n w p scopes rows chosen),
-    )
+loop-again c = let L = c .before .before .before .before .loop in (
+  search needs,
+  λ σ n w p scopes rows chosen. table-on _ _ (L .table) (L .inv .1 σ n w p scopes rows chosen) (L .i) (c .asked-about .result) (omega (arith, L .inv .0, c .before .before .before .loop-test .taken)) (c .asked-about .ensures σ n w p scopes rows chosen),
+)
 
--- src/types.rt:50:1
+-- src/types.rt:51:1
 returns-2 : tie.Need-returns-2 Inv-loop μ-loop
 returns-2 c = c .before .loop .inv .1
 
@@ -82,7 +76,6 @@ ask-spec =
     mul-asked-about
     shared-slice-read-asked-about
     asked-about-requires
-    mul-table
     array-write-table
     add-i
     loop-less

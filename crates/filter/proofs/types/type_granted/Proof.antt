@@ -7,23 +7,23 @@ use Rattle.filter.proofs.types.type_granted.Lts as lts
 use Rattle.decision.proofs.granted_type.Reads as granted-type-reads
 use Rattle.filter.proofs.types.told.Reads as told-reads
 
--- src/types.rt:93:9
+-- src/types.rt:94:9
 told-requires : tie.Need-told-requires
 told-requires c κs = search needs
 
--- src/types.rt:95:9
+-- src/types.rt:96:9
 returns : tie.Need-returns
 returns c = λ σ n w p scopes rows chosen asked. sym (c .before .told .ensures σ n asked .permitted (c .if1 .taken))
 
--- src/types.rt:98:9
+-- src/types.rt:99:9
 returns-2 : tie.Need-returns-2
 returns-2 c = λ σ n w p scopes rows chosen asked. sym (c .before .before .told .ensures σ n asked .refused (c .if2 .taken))
 
--- src/types.rt:100:5
+-- src/types.rt:101:5
 granted-type-requires : tie.Need-granted-type-requires
 granted-type-requires c κs = search needs
 
--- src/types.rt:84:1
+-- src/types.rt:85:1
 returns-3 : tie.Need-returns-3
 returns-3 c = λ σ n w p scopes rows chosen asked. c .granted-type .ensures σ n w p scopes rows chosen
 

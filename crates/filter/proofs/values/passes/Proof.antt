@@ -14,43 +14,43 @@ use Rattle.filter.proofs.truth.not_below.Reads as not-below-reads
 use Rattle.name.proofs.equal_by.Reads as equal-by-reads
 use Rattle.value.proofs.order.Reads as order-reads
 
--- src/values.rt:40:9
+-- src/values.rt:42:9
 equal-by-requires : tie.Need-equal-by-requires
 equal-by-requires c κs = search needs
 
--- src/values.rt:40:9
+-- src/values.rt:42:9
 returns : tie.Need-returns
 returns c = unfold passesBy in rw (eq-eqb _ _ (c .before .if1 .taken)) (c .equal-by .ensures)
 
--- src/values.rt:43:26
+-- src/values.rt:45:26
 order-requires : tie.Need-order-requires
 order-requires c κs = search needs
 
--- src/values.rt:43:9
+-- src/values.rt:45:9
 not-below-requires : tie.Need-not-below-requires
 not-below-requires c κs = search needs
 
--- src/values.rt:43:9
+-- src/values.rt:45:9
 returns-2 : tie.Need-returns-2
 returns-2 c = unfold passesBy in rw (ne-eqb _ _ (c .before .before .before .if1 .left), eq-eqb _ _ (c .before .before .if2 .taken)) (c .not-below .ensures ∙ ap (λ (o : Order). not (isLess o)) (c .before .order .ensures))
 
--- src/values.rt:46:26
+-- src/values.rt:48:26
 order-requires-2 : tie.Need-order-requires-2
 order-requires-2 c κs = search needs
 
--- src/values.rt:46:9
+-- src/values.rt:48:9
 not-below-requires-2 : tie.Need-not-below-requires-2
 not-below-requires-2 c κs = search needs
 
--- src/values.rt:46:9
+-- src/values.rt:48:9
 returns-3 : tie.Need-returns-3
 returns-3 c = unfold passesBy in rw (ne-eqb _ _ (c .before .before .before .before .if1 .left), ne-eqb _ _ (c .before .before .before .if2 .left), eq-eqb _ _ (c .before .before .if3 .taken)) (c .not-below2 .ensures ∙ ap (λ (o : Order). not (isLess o)) (c .before .order2 .ensures))
 
--- src/values.rt:48:5
+-- src/values.rt:50:5
 substrings-requires : tie.Need-substrings-requires
 substrings-requires c κs = search needs
 
--- src/values.rt:26:1
+-- src/values.rt:28:1
 returns-4 : tie.Need-returns-4
 returns-4 c = unfold passesBy in rw (ne-eqb _ _ (c .before .before .before .if1 .left), ne-eqb _ _ (c .before .before .if2 .left), ne-eqb _ _ (c .before .if3 .left)) (c .substrings .ensures)
 
