@@ -5,7 +5,7 @@ use crate::FILTER_MATCH;
 use crate::GRANTED;
 use crate::NOT_ASKED;
 use crate::REFUSED;
-use access::grant::granted_value;
+use decision::granted_value;
 ghost use mathlib.Core.Path.{_≡_};
 ghost use Prim.Native.Nat.{_≤_};
 ghost use lib.ListN.{length, getD};

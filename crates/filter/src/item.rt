@@ -23,7 +23,7 @@ ghost use Rattle.rules.specs.Decision.{Setting, ofType, granted};
 ghost use Rattle.rules.specs.FilterItem.{itemTruth};
 ghost use Rattle.rules.specs.Places.{linesAt};
 ghost use Rattle.rules.specs.Laws.Filter.{piecesOf};
-ghost use Rattle.access.specs.Chosen.{Rows, Chosen};
+ghost use Rattle.decision.specs.Chosen.{Rows, Chosen};
 ghost use Rattle.filter.specs.Asked.{Asked, AskedValues};
 ghost use Rattle.filter.specs.Items.{assertionBy, definedBy, satisfiedBy};
 ghost use Rattle.filter.specs.Seen.{Seen};

@@ -34,7 +34,7 @@ ghost use Rattle.rules.specs.FilterItem.{itemTruth};
 ghost use Rattle.rules.specs.Request as Request;
 ghost use Rattle.rules.specs.Places.{schemaOf, linesAt, ValuesAt};
 ghost use Rattle.rules.specs.Laws.Filter.{piecesOf, evaluated, evaluateLines};
-ghost use Rattle.access.specs.Chosen.{Rows, Chosen};
+ghost use Rattle.decision.specs.Chosen.{Rows, Chosen};
 ghost use Rattle.filter.specs.Asked.{Asked, AskedValues};
 ghost use Rattle.filter.specs.Items.{assertionBy};
 ghost use Rattle.filter.specs.Seen.{Seen};

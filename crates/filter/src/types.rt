@@ -4,7 +4,9 @@ use crate::FILTER_MATCH;
 use crate::GRANTED;
 use crate::NOT_ASKED;
 use crate::REFUSED;
-use access::grant::granted_type;
+use decision::general_score;
+use decision::granted_type;
+use decision::granted_type_beside;
 ghost use mathlib.Core.Path.{_≡_};
 ghost use Prim.Native.Nat.{ℕ, _≤_};
 ghost use mathlib.Core.List.{List};
@@ -14,6 +16,7 @@ ghost use Rattle.rules.specs.Name.{Name};
 ghost use Rattle.rules.specs.Permission.{FilterMatch};
 ghost use Rattle.rules.specs.Decision.{Setting, ofType, granted};
 ghost use Rattle.decision.specs.Chosen.{Rows, Chosen};
+ghost use Rattle.decision.specs.Grants.{passBy, generalAsked};
 ghost use Rattle.filter.specs.Asked.{Tells, Asked};
 
 // How many lines there can be from position `at` on.
@@ -37,11 +40,11 @@ pub(crate) fn worth(schema: &[u64], w: usize, q: &[u8], at: usize) -> usize
     0
 }
 
-// The table's number for the type `t`, by the decision.
-fn asked_about(rights: &[u64], list: &[usize], t: u64) -> u8
-    ensures { λ r. ⌜ ((σ : Setting) (n : Name) (w : ℕ) (p : Bytes) (scopes : List ℕ) → Rows w p (σ .items) (now (rights .entry)) scopes → Chosen σ n (now (list .entry)) → Tells (granted σ n (ofType t) FilterMatch) r) ⌝ }
+// The table's number for the type `t`, by the decision; `general` is the greatest score of the items about all types.
+fn asked_about(rights: &[u64], list: &[usize], general: u64, t: u64) -> u8
+    ensures { λ r. ⌜ ((σ : Setting) (n : Name) (w : ℕ) (p : Bytes) (scopes : List ℕ) → Rows w p (σ .items) (now (rights .entry)) scopes → Chosen σ n (now (list .entry)) → general ≡ passBy (generalAsked (now (rights .entry)) FilterMatch) (now (rights .entry)) 1 (now (list .entry)) → Tells (granted σ n (ofType t) FilterMatch) r) ⌝ }
 {
-    if granted_type(rights, list, t, FILTER_MATCH) {
+    if granted_type_beside(rights, list, general, t, FILTER_MATCH) {
         return GRANTED;
     }
     REFUSED
@@ -53,12 +56,16 @@ pub(crate) fn ask(schema: &[u64], rights: &[u64], list: &[usize], count: usize) 
     ensures { λ r. ⌜ ((σ : Setting) (n : Name) (w : ℕ) (p : Bytes) (scopes : List ℕ) → Rows w p (σ .items) (now (rights .entry)) scopes → Chosen σ n (now (list .entry)) → Asked σ n (now (schema .entry)) r) ⌝ }
 {
     let mut table: [u8; 64] = [NOT_ASKED; 64];
+    if count == 0 {
+        return table;
+    }
+    let general = general_score(rights, list, FILTER_MATCH);
     let mut i: usize = 0;
     while i < 64 {
         if count <= i {
             return table;
         }
-        table[i] = asked_about(rights, list, schema[i] / 4);
+        table[i] = asked_about(rights, list, general, schema[i] / 4);
         i += 1;
     }
     table

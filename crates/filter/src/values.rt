@@ -17,7 +17,7 @@ ghost use Rattle.rules.specs.Decision.{Setting, ofValue, granted};
 ghost use Rattle.rules.specs.FilterItem.{someValue};
 ghost use Rattle.rules.specs.Places.{schemaOf, linesAt, ValuesAt};
 ghost use Rattle.rules.specs.Laws.Filter.{piecesOf};
-ghost use Rattle.access.specs.Chosen.{Rows, Chosen};
+ghost use Rattle.decision.specs.Chosen.{Rows, Chosen};
 ghost use Rattle.entry.specs.Values.{bytesAt};
 ghost use Rattle.filter.specs.Asked.{Tells, AskedValues};
 ghost use Rattle.filter.specs.Items.{passesBy};

@@ -5,7 +5,7 @@ use Rattle.filter.proofs.granted.asked_about_value.Statement.{statement
 use Rattle.filter.proofs.granted.asked_about_value.Tie as tie
 use Rattle.filter.proofs.granted.asked_about_value.Reads as reads
 use Rattle.filter.proofs.granted.asked_about_value.Lts as lts
-use Rattle.access.proofs.grant.granted_value.Reads as granted-value-reads
+use Rattle.decision.proofs.granted_value.Reads as granted-value-reads
 
 -- src/granted.rt:42:8
 granted-value-requires : tie.Need-granted-value-requires

@@ -4,7 +4,7 @@ use Rattle.filter.proofs.granted.value_granted.Statement.{statement}
 use Rattle.filter.proofs.granted.value_granted.Tie as tie
 use Rattle.filter.proofs.granted.value_granted.Reads as reads
 use Rattle.filter.proofs.granted.value_granted.Lts as lts
-use Rattle.access.proofs.grant.granted_value.Reads as granted-value-reads
+use Rattle.decision.proofs.granted_value.Reads as granted-value-reads
 
 -- src/granted.rt:94:12
 shared-slice-read-if2 : tie.Need-shared-slice-read-if2
