@@ -1,4 +1,4 @@
-//! Three worlds, and six requests over each.
+//! Worlds, and six requests over each.
 
 use harness::limits::open;
 use peer::builder::{
@@ -30,6 +30,8 @@ pub fn worlds() -> Vec<World> {
         register("register", 12, 1_900, ROLE, letters),
         register("contended", 256, 1_900, ROLE, letters),
         register("colliding", 12, 1_800, KEY, alike),
+        withheld(),
+        typed(),
     ]
 }
 
@@ -43,7 +45,7 @@ fn small() -> World {
         3 => (false, Thing::Type(EXTENSION)),
         _ => (false, Thing::Value(ROLE, role(number, 0))),
     });
-    world("small", directory, items)
+    world("small", directory, items, deep_filter())
 }
 
 /// 256 entries, and 256 items that all concern the requester and every entry; both sheets are
@@ -56,7 +58,7 @@ fn full() -> World {
         2 => (true, Thing::ValuesOf(ROLE)),
         _ => (false, Thing::Value(ROLE, role(1000 + number, 0))),
     });
-    world("full", directory, items)
+    world("full", directory, items, deep_filter())
 }
 
 /// One entry with many values of one type; all items but two are about single values.
@@ -71,7 +73,32 @@ fn register(
     entry.values.extend((0..value_count).map(|number| (kind, value(number))));
     let items =
         items(item_count, |number| (number % 2 == 0, Thing::Value(kind, value(7 * number))));
-    world(name, DirectorySheet { types: TYPES.to_vec(), entries: vec![entry] }, items)
+    let directory = DirectorySheet { types: TYPES.to_vec(), entries: vec![entry] };
+    world(name, directory, items, deep_filter())
+}
+
+/// One entry with many values; 254 items are about all of them, and the last refuses. All values
+/// pass the filter's tests, and none may be matched.
+fn withheld() -> World {
+    let mut entry = EntryLines::bare(0, NAME, HOTEL.as_bytes());
+    entry.values.extend((0..1_900).map(|number| (ROLE, letters(number))));
+    let items = items(256, |number| (number < 255, Thing::ValuesOf(ROLE)));
+    let mut tests = vec![FilterLines::AtLeast(ROLE, b"a".to_vec()); 126];
+    tests.push(FilterLines::Present(NAME));
+    let directory = DirectorySheet { types: TYPES.to_vec(), entries: vec![entry] };
+    world("withheld", directory, items, FilterLines::Or(tests))
+}
+
+/// 256 entries, 64 types, and 256 items about types; the filter asks about each type twice.
+fn typed() -> World {
+    let mut directory = hotel(15, 240, 1);
+    directory.types = (1..=64).map(|number| (number, 1)).collect();
+    let items = items(256, |number| match number % 2 {
+        0 => (true, Thing::AllTypes),
+        _ => (true, Thing::Type(1 + number % 64)),
+    });
+    let tests = (0..127).map(|number| FilterLines::Present(64 - number % 64)).collect();
+    world("typed", directory, items, FilterLines::Or(tests))
 }
 
 /// A hotel with departments, and people below them, each with a room, an extension and roles.
@@ -100,8 +127,7 @@ fn letters(number: u32) -> Vec<u8> {
     [number / 676, number / 26 % 26, number % 26].map(|place| b'a' + place as u8).to_vec()
 }
 
-/// Four octets, others for each number, the same in their low five bits: the library's marks of
-/// values (crate `directory`) are made of those, so that all of these values are looked through.
+/// Four octets, others for each number, the same in their low five bits.
 fn alike(number: u32) -> Vec<u8> {
     [number >> 9, number >> 6, number >> 3, number].map(|place| (place as u8 & 7) << 5 | 1).to_vec()
 }
@@ -123,8 +149,14 @@ fn name(parts: &[&str]) -> Name {
     parts.iter().map(|part| (NAME, part.as_bytes().to_vec())).collect()
 }
 
-/// The requests are about the directory's last entry, which is also who asks.
-fn world(name: &'static str, directory: DirectorySheet, permissions: PermissionSheet) -> World {
+/// The requests are about the directory's last entry, which is also who asks; the worst search has
+/// the filter given.
+fn world(
+    name: &'static str,
+    directory: DirectorySheet,
+    permissions: PermissionSheet,
+    filter: FilterLines,
+) -> World {
     let last = directory.entries.len() - 1;
     let person = directory.name(last);
     let (kind, held) = directory.entries[last].values.last().expect("an entry holds values");
@@ -145,7 +177,7 @@ fn world(name: &'static str, directory: DirectorySheet, permissions: PermissionS
         ("list", ask(&above, OperationLines::List { limit: 0 })),
         ("broad search", search(FilterLines::Present(NAME))),
         ("narrow search", search(FilterLines::Equality(*kind, held.clone()))),
-        ("worst search", search(deep_filter())),
+        ("worst search", search(filter)),
     ];
     World { name, directory: directory.to_bytes(), permissions: permissions.to_bytes(), requests }
 }
