@@ -10,12 +10,13 @@ ghost use Rattle.rules.specs.Lists.{any};
 ghost use Rattle.rules.specs.Sheet.{Bytes};
 ghost use Rattle.rules.specs.Name.{Part, Name};
 ghost use Rattle.rules.specs.Directory.{heldOf};
-ghost use Rattle.rules.specs.Permission.{DiscloseOnError};
+ghost use Rattle.rules.specs.Permission.{Read, DiscloseOnError};
 ghost use Rattle.rules.specs.Decision.{Setting, ofType, granted};
 ghost use Rattle.rules.specs.Request.{Selection};
 ghost use Rattle.rules.specs.Answer as Answer;
 ghost use Rattle.rules.specs.Places.{schemaOf, ValuesAt};
 ghost use Rattle.decision.specs.Chosen.{Rows, Chosen};
+ghost use Rattle.decision.specs.Grants.{passBy, generalAsked};
 ghost use Rattle.entry.specs.Values.{bytesAt};
 ghost use Rattle.answer.specs.Emit.{Emits};
 ghost use Rattle.answer.specs.Information.{Range, Grounds, noted, readable, Counted, Run, selectedWith, returned};
@@ -48,20 +49,21 @@ pub fn selected(listed: bool, wanted: &[u64], t: u64) -> bool
     true
 }
 
-// Is the type selected, and the permission `q` granted on it?
+// Is the type selected, and the permission `q` granted on it? `general` is the greatest score of the items about all types.
 fn selected_with(
     rights: &[u64],
     list: &[usize],
+    general: u64,
     listed: bool,
     wanted: &[u64],
     t: u64,
     q: u64,
 ) -> bool
     requires { ⌜ 1 ≤ q ⌝ }
-    ensures { λ r. ⌜ ((σ : Setting) (n : Name) (w : ℕ) (p : Bytes) (scopes : List ℕ) (s : Selection) → Rows w p (σ .items) (now (rights .entry)) scopes → Chosen σ n (now (list .entry)) → s .listed ≡ listed → s .types ≡ now (wanted .entry) → r ≡ selectedWith σ s n q t) ⌝ }
+    ensures { λ r. ⌜ ((σ : Setting) (n : Name) (w : ℕ) (p : Bytes) (scopes : List ℕ) (s : Selection) → Rows w p (σ .items) (now (rights .entry)) scopes → Chosen σ n (now (list .entry)) → s .listed ≡ listed → s .types ≡ now (wanted .entry) → general ≡ passBy (generalAsked (now (rights .entry)) q) (now (rights .entry)) 1 (now (list .entry)) → r ≡ selectedWith σ s n q t) ⌝ }
 {
     if selected(listed, wanted, t) {
-        return decision::granted_type(rights, list, t, q);
+        return decision::granted_type_beside(rights, list, general, t, q);
     }
     false
 }
@@ -76,9 +78,18 @@ pub fn discloses(
 ) -> bool
     ensures { λ r. ⌜ ((σ : Setting) (n : Name) (w : ℕ) (d p : Bytes) (scopes : List ℕ) (ps : List Part) (places sizes : List ℕ) (s : Selection) → Rows w p (σ .items) (now (rights .entry)) scopes → Chosen σ n (now (list .entry)) → ValuesAt d ps (now (types .entry)) places sizes → s .listed ≡ listed → s .types ≡ now (wanted .entry) → r ≡ any (λ h. Answer.selected s (h .type) && granted σ n (ofType (h .type)) DiscloseOnError) (heldOf ps)) ⌝ }
 {
+    let general = decision::general_score(rights, list, DISCLOSE_ON_ERROR);
     let mut i: usize = 0;
     while i < types.len() {
-        if selected_with(rights, list, listed, wanted, types[i], DISCLOSE_ON_ERROR) {
+        if selected_with(
+            rights,
+            list,
+            general,
+            listed,
+            wanted,
+            types[i],
+            DISCLOSE_ON_ERROR,
+        ) {
             return true;
         }
         i += 1;
@@ -205,6 +216,7 @@ fn emit_type(
     p: &[u8],
     rights: &[u64],
     list: &[usize],
+    general: u64,
     places: &[usize],
     sizes: &[usize],
     listed: bool,
@@ -215,9 +227,9 @@ fn emit_type(
     end: usize,
 ) -> usize
     requires { ⌜ Range w (now d) (now places) (now sizes) i end × (at ≤ 2 ^ 51) ⌝ }
-    ensures { λ r. ⌜ (r ≤ at + (end - i + 1) * 2 ^ 17) × ((σ : Setting) (n : Name) (s : Selection) → Grounds σ n (now (schema .entry)) w (now (p .entry)) (now (rights .entry)) (now (list .entry)) → s .listed ≡ listed → s .types ≡ now (wanted .entry) → s .values ≡ values → Emits w (now (out .entry)) at (returned σ s n (record { type = t; values = noted (now (d .entry)) (now (places .entry)) (now (sizes .entry)) i (end - i) })) (now (out .exit)) r) ⌝ }
+    ensures { λ r. ⌜ (r ≤ at + (end - i + 1) * 2 ^ 17) × ((σ : Setting) (n : Name) (s : Selection) → Grounds σ n (now (schema .entry)) w (now (p .entry)) (now (rights .entry)) (now (list .entry)) → s .listed ≡ listed → s .types ≡ now (wanted .entry) → s .values ≡ values → general ≡ passBy (generalAsked (now (rights .entry)) Read) (now (rights .entry)) 1 (now (list .entry)) → Emits w (now (out .entry)) at (returned σ s n (record { type = t; values = noted (now (d .entry)) (now (places .entry)) (now (sizes .entry)) i (end - i) })) (now (out .exit)) r) ⌝ }
 {
-    if selected_with(rights, list, listed, wanted, t, READ) {
+    if selected_with(rights, list, general, listed, wanted, t, READ) {
         if values {
             return emit_readable(
                 out,
@@ -275,6 +287,7 @@ pub fn emit_information(
     requires { ⌜ (1 ≤ w) × (w ≤ 18) × (at ≤ 2 ^ 50) × (length (now d) ≤ 65536) × (length (now places) ≡ length (now types)) × (length (now sizes) ≡ length (now types)) × (length (now types) ≤ 65536) ⌝ }
     ensures { λ r. ⌜ (r ≤ at + 2 ^ 40) × ((σ : Setting) (n : Name) (scopes : List ℕ) (ps : List Part) (s : Selection) → σ .schema ≡ schemaOf (now (schema .entry)) → Rows w (now (p .entry)) (σ .items) (now (rights .entry)) scopes → Chosen σ n (now (list .entry)) → ValuesAt (now (d .entry)) ps (now (types .entry)) (now (places .entry)) (now (sizes .entry)) → s .listed ≡ listed → s .types ≡ now (wanted .entry) → s .values ≡ values → Emits w (now (out .entry)) at (Answer.information σ s (record { name = n; held = heldOf ps })) (now (out .exit)) r) ⌝ }
 {
+    let general = decision::general_score(rights, list, READ);
     let mut next = at;
     let mut i: usize = 0;
     while i < types.len() {
@@ -288,6 +301,7 @@ pub fn emit_information(
             p,
             rights,
             list,
+            general,
             places,
             sizes,
             listed,

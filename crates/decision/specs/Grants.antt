@@ -20,21 +20,17 @@ use Rattle.rules.specs.Laws.Decision as Rules
 use Rattle.rules.specs.Laws.Tests.{bool-ext}
 use Rattle.rules.specs.Laws.Name.{equal-sym}
 use Rattle.value.specs.Digest.{digest}
-use Rattle.permissions.specs.Noted.{Row, bit, blank}
+use Rattle.permissions.specs.Noted.{Row, score, blank}
 use Rattle.decision.specs.Chosen.{Rows, Chosen}
 use Rattle.decision.specs.Digests.{digest-first}
 use Rattle.name.specs.Placed.{equalAt, equal-within}
 
 -- ---- the pass
 
--- a score: the weight, and within a weight a denial before a grant; an even score grants
-unfoldable pub scoreOf : ℕ → ℕ → ℕ
-scoreOf weight grants = cond (ltb 65535 weight) 0 (cond (eqb grants 1) (weight * 2 + 2) (weight * 2 + 3))
-
 -- the greatest score with item number k, if it answers
 unfoldable pub afterBy : (ℕ → Bool) → List ℕ → ℕ → ℕ → ℕ
 afterBy test rights k best =
-    cond (leb (length rights / 8) k) best (cond (test (k * 8)) (max best (scoreOf (getD rights (k * 8) 0) (getD rights (k * 8 + 2) 0))) best)
+    cond (leb (length rights / 8) k) best (cond (test (k * 8)) (max best (getD rights (k * 8) 0)) best)
 
 -- with all items of a list
 unfoldable pub passBy : (ℕ → Bool) → List ℕ → ℕ → List ℕ → ℕ
@@ -105,16 +101,29 @@ module _ (test : ℕ → Bool) (rights : List ℕ) (k best : ℕ) where
   unfolding afterBy
   after-silent h e = rw (lt-leb (length rights / 8) k h, e)
 
-  pub after-answer : k < length rights / 8 → test (k * 8) ≡ true → afterBy test rights k best ≡ max best (scoreOf (getD rights (k * 8) 0) (getD rights (k * 8 + 2) 0))
+  -- it scores no more than another
+  pub after-lower : getD rights (k * 8) 0 ≤ best → afterBy test rights k best ≡ best
   unfolding afterBy
-  after-answer h e = rw (lt-leb (length rights / 8) k h, e)
+  after-lower h = go (leb (length rights / 8) k) (test (k * 8)) (getD rights (k * 8) 0) h
+    where
+      go : (o t : Bool) (s : ℕ) → s ≤ best → cond o best (cond t (max best s) best) ≡ best
+      go true t s h = refl
+      go false true s h = omega (arith, h)
+      go false false s h = refl
+
+  pub after-answer : k < length rights / 8 → best < getD rights (k * 8) 0 → test (k * 8) ≡ true → afterBy test rights k best ≡ getD rights (k * 8) 0
+  unfolding afterBy
+  after-answer h l e = rw (lt-leb (length rights / 8) k h, e) (go (getD rights (k * 8) 0) l)
+    where
+      go : (s : ℕ) → best < s → max best s ≡ s
+      go s l = omega arith
 
 -- ---- two tests one after the other
 
 module _ (rights : List ℕ) where
   after-max : (test : ℕ → Bool) (k b c : ℕ) → afterBy test rights k (max b c) ≡ max (afterBy test rights k b) c
   unfolding afterBy
-  after-max test k b c = go (leb (length rights / 8) k) (test (k * 8)) (scoreOf (getD rights (k * 8) 0) (getD rights (k * 8 + 2) 0))
+  after-max test k b c = go (leb (length rights / 8) k) (test (k * 8)) (getD rights (k * 8) 0)
     where
       go : (o t : Bool) (s : ℕ) → cond o (max b c) (cond t (max (max b c) s) (max b c)) ≡ max (cond o b (cond t (max b s) b)) c
       go true t s = refl
@@ -132,7 +141,7 @@ module _ (rights : List ℕ) where
 
     after-either : (k b : ℕ) → afterBy either rights k b ≡ afterBy two rights k (afterBy one rights k b)
     unfolding afterBy
-    after-either k b = go (leb (length rights / 8) k) (one (k * 8)) (two (k * 8)) (scoreOf (getD rights (k * 8) 0) (getD rights (k * 8 + 2) 0))
+    after-either k b = go (leb (length rights / 8) k) (one (k * 8)) (two (k * 8)) (getD rights (k * 8) 0)
       where
         go : (o s t : Bool) (x : ℕ) → cond o b (cond (s || t) (max b x) b) ≡ cond o (cond o b (cond s (max b x) b)) (cond t (max (cond o b (cond s (max b x) b)) x) (cond o b (cond s (max b x) b)))
         go true s t x = refl
@@ -144,7 +153,7 @@ module _ (rights : List ℕ) where
     -- an item moves past the others
     after-past : (k b : ℕ) (ks : List ℕ) → passBy one rights (afterBy two rights k b) ks ≡ afterBy two rights k (passBy one rights b ks)
     unfolding afterBy
-    after-past k b ks = go (leb (length rights / 8) k) (two (k * 8)) (scoreOf (getD rights (k * 8) 0) (getD rights (k * 8 + 2) 0))
+    after-past k b ks = go (leb (length rights / 8) k) (two (k * 8)) (getD rights (k * 8) 0)
       where
         go : (o t : Bool) (s : ℕ) → passBy one rights (cond o b (cond t (max b s) b)) ks ≡ cond o (passBy one rights b ks) (cond t (max (passBy one rights b ks) s) (passBy one rights b ks))
         go true t s = refl
@@ -171,21 +180,16 @@ standing-even s = go (s .best) (s .clear)
     go b true = eq-eqb ((b * 2 + 0) % 2) 0 (omega arith)
     go b false = ne-eqb ((b * 2 + 1) % 2) 0 (λ e. omega arith)
 
-bit-one : (b : Bool) → eqb (bit b) 1 ≡ b
-bit-one true = refl
-bit-one false = refl
-
 beyond : (b m : ℕ) → ltb b (suc m) ≡ false → eqb b (suc m) ≡ false → suc m < b
 beyond b m p r =
     let l : suc m ≤ b = ltb-false b (suc m) p in
     let d : b ≡ suc m → ⊥ = eqb-false b (suc m) r in
     omega arith
 
-weigh-by : (s : Rules.Standing) (i : Item) → weight i ≤ 65535 → max (standing s) (scoreOf (weight i) (bit (i .grants))) ≡ standing (weigh s i)
-unfolding scoreOf weigh
-weigh-by s i h =
-    rw (le-ltb 65535 (weight i) h, bit-one (i .grants))
-    (go (s .best) (weight i) (s .clear) (i .grants) (ltb (s .best) (suc (weight i))) refl (eqb (s .best) (suc (weight i))) refl)
+weigh-by : (s : Rules.Standing) (i : Item) → max (standing s) (score i) ≡ standing (weigh s i)
+unfolding score weigh
+weigh-by s i =
+    go (s .best) (weight i) (s .clear) (i .grants) (ltb (s .best) (suc (weight i))) refl (eqb (s .best) (suc (weight i))) refl
   where
     above : (b m x y : ℕ) → b < suc m → x ≤ 1 → max (b * 2 + x) (m * 2 + (2 + y)) ≡ suc m * 2 + y
     above b m x y l k = omega arith
@@ -222,14 +226,11 @@ module _ (σ : Setting) (x : Thing) (q w : ℕ) (p : Bytes) (rights scopes : Lis
         let room : length (σ .items) * 8 ≤ length rights = rows .room in
         let in-range : k < length rights / 8 = omega arith in
         let z : k * 8 ≡ k * 8 + 0 = omega arith in
-        let e : getD rights (k * 8) 0 ≡ weight (item k) = ap (λ (m : ℕ). getD rights m 0) z ∙ R .weight in
-        let g : getD rights (k * 8 + 2) 0 ≡ bit (item k .grants) = R .grants in
-        let b : weight (item k) ≤ 1535 = R .bounded .weight in
-        let low : weight (item k) ≤ 65535 = omega arith in
-        rw (lt-leb (length rights / 8) k in-range, right k l, e, g) (go (answers σ x q (item k)) s (weigh-by s (item k) low))
+        let e : getD rights (k * 8) 0 ≡ score (item k) = ap (λ (m : ℕ). getD rights m 0) z ∙ R .score in
+        rw (lt-leb (length rights / 8) k in-range, right k l, e) (go (answers σ x q (item k)) s (weigh-by s (item k)))
       where
-        go : (a : Bool) (s : Rules.Standing) → max (standing s) (scoreOf (weight (item k)) (bit (item k .grants))) ≡ standing (weigh s (item k))
-            → cond a (max (standing s) (scoreOf (weight (item k)) (bit (item k .grants)))) (standing s) ≡ standing (cond a (weigh s (item k)) s)
+        go : (a : Bool) (s : Rules.Standing) → max (standing s) (score (item k)) ≡ standing (weigh s (item k))
+            → cond a (max (standing s) (score (item k))) (standing s) ≡ standing (cond a (weigh s (item k)) s)
         go true s h = h
         go false s h = refl
 

@@ -1,9 +1,8 @@
-// The decision about one thing of an entry. An item that answers has a score: its weight, and within a weight a denial goes before a grant. The
-// greatest score among the items that concern the entry decides, found in one pass over their rows of rights. Bytes are compared last, and only
-// for an item about one value with the same digest.
+// The decision about one thing of an entry. The greatest score among the items that concern the entry and answer the question decides, found in one
+// pass over their rows of rights; an item with a lower score than one before it is not looked at. Bytes are compared last, and only for an item
+// about one value with the same digest.
 use name::equal_at;
 use permissions::DIGEST;
-use permissions::GRANTS;
 use permissions::LENGTH;
 use permissions::PERMISSIONS;
 use permissions::RIGHTS;
@@ -11,7 +10,7 @@ use permissions::TYPE;
 use permissions::VALUE;
 use permissions::WHAT;
 ghost use mathlib.Core.Path.{_≡_};
-ghost use Prim.Native.Nat.{ℕ, _+_, _≤_, max};
+ghost use Prim.Native.Nat.{ℕ, _+_, _≤_};
 ghost use mathlib.Core.List.{List};
 ghost use lib.ListN.{length};
 ghost use Rattle.rules.specs.Sheet.{Bytes};
@@ -19,33 +18,10 @@ ghost use Rattle.rules.specs.Name.{Name};
 ghost use Rattle.rules.specs.Decision.{Setting, entry, ofType, ofValue, granted};
 ghost use Rattle.rules.specs.Places.{schemaOf};
 ghost use Rattle.decision.specs.Chosen.{Rows, Chosen};
-ghost use Rattle.decision.specs.Grants.{scoreOf, afterBy, passBy, permits, entryAsked, generalAsked, specificAsked, valueCovered, valueAsked};
+ghost use Rattle.decision.specs.Grants.{afterBy, passBy, permits, entryAsked, generalAsked, specificAsked, valueCovered, valueAsked};
 
 // The greatest score where no item answers. An even score grants.
 const NO_ITEM: u64 = 1;
-
-// The score of an item that answers.
-fn score(weight: u64, grants: u64) -> u64
-    ensures { λ r. ⌜ r ≡ scoreOf weight grants ⌝ }
-{
-    if 65535 < weight {
-        return 0;
-    }
-    if grants == 1 {
-        return weight * 2 + 2;
-    }
-    weight * 2 + 3
-}
-
-// The greater number.
-fn greater(a: u64, b: u64) -> u64
-    ensures { λ r. ⌜ r ≡ max a b ⌝ }
-{
-    if a < b {
-        return b;
-    }
-    a
-}
 
 // Does the sum of permissions have the permission `q` in it? Read and FilterMatch, which are asked most, take no division.
 fn permitted(sum: u64, q: u64) -> bool
@@ -159,8 +135,12 @@ fn after_entry(rights: &[u64], q: u64, k: usize, best: u64) -> u64
         return best;
     }
     let at = k * RIGHTS;
+    let score = rights[at];
+    if score <= best {
+        return best;
+    }
     if entry_asked(rights, q, at) {
-        return greater(best, score(rights[at], rights[at + GRANTS]));
+        return score;
     }
     best
 }
@@ -174,8 +154,12 @@ fn after_general(rights: &[u64], q: u64, k: usize, best: u64) -> u64
         return best;
     }
     let at = k * RIGHTS;
+    let score = rights[at];
+    if score <= best {
+        return best;
+    }
     if general_asked(rights, q, at) {
-        return greater(best, score(rights[at], rights[at + GRANTS]));
+        return score;
     }
     best
 }
@@ -189,8 +173,12 @@ fn after_specific(rights: &[u64], t: u64, q: u64, k: usize, best: u64) -> u64
         return best;
     }
     let at = k * RIGHTS;
+    let score = rights[at];
+    if score <= best {
+        return best;
+    }
     if specific_asked(rights, t, q, at) {
-        return greater(best, score(rights[at], rights[at + GRANTS]));
+        return score;
     }
     best
 }
@@ -215,8 +203,12 @@ fn after_value(
         return best;
     }
     let at = k * RIGHTS;
+    let score = rights[at];
+    if score <= best {
+        return best;
+    }
     if value_asked(schema, w, p, rights, t, v, digest, q, at) {
-        return greater(best, score(rights[at], rights[at + GRANTS]));
+        return score;
     }
     best
 }

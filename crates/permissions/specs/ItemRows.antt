@@ -1,6 +1,6 @@
 -- The two rows of an item note the item which the rules give.
-use Prim.Native.Nat.{ℕ, zero, suc, _≤_, _<_}
-use mathlib.Core.Path.{_≡_, refl, sym, _∙_}
+use Prim.Native.Nat.{ℕ, zero, suc, _+_, _*_, _≤_, _<_}
+use mathlib.Core.Path.{_≡_, refl, sym, ap, _∙_}
 use mathlib.Core.Bool.{Bool, true, false, _||_, cond}
 use native.Mathlib.Omega.{arith}
 use native.Mathlib.Nat.{not-suc-le-zero, le-of-suc-le-suc}
@@ -10,8 +10,8 @@ use borrow.Author.Tests.{leb-false}
 use Rattle.rules.specs.Sheet.{Bytes}
 use Rattle.rules.specs.Decision.{rank, explicit}
 use Rattle.rules.specs.Laws.Decision.{weight}
-use Rattle.permissions.specs.Noted.{Bounded, Row, bit}
-use Rattle.permissions.specs.Steps.{rankOf, explicitOf, weightOf, rightsRow, scopesRow}
+use Rattle.permissions.specs.Noted.{Bounded, Row, score, bit}
+use Rattle.permissions.specs.Steps.{rankOf, explicitOf, weightOf, scoreOf, rightsRow, scopesRow}
 use Rattle.permissions.specs.Item.{itemOf, TookItem}
 use Rattle.permissions.specs.declared.item.Lines.{Lines}
 
@@ -24,6 +24,10 @@ explicit-by false b = refl
 weight-is : (w : ℕ) (p : Bytes) (i : Lines) → weight (itemOf w p i) ≡ weightOf (i .head .a) (i .user .a) (i .target .a)
 unfolding weight rank explicit itemOf weightOf rankOf explicitOf
 weight-is w p i = rw (explicit-by (eqb (i .target .a) 3) (eqb (i .target .a) 5))
+
+score-is : (w : ℕ) (p : Bytes) (i : Lines) → score (itemOf w p i) ≡ scoreOf (weightOf (i .head .a) (i .user .a) (i .target .a)) (i .head .c)
+unfolding score scoreOf itemOf
+score-is w p i = ap (λ (m : ℕ). cond (eqb (i .head .c) 1) (m * 2 + 2) (m * 2 + 3)) (weight-is w p i)
 
 pub rank-small : (who : ℕ) → rankOf who ≤ 2
 unfolding rankOf
@@ -82,7 +86,7 @@ module _ (w : ℕ) (p : Bytes) (i : Lines) (t : TookItem w p i) where
   unfolding itemOf rightsRow scopesRow
   row-is right scope r s = record {
     bounded = bounded;
-    weight = r 0 (omega arith) ∙ sym (weight-is w p i);
+    score = r 0 (omega arith) ∙ sym (score-is w p i);
     digest = r 1 (omega arith);
     grants = r 2 (omega arith) ∙ bit-is (i .head .c) (t .grants);
     what = r 3 (omega arith);

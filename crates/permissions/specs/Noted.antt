@@ -3,7 +3,7 @@
 -- Names and values are noted by their positions on the sheet, a value by its digest too.
 use Prim.Native.Nat.{ℕ, _+_, _-_, _*_, _≤_, _<_}
 use mathlib.Core.Path.{_≡_}
-use mathlib.Core.Bool.{Bool, true, false}
+use mathlib.Core.Bool.{Bool, true, false, cond}
 use mathlib.Core.List.{List, []}
 use lib.ListN.{length, getD, drop, replicate}
 use Rattle.rules.specs.Sheet.{Bytes, valueOf}
@@ -17,8 +17,8 @@ use Rattle.permissions.specs.declared.Items.{Items}
 -- ---- the numbers of a row, by their places in it
 
 -- a row of rights
-abbrev pub WEIGHT : ℕ
-WEIGHT = 0
+abbrev pub SCORE : ℕ
+SCORE = 0
 
 abbrev pub DIGEST : ℕ
 DIGEST = 1
@@ -84,6 +84,10 @@ pub record Bounded (i : Item) : Type 0 where
   pub value : length (i .value) ≤ 64
   pub permissions : (1 ≤ i .permissions) × (i .permissions ≤ 63)
 
+-- precedence, rank and explicitness as one number, and within these a denial before a grant: the greatest score decides, and an even one grants
+unfoldable pub score : Item → ℕ
+score i = cond (i .grants) (weight i * 2 + 2) (weight i * 2 + 3)
+
 abbrev pub bit : Bool → ℕ
 bit true = 1
 bit false = 0
@@ -91,7 +95,7 @@ bit false = 0
 -- the rows of the item `i` on the sheet `p`: VALUE is the position of its K 7 line, BASE and USER are those of the first K 9 line of each name
 pub record Row (w : ℕ) (p : Bytes) (i : Item) (right scope : ℕ → ℕ) : Type 0 where
   pub bounded : Bounded i
-  pub weight : right WEIGHT ≡ weight i
+  pub score : right SCORE ≡ score i
   pub digest : right DIGEST ≡ digest 0 (i .value)
   pub grants : right GRANTS ≡ bit (i .grants)
   pub what : right WHAT ≡ i .what

@@ -99,9 +99,13 @@ explicitOf what = cond (eqb what 3) 1 (cond (eqb what 5) 1 0)
 unfoldable pub weightOf : ℕ → ℕ → ℕ → ℕ
 weightOf precedence who what = (precedence * 3 + rankOf who) * 2 + explicitOf what
 
+-- the weight, and within a weight a denial before a grant
+unfoldable pub scoreOf : ℕ → ℕ → ℕ
+scoreOf weight grants = cond (eqb grants 1) (weight * 2 + 2) (weight * 2 + 3)
+
 unfoldable pub rightsRow : ℕ → Bytes → Lines → List ℕ
 rightsRow w p i =
-    weightOf (i .head .a) (i .user .a) (i .target .a)
+    scoreOf (weightOf (i .head .a) (i .user .a) (i .target .a)) (i .head .c)
     ∷ digest 0 (valueOf w (i .target .length) (drop (i .target .at) p))
     ∷ i .head .c
     ∷ i .target .a

@@ -10,7 +10,7 @@ ghost use Rattle.permissions.specs.Noted.{Judged};
 ghost use Rattle.permissions.specs.Noted as Noted;
 
 // The places of an item's numbers in its row of rights, and the length of the row.
-pub const WEIGHT: usize = 0;
+pub const SCORE: usize = 0;
 
 pub const DIGEST: usize = 1;
 

@@ -3,7 +3,7 @@ use super::item::Lines;
 ghost use mathlib.Core.Path.{_≡_};
 ghost use Prim.Native.Nat.{_+_, _*_, _≤_, _<_};
 ghost use lib.ListN.{length};
-ghost use Rattle.permissions.specs.Steps.{rankOf, explicitOf, weightOf, rightsRow, scopesRow, putAt};
+ghost use Rattle.permissions.specs.Steps.{rankOf, explicitOf, weightOf, scoreOf, rightsRow, scopesRow, putAt};
 
 // "Named or the entry itself, then at or below a name, then all users".
 fn rank(who: u64) -> u64
@@ -36,6 +36,17 @@ fn weight(precedence: u64, who: u64, what: u64) -> u64
     (precedence * 3 + rank(who)) * 2 + explicit(what)
 }
 
+// The weight, and within a weight a denial before a grant: the greatest score decides, and an even one grants.
+fn score(weight: u64, grants: u64) -> u64
+    requires { ⌜ weight ≤ 65535 ⌝ }
+    ensures { λ r. ⌜ r ≡ scoreOf weight grants ⌝ }
+{
+    if grants == 1 {
+        return weight * 2 + 2;
+    }
+    weight * 2 + 3
+}
+
 // What a question about a permission touches. The digest of the value spares a look at its bytes.
 fn rights_row(p: &[u8], w: usize, lines: Lines) -> [u64; 8]
     requires { ⌜ (lines .head .a ≤ 255) × (lines .target .at + (5 * w + lines .target .length) ≤ length (now p)) ⌝ }
@@ -43,7 +54,10 @@ fn rights_row(p: &[u8], w: usize, lines: Lines) -> [u64; 8]
 {
     let v = sheet::value_at(p, lines.target.at, lines.target.length, w);
     let mut row: [u64; 8] = [0; 8];
-    row[super::WEIGHT] = weight(lines.head.a, lines.user.a, lines.target.a);
+    row[super::SCORE] = score(
+        weight(lines.head.a, lines.user.a, lines.target.a),
+        lines.head.c,
+    );
     row[super::DIGEST] = value::digest::digest(0, v);
     row[super::GRANTS] = lines.head.c;
     row[super::WHAT] = lines.target.a;

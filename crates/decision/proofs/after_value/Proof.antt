@@ -1,8 +1,7 @@
+use mathlib.Core.Path.{sym, _∙_}
 use denote.Ref.{now}
-use Prim.Native.Nat.{max}
-use mathlib.Core.Path.{sym, ap, _∙_}
-use Rattle.decision.specs.Grants.{valueAsked, after-beyond, after-silent, after-answer}
 use Rattle.rules.specs.Places.{schemaOf}
+use Rattle.decision.specs.Grants.{valueAsked, after-beyond, after-lower, after-answer, after-silent}
 use borrow.Author.Needs.{needs}
 use Rattle.decision.proofs.after_value.Statement.{statement}
 use Rattle.decision.proofs.after_value.Tie as tie
@@ -14,41 +13,28 @@ returns c =
 mul-at : tie.Need-mul-at
 mul-at c = search needs
 
-value-asked-requires : tie.Need-value-asked-requires
-value-asked-requires c κs = search needs
-
 mul-score : tie.Need-mul-score
 mul-score c = search needs
 
 shared-slice-read-score : tie.Need-shared-slice-read-score
 shared-slice-read-score c = search needs
 
-add-score : tie.Need-add-score
-add-score c = search needs
-
-mul-score-2 : tie.Need-mul-score-2
-mul-score-2 c = search needs
-
-shared-slice-read-score-2 : tie.Need-shared-slice-read-score-2
-shared-slice-read-score-2 c = search needs
-
-score-requires : tie.Need-score-requires
-score-requires c κs = search needs
-
-greater-requires : tie.Need-greater-requires
-greater-requires c κs = search needs
-
 returns-2 : tie.Need-returns-2
 returns-2 c =
-    let a = c .before .before .before .before .before .before .before .before .before .before .before .args in
-    c .greater .ensures
-    ∙ ap (max (a .best)) (c .before .score .ensures)
-    ∙ sym (after-answer (valueAsked (schemaOf (now (a .schema))) (a .w) (now (a .p)) (now (a .rights)) (a .t) (now (a .v)) (a .digest) (a .q)) (now (a .rights)) (a .k) (a .best) (c .before .before .before .before .before .before .if1 .left) (sym (c .before .before .before .before .before .value-asked .ensures) ∙ c .before .before .before .before .if2 .taken))
+    let a = c .before .before .before .before .before .before .before .args in sym (after-lower (valueAsked (schemaOf (now (a .schema))) (a .w) (now (a .p)) (now (a .rights)) (a .t) (now (a .v)) (a .digest) (a .q)) (now (a .rights)) (a .k) (a .best) (c .if2 .taken))
+
+value-asked-requires : tie.Need-value-asked-requires
+value-asked-requires c κs = search needs
 
 returns-3 : tie.Need-returns-3
 returns-3 c =
-    let a = c .before .before .before .before .before .before .before .args in
-    sym (after-silent (valueAsked (schemaOf (now (a .schema))) (a .w) (now (a .p)) (now (a .rights)) (a .t) (now (a .v)) (a .digest) (a .q)) (now (a .rights)) (a .k) (a .best) (c .before .before .if1 .left) (sym (c .before .value-asked .ensures) ∙ c .if2 .left))
+    let a = c .before .before .before .before .before .before .before .before .before .args in
+    sym (after-answer (valueAsked (schemaOf (now (a .schema))) (a .w) (now (a .p)) (now (a .rights)) (a .t) (now (a .v)) (a .digest) (a .q)) (now (a .rights)) (a .k) (a .best) (c .before .before .before .before .if1 .left) (c .before .before .if2 .left) (sym (c .before .value-asked .ensures) ∙ c .if3 .taken))
+
+returns-4 : tie.Need-returns-4
+returns-4 c =
+    let a = c .before .before .before .before .before .before .before .before .before .args in
+    sym (after-silent (valueAsked (schemaOf (now (a .schema))) (a .w) (now (a .p)) (now (a .rights)) (a .t) (now (a .v)) (a .digest) (a .q)) (now (a .rights)) (a .k) (a .best) (c .before .before .before .before .if1 .left) (sym (c .before .value-asked .ensures) ∙ c .if3 .left))
 
 pub after-value-spec : {M : Type 1} → statement M
 after-value-spec =
@@ -56,13 +42,9 @@ after-value-spec =
     (tie.spec
     returns
     mul-at
-    value-asked-requires
     mul-score
     shared-slice-read-score
-    add-score
-    mul-score-2
-    shared-slice-read-score-2
-    score-requires
-    greater-requires
     returns-2
-    returns-3)
+    value-asked-requires
+    returns-3
+    returns-4)

@@ -14,59 +14,52 @@ use Prim.Native.Nat.{ℕ, _-_, _≤_}
 use borrow.Author.Needs.{needs}
 use Rattle.answer.proofs.information.discloses.Statement.{statement}
 use Rattle.answer.proofs.information.discloses.Tie as tie
-use Rattle.answer.proofs.information.discloses.Reads as reads
-use Rattle.answer.proofs.information.discloses.Lts as lts
-use Rattle.answer.proofs.information.selected_with.Reads as selected-with-reads
 
 abbrev Inv-loop : tie.InvT-loop
-Inv-loop rights list types listed wanted i₀ i = (i ≤ length types) × ((σ : Setting) (n : Name) (w : ℕ) (p : Bytes) (scopes : List ℕ) (s : Selection) → Rows w p (σ .items) rights scopes → Chosen σ n list → s .listed ≡ listed → s .types ≡ wanted → any (selectedWith σ s n DiscloseOnError) (drop i types) ≡ any (selectedWith σ s n DiscloseOnError) types)
+Inv-loop rights list types listed wanted general i₀ i = (i ≤ length types) × ((σ : Setting) (n : Name) (w : ℕ) (p : Bytes) (scopes : List ℕ) (s : Selection) → Rows w p (σ .items) rights scopes → Chosen σ n list → s .listed ≡ listed → s .types ≡ wanted → any (selectedWith σ s n DiscloseOnError) (drop i types) ≡ any (selectedWith σ s n DiscloseOnError) types)
 
 abbrev μ-loop : tie.MeasureT-loop
-μ-loop rights list types listed wanted i₀ i = length types - i
+μ-loop rights list types listed wanted general i₀ i = length types - i
 
--- src/information.rt:80:5
+general-score-requires : tie.Need-general-score-requires Inv-loop μ-loop
+general-score-requires c κs = search needs
+
 loop-holds : tie.Need-loop-holds Inv-loop μ-loop
 loop-holds c = (search needs, λ σ n w p scopes s rows chosen e f. refl)
 
--- src/information.rt:81:56
 mul-selected-with : tie.Need-mul-selected-with Inv-loop μ-loop
 mul-selected-with c = search needs
 
--- src/information.rt:81:56
 shared-slice-read-selected-with : tie.Need-shared-slice-read-selected-with Inv-loop μ-loop
 shared-slice-read-selected-with c = search needs
 
--- src/information.rt:81:12
 selected-with-requires : tie.Need-selected-with-requires Inv-loop μ-loop
 selected-with-requires c κs = search needs
 
--- src/information.rt:82:13
 returns : tie.Need-returns Inv-loop μ-loop
-returns c = let a = c .before .before .before .before .before .before .before .before .before .args in
+returns c = let a = c .before .before .before .before .before .before .before .before .before .before .args in
+    let G = c .before .before .before .before .before .general-score in
     let L = c .before .before .before .before .loop in
     λ σ n w d p scopes ps places sizes s rows chosen h e f. sym (any-noted (selectedWith σ s n DiscloseOnError) d ps (now (a .types)) places sizes h ∙ sym (L .inv .1 σ n w p scopes s rows chosen e f)
-    ∙ any-here (selectedWith σ s n DiscloseOnError) (now (a .types)) (L .i) (c .before .before .before .loop-test .taken) (sym (c .before .selected-with .ensures σ n w p scopes s rows chosen e f) ∙ c .if1 .taken))
+    ∙ any-here (selectedWith σ s n DiscloseOnError) (now (a .types)) (L .i) (c .before .before .before .loop-test .taken) (sym (c .before .selected-with .ensures σ n w p scopes s rows chosen e f (G .ensures)) ∙ c .if1 .taken))
 
--- src/information.rt:84:9
 add-i : tie.Need-add-i Inv-loop μ-loop
 add-i c = search needs
 
--- src/information.rt:80:5
 loop-less : tie.Need-loop-less Inv-loop μ-loop
 loop-less c = search needs
 
--- src/information.rt:80:5
 loop-again : tie.Need-loop-again Inv-loop μ-loop
-loop-again c = let a = c .before .before .before .before .before .before .before .before .before .args in
+loop-again c = let a = c .before .before .before .before .before .before .before .before .before .before .args in
+    let G = c .before .before .before .before .before .general-score in
     let L = c .before .before .before .before .loop in (
       search needs,
-      λ σ n w p scopes s rows chosen e f. sym (any-on (selectedWith σ s n DiscloseOnError) (now (a .types)) (L .i) (c .before .before .before .loop-test .taken) (sym (c .before .selected-with .ensures σ n w p scopes s rows chosen e f) ∙ c .if1 .left))
+      λ σ n w p scopes s rows chosen e f. sym (any-on (selectedWith σ s n DiscloseOnError) (now (a .types)) (L .i) (c .before .before .before .loop-test .taken) (sym (c .before .selected-with .ensures σ n w p scopes s rows chosen e f (G .ensures)) ∙ c .if1 .left))
           ∙ L .inv .1 σ n w p scopes s rows chosen e f,
     )
 
--- src/information.rt:70:1
 returns-2 : tie.Need-returns-2 Inv-loop μ-loop
-returns-2 c = let a = c .before .before .before .before .before .before .args in
+returns-2 c = let a = c .before .before .before .before .before .before .before .args in
     let L = c .before .loop in
     λ σ n w d p scopes ps places sizes s rows chosen h e f. sym (any-noted (selectedWith σ s n DiscloseOnError) d ps (now (a .types)) places sizes h ∙ sym (L .inv .1 σ n w p scopes s rows chosen e f)
     ∙ any-end (selectedWith σ s n DiscloseOnError) (now (a .types)) (L .i) (c .loop-test .left))
@@ -77,6 +70,7 @@ discloses-spec =
     (tie.spec
     Inv-loop
     μ-loop
+    general-score-requires
     loop-holds
     mul-selected-with
     shared-slice-read-selected-with

@@ -13,40 +13,34 @@ use Prim.Native.Nat.{ℕ, _+_, _-_, _*_, _≤_, _^_}
 use borrow.Author.Needs.{needs}
 use Rattle.answer.proofs.information.emit_information.Statement.{statement}
 use Rattle.answer.proofs.information.emit_information.Tie as tie
-use Rattle.answer.proofs.information.emit_information.Reads as reads
-use Rattle.answer.proofs.information.emit_information.Lts as lts
-use Rattle.answer.proofs.information.emit_type.Reads as emit-type-reads
-use Rattle.answer.proofs.information.run_end.Reads as run-end-reads
 
 abbrev Inv-loop : tie.InvT-loop
-Inv-loop out₀ at w schema d p rights list types places sizes listed wanted values next₀ i₀ out next i =
+Inv-loop out₀ at w schema d p rights list types places sizes listed wanted values general next₀ i₀ out next i =
     (i ≤ length types) × (next ≤ at + i * 2 ^ 18)
     × ((σ : Setting) (n : Name) (scopes : List ℕ) (ps : List Part) (s : Selection) → σ .schema ≡ schemaOf schema → Rows w p (σ .items) rights scopes → Chosen σ n list → ValuesAt d ps types places sizes → s .listed ≡ listed → s .types ≡ wanted → s .values ≡ values → Sofar w out₀ at σ s n ps i out next)
     × (length out ≡ length out₀)
 
 abbrev μ-loop : tie.MeasureT-loop
-μ-loop out₀ at w schema d p rights list types places sizes listed wanted values next₀ i₀ out next i = length types - i
+μ-loop out₀ at w schema d p rights list types places sizes listed wanted values general next₀ i₀ out next i = length types - i
 
--- src/information.rt:268:5
+general-score-requires : tie.Need-general-score-requires Inv-loop μ-loop
+general-score-requires c κs = search needs
+
 loop-holds : tie.Need-loop-holds Inv-loop μ-loop
-loop-holds c = let a = c .before .before .before .before .before .before .before .before .before .before .args in
+loop-holds c = let a = c .before .before .before .before .before .before .before .before .before .before .before .args in
     (search needs, search needs, λ σ n scopes ps s x rows chosen h e f g. sofar-start (a .w) (now (a .out)) (a .at) σ s n ps, search needs)
 
--- src/information.rt:269:13
 run-end-requires : tie.Need-run-end-requires Inv-loop μ-loop
 run-end-requires c κs = search needs
 
--- src/information.rt:284:13
 mul-emit-type : tie.Need-mul-emit-type Inv-loop μ-loop
 mul-emit-type c = search needs
 
--- src/information.rt:284:13
 shared-slice-read-emit-type : tie.Need-shared-slice-read-emit-type Inv-loop μ-loop
 shared-slice-read-emit-type c = search needs
 
--- src/information.rt:270:9
 emit-type-requires : tie.Need-emit-type-requires Inv-loop μ-loop
-emit-type-requires c κs = let s = c .before .before .before .before .before .before .before .before .before .before .before .before .before .before .before in
+emit-type-requires c κs = let s = c .before .before .before .before .before .before .before .before .before .before .before .before .before .before .before .before in
     let L = c .before .before .before .before .loop in
     let r = c .before .before .run-end .ensures .alike in (
       record {
@@ -61,31 +55,27 @@ emit-type-requires c κs = let s = c .before .before .before .before .before .be
       omega (arith, s .pre .2, s .pre .6, L .inv .0, L .inv .1),
     )
 
--- src/information.rt:268:5
 loop-less : tie.Need-loop-less Inv-loop μ-loop
 loop-less c = let r = c .before .before .before .before .before .run-end .ensures .alike in
     omega (arith, r .after, r .within)
 
--- src/information.rt:268:5
 loop-again : tie.Need-loop-again Inv-loop μ-loop
-loop-again c = let a = c .before .before .before .before .before .before .before .before .before .before .before .before .before .before .before .before .before .before .args in
+loop-again c = let a = c .before .before .before .before .before .before .before .before .before .before .before .before .before .before .before .before .before .before .before .args in
     let L = c .before .before .before .before .before .before .before .loop in
     let run = c .before .before .before .before .before .run-end .ensures in
     let p = c .before .before .emit-type .ensures in (
       run .alike .within,
       omega (arith, run .alike .after, L .inv .1, p .0),
       λ σ n scopes ps s x rows chosen h e f g. sofar-on (a .w) (now (a .out)) (a .at) σ s n ps (now (a .d)) (now (a .types)) (now (a .places)) (now (a .sizes)) h (L .i) _ run (L .inv .2 σ n scopes ps s x rows chosen h e f g)
-          (p .1 σ n s (record { scopes = scopes; schema-is = x; rows = rows; chosen = chosen }) e f g),
+          (p .1 σ n s (record { scopes = scopes; schema-is = x; rows = rows; chosen = chosen }) e f g (c .before .before .before .before .before .before .before .before .general-score .ensures)),
       search needs,
     )
 
--- src/information.rt:247:1
 same-length : tie.Need-same-length Inv-loop μ-loop
 same-length c = search needs
 
--- src/information.rt:247:1
 returns : tie.Need-returns Inv-loop μ-loop
-returns c = let s = c .before .before .before .before .before .before .before .before .before .before .before .before in
+returns c = let s = c .before .before .before .before .before .before .before .before .before .before .before .before .before in
     let a = s .args in
     let L = c .before .loop in
     (omega (arith, s .pre .6, L .inv .0, L .inv .1), λ σ n scopes ps s x rows chosen h e f g. sofar-end (a .w) (now (a .out)) (a .at) σ s n ps (now (a .d)) (now (a .types)) (now (a .places)) (now (a .sizes)) h (L .i) (c .loop-test .left) (L .inv .2 σ n scopes ps s x rows chosen h e f g))
@@ -96,6 +86,7 @@ emit-information-spec =
     (tie.spec
     Inv-loop
     μ-loop
+    general-score-requires
     loop-holds
     run-end-requires
     mul-emit-type

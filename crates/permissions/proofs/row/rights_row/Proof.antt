@@ -1,19 +1,24 @@
 -- The stores, one after the other, are the row.
-use borrow.Author.Needs.{needs}
+use Prim.Native.Nat.{_≤_}
+use native.Mathlib.Omega.{arith}
 use Rattle.permissions.specs.Steps.{rightsRow}
+use Rattle.permissions.specs.ItemRows.{weight-small}
+use borrow.Author.Needs.{needs}
 use Rattle.permissions.proofs.row.rights_row.Statement.{statement}
 use Rattle.permissions.proofs.row.rights_row.Tie as tie
-use Rattle.permissions.proofs.row.rights_row.Reads as reads
-use Rattle.permissions.proofs.row.rights_row.Lts as lts
-use Rattle.permissions.proofs.row.weight.Reads as weight-reads
-use Rattle.sheet.proofs.value_at.Reads as value-at-reads
-use Rattle.value.proofs.digest.digest.Reads as digest-reads
 
 value-at-requires : tie.Need-value-at-requires
 value-at-requires c κs = search needs
 
 weight-requires : tie.Need-weight-requires
 weight-requires c κs = search needs
+
+score-requires : tie.Need-score-requires
+score-requires c κs =
+    let l = c .before .before .before .args .lines in
+    let h : l .head .a ≤ 255 = c .before .before .before .pre .0 in
+    let s = weight-small (l .head .a) (l .user .a) (l .target .a) h in
+    omega (arith, s, c .weight .ensures)
 
 array-write-row : tie.Need-array-write-row
 array-write-row c = search needs
@@ -44,7 +49,7 @@ array-write-row-8 c = search needs
 
 returns : tie.Need-returns
 unfolding rightsRow
-returns c = rw (c .before .weight .ensures, c .digest .ensures, c .before .before .value-at .ensures)
+returns c = rw (c .before .score .ensures, c .before .before .weight .ensures, c .digest .ensures, c .before .before .before .value-at .ensures)
 
 pub rights-row-spec : {M : Type 1} → statement M
 rights-row-spec =
@@ -52,6 +57,7 @@ rights-row-spec =
     (tie.spec
     value-at-requires
     weight-requires
+    score-requires
     array-write-row
     digest-requires
     array-write-row-2
