@@ -198,7 +198,7 @@ module _ (σ : Setting) (q w : ℕ) (p : Bytes) (rights scopes : List ℕ) (rows
         let in-range : getD rights (k * 8 + 6) 0 + (5 * w + getD rights (k * 8 + 7) 0) ≤ length p = R .value-within in
         let here : valueEqual (σ .schema) w p rights t v (digest 0 v) (k * 8) ≡ equal (σ .schema) t (i .value) v
         = ap₂ (λ (m : ℕ) (e : Bool). eqb m (digest 0 v) && e) (R .digest)
-            (equal-within (σ .schema) w p (getD rights (k * 8 + 6) 0) (getD rights (k * 8 + 7) 0) t v in-range ∙ ap (equal (σ .schema) t v) (R .value) ∙ flip v (i .value))
+        (equal-within (σ .schema) w p (getD rights (k * 8 + 6) 0) (getD rights (k * 8 + 7) 0) t v in-range ∙ ap (equal (σ .schema) t v) (R .value) ∙ flip v (i .value))
         ∙ digest-first (σ .schema) t (i .value) v in
         ap₂ (λ (m y : ℕ). (eqb m 2 || (eqb y t && (eqb m 4 || eqb m 5))) && (eqb (getD rights (k * 8 + 5) 0 / q % 2) 1 && cond (eqb m 5) (valueEqual (σ .schema) w p rights t v (digest 0 v) (k * 8)) true)) (R .what) (R .type)
         ∙ ap₂ (λ (m : ℕ) (e : Bool). (eqb (i .what) 2 || (eqb (i .type) t && (eqb (i .what) 4 || eqb (i .what) 5))) && (eqb (m / q % 2) 1 && cond (eqb (i .what) 5) e true)) (R .permissions) here

@@ -57,8 +57,8 @@ loop-again c =
     let L = c .before .before .before .loop in (
       search needs,
       ap (λ (s : Standing). passBy (valueAsked (schemaOf (now (a .schema))) (a .w) (now (a .p)) (now (a .rights)) (a .t) (now (a .v)) (d .result) (a .q)) (now (a .rights)) s (drop (L .j + 1) (now (a .list)))) (c .after-value .ensures)
-      ∙ sym (pass-on (valueAsked (schemaOf (now (a .schema))) (a .w) (now (a .p)) (now (a .rights)) (a .t) (now (a .v)) (d .result) (a .q)) (now (a .rights)) (L .st) (now (a .list)) (L .j) (c .before .before .loop-test .taken))
-      ∙ L .inv .1,
+          ∙ sym (pass-on (valueAsked (schemaOf (now (a .schema))) (a .w) (now (a .p)) (now (a .rights)) (a .t) (now (a .v)) (d .result) (a .q)) (now (a .rights)) (L .st) (now (a .list)) (L .j) (c .before .before .loop-test .taken))
+          ∙ L .inv .1,
     )
 
 -- src/grant.rt:246:1
@@ -68,8 +68,8 @@ returns c =
     let d = c .before .before .digest in
     let L = c .before .loop in
     λ σ n scopes e rows h.
-        ap (λ (s : Standing). s .clear) (sym (pass-end (valueAsked (schemaOf (now (a .schema))) (a .w) (now (a .p)) (now (a .rights)) (a .t) (now (a .v)) (d .result) (a .q)) (now (a .rights)) (L .st) (now (a .list)) (L .j) (c .loop-test .left)) ∙ L .inv .1)
-        ∙ value-decided σ (a .q) (a .w) (now (a .p)) (now (a .rights)) scopes rows n (now (a .list)) h (a .t) (now (a .v)) (d .result) (d .ensures) (schemaOf (now (a .schema))) e
+    ap (λ (s : Standing). s .clear) (sym (pass-end (valueAsked (schemaOf (now (a .schema))) (a .w) (now (a .p)) (now (a .rights)) (a .t) (now (a .v)) (d .result) (a .q)) (now (a .rights)) (L .st) (now (a .list)) (L .j) (c .loop-test .left)) ∙ L .inv .1)
+    ∙ value-decided σ (a .q) (a .w) (now (a .p)) (now (a .rights)) scopes rows n (now (a .list)) h (a .t) (now (a .v)) (d .result) (d .ensures) (schemaOf (now (a .schema))) e
 
 pub granted-value-spec : {M : Type 1} → statement M
 granted-value-spec =
