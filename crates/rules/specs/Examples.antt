@@ -267,6 +267,35 @@ unfolding flat open′ listTwo serveAt respond fitting
     Answer.noSuchObject Answer.returned Answer.listed Answer.disclosed Answer.listHit Answer.listHits Answer.answer
 limits = (refl, refl)
 
+-- a read of the entry "aa", asked for in capitals, with an empty type list
+unfoldable pub readCapitals : Bytes
+readCapitals = sheetOf (
+    "    10     0     0     0     0"
+    ∷ "    11     1     1     0     0"
+    ∷ "     9     3     0     0     2AA"
+    ∷ "    12     1     0     0     0"
+    ∷ [])
+
+-- a name is printed as stored, not as asked
+pub stored-name : serve (flat 1) open′ readCapitals 65536
+    ≡ accept (sheetOf ("    30     1     0     0     0" ∷ "    33     0     1     0     0" ∷ "     9     3     0     0     2aa" ∷ []))
+unfolding flat open′ readCapitals serveAt respond fitting
+    Sheet.strip Sheet.digits Sheet.numeral Sheet.columnOf Sheet.whole Sheet.frontOf Sheet.linesWithin Sheet.lines Sheet.leading Sheet.column Sheet.numbers Sheet.lineBytes Sheet.print
+    Columns.takes Columns.directoryForms Columns.permissionForms Columns.requestForms Columns.inForm
+    Value.integerOf Value.small Value.printable Value.sized fits Value.normal Value.identical Value.same
+    Name.ofSyntax Name.known Name.allowed Name.equal Name.samePart Name.sameName Name.covers Name.childOf
+    Judge.fold Judge.misplaced Judge.due Judge.dueLines Judge.nameOf
+    Directory.nameAt Directory.entriesOf Directory.typeLine Directory.lacksNaming Directory.clashes Directory.entryLine Directory.valueLine Directory.step Directory.finish Directory.directoryOf Directory.hold
+    Directory.heldOf Directory.entryOf Directory.entries
+    Permission.soundTarget Permission.soundItem Permission.item Permission.items Permission.permissionsOf
+    Decision.baseCovers Decision.whoFits Decision.whatCovers Decision.names Decision.levelFits Decision.applies Decision.rank Decision.explicit Decision.highest Decision.allGrant granted
+    conjunction disjunction Filter.evaluate
+    Request.filterLine Request.pieces Request.filters Request.filterOf Request.filter Request.selection Request.operation Request.request Request.requestOf
+    FilterItem.assertedType FilterItem.holds FilterItem.someValue FilterItem.defined FilterItem.satisfied FilterItem.decidable FilterItem.itemTruth
+    Answer.outcome Answer.nameLines Answer.entryLines Answer.valueLines Answer.limited Answer.selected Answer.typeLines Answer.information Answer.inSubset Answer.candidate Answer.found Answer.matchedName
+    Answer.noSuchObject Answer.returned Answer.listed Answer.disclosed Answer.readEntry Answer.named Answer.opened Answer.answer
+stored-name = refl
+
 -- "empty directory accepted; empty request 23"
 pub empty-directory : Directory.directoryOf width [] ≡ accept (record { schema = []; entries = [] })
 unfolding Directory.directoryOf Sheet.lines Sheet.linesWithin Judge.fold Directory.finish Directory.lacksNaming Directory.entriesOf
