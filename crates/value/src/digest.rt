@@ -10,7 +10,8 @@ pub fn digest(seed: u64, v: &[u8]) -> u64
     let mut h = seed;
     let mut i: usize = 0;
     while i < v.len() {
-        h = h % 4294967296 * 16777619 + small(v[i]) as u64;
+        let x = h % 4294967296 * 16777619 + small(v[i]) as u64;
+        h = x + x / 1048576;
         i += 1;
     }
     h % 4294967296

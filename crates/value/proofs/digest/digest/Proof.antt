@@ -6,9 +6,6 @@ use Rattle.value.specs.Digest.{digest, digest-on, digest-end}
 use borrow.Author.Needs.{needs}
 use Rattle.value.proofs.digest.digest.Statement.{statement}
 use Rattle.value.proofs.digest.digest.Tie as tie
-use Rattle.value.proofs.digest.digest.Reads as reads
-use Rattle.value.proofs.digest.digest.Lts as lts
-use Rattle.value.proofs.compare.small.Reads as small-reads
 
 abbrev Inv-loop : tie.InvT-loop
 Inv-loop seed v h₀ i₀ h i = (i ≤ length v) × (digest h (drop i v) ≡ digest seed v)
@@ -16,44 +13,37 @@ Inv-loop seed v h₀ i₀ h i = (i ≤ length v) × (digest h (drop i v) ≡ dig
 abbrev μ-loop : tie.MeasureT-loop
 μ-loop seed v h₀ i₀ h i = length v - i
 
--- src/digest.rt:12:5
 loop-holds : tie.Need-loop-holds Inv-loop μ-loop
 loop-holds c = (search needs, refl)
 
--- src/digest.rt:13:13
-mul-h : tie.Need-mul-h Inv-loop μ-loop
-mul-h c = search needs
+mul-x : tie.Need-mul-x Inv-loop μ-loop
+mul-x c = search needs
 
--- src/digest.rt:13:56
 shared-slice-read-small : tie.Need-shared-slice-read-small Inv-loop μ-loop
 shared-slice-read-small c = search needs
 
--- src/digest.rt:13:41
 small-requires : tie.Need-small-requires Inv-loop μ-loop
 small-requires c κs = search needs
 
--- src/digest.rt:13:41
-cast-h : tie.Need-cast-h Inv-loop μ-loop
-cast-h c = search needs
+cast-x : tie.Need-cast-x Inv-loop μ-loop
+cast-x c = search needs
 
--- src/digest.rt:13:13
+add-x : tie.Need-add-x Inv-loop μ-loop
+add-x c = search needs
+
 add-h : tie.Need-add-h Inv-loop μ-loop
 add-h c = search needs
 
--- src/digest.rt:14:9
 add-i : tie.Need-add-i Inv-loop μ-loop
 add-i c = search needs
 
--- src/digest.rt:12:5
 loop-less : tie.Need-loop-less Inv-loop μ-loop
 loop-less c = search needs
 
--- src/digest.rt:12:5
 loop-again : tie.Need-loop-again Inv-loop μ-loop
 loop-again c =
     (search needs, rw (c .small .ensures) (sym (digest-on _ _ _ (c .before .before .loop-test .taken)) ∙ c .before .before .before .loop .inv .1))
 
--- src/digest.rt:7:1
 returns : tie.Need-returns Inv-loop μ-loop
 returns c = sym (digest-end _ _ _ (c .loop-test .left)) ∙ c .before .loop .inv .1
 
@@ -64,10 +54,11 @@ digest-spec =
     Inv-loop
     μ-loop
     loop-holds
-    mul-h
+    mul-x
     shared-slice-read-small
     small-requires
-    cast-h
+    cast-x
+    add-x
     add-h
     add-i
     loop-less

@@ -32,6 +32,7 @@ pub fn worlds() -> Vec<World> {
         register("colliding", 12, 1_800, KEY, alike),
         withheld(),
         typed(),
+        register("forged", 256, 1_640, KEY, forged),
     ]
 }
 
@@ -130,6 +131,30 @@ fn letters(number: u32) -> Vec<u8> {
 /// Four octets, others for each number, the same in their low five bits.
 fn alike(number: u32) -> Vec<u8> {
     [number >> 9, number >> 6, number >> 3, number].map(|place| (place as u8 & 7) << 5 | 1).to_vec()
+}
+
+/// Eight octets, others for each number below 2,187, all with the one digest that the library
+/// (crate `value`) has for them: they differ by sums of differences that the digest does not see.
+fn forged(number: u32) -> Vec<u8> {
+    const UNSEEN: [[i32; 8]; 7] = [
+        [-1, 2, -1, 4, 4, 2, -6, -4],
+        [1, 5, 5, -7, 1, 3, -3, 3],
+        [-7, -4, 3, -5, -5, 9, 1, 0],
+        [-3, 7, -1, 8, -10, -7, -5, 9],
+        [-10, 7, -1, -2, 10, -3, 9, 6],
+        [-6, 0, -1, -14, 8, -14, 0, -7],
+        [-6, -10, 9, 9, 0, -8, -8, 8],
+    ];
+    let mut octets = [173; 8];
+    let mut rest = number;
+    for difference in UNSEEN {
+        let times = (rest % 3) as i32 - 1;
+        rest /= 3;
+        for (octet, step) in octets.iter_mut().zip(difference) {
+            *octet += times * step;
+        }
+    }
+    octets.map(|octet| octet as u8).to_vec()
 }
 
 /// Everything open, and items from the hotel down for those at or below it.
