@@ -1,5 +1,7 @@
 //! Worlds, and six requests over each.
 
+use std::sync::OnceLock;
+
 use harness::limits::open;
 use peer::builder::{
     DirectorySheet, EntryLines, FilterLines, ItemLines, Name, OperationLines, PermissionSheet,
@@ -32,7 +34,7 @@ pub fn worlds() -> Vec<World> {
         register("colliding", 12, 1_800, KEY, alike),
         withheld(),
         typed(),
-        register("forged", 256, 1_640, KEY, forged),
+        register("crowded", 256, 1_800, KEY, crowded),
     ]
 }
 
@@ -133,28 +135,26 @@ fn alike(number: u32) -> Vec<u8> {
     [number >> 9, number >> 6, number >> 3, number].map(|place| (place as u8 & 7) << 5 | 1).to_vec()
 }
 
-/// Eight octets, others for each number below 2,187, all with the one digest that the library
-/// (crate `value`) has for them: they differ by sums of differences that the digest does not see.
-fn forged(number: u32) -> Vec<u8> {
-    const UNSEEN: [[i32; 8]; 7] = [
-        [-1, 2, -1, 4, 4, 2, -6, -4],
-        [1, 5, 5, -7, 1, 3, -3, 3],
-        [-7, -4, 3, -5, -5, 9, 1, 0],
-        [-3, 7, -1, 8, -10, -7, -5, 9],
-        [-10, 7, -1, -2, 10, -3, 9, 6],
-        [-6, 0, -1, -14, 8, -14, 0, -7],
-        [-6, -10, 9, 9, 0, -8, -8, 8],
-    ];
-    let mut octets = [173; 8];
-    let mut rest = number;
-    for difference in UNSEEN {
-        let times = (rest % 3) as i32 - 1;
-        rest /= 3;
-        for (octet, step) in octets.iter_mut().zip(difference) {
-            *octet += times * step;
-        }
-    }
-    octets.map(|octet| octet as u8).to_vec()
+/// Four octets, others for each number, chosen so that the library (crate `directory`) notes all of
+/// them in one bucket and looks through it for each.
+fn crowded(number: u32) -> Vec<u8> {
+    static VALUES: OnceLock<Vec<[u8; 4]>> = OnceLock::new();
+    let values = VALUES.get_or_init(|| {
+        let all =
+            (0..1 << 28).map(|number| [21, 14, 7, 0].map(|bits| (number >> bits) as u8 | 128));
+        all.filter(|value| digest(value) % 2048 == 0).take(1_800).collect()
+    });
+    values[number as usize].to_vec()
+}
+
+/// The library's digest (crate `value`) of a value of the type KEY that the first entry holds.
+fn digest(value: &[u8]) -> u64 {
+    let seed = 258 * 64 + u64::from(KEY) - 1;
+    let mixed = value.iter().fold(seed, |sum, byte| {
+        let product = sum % (1 << 32) * 16_777_619 + u64::from(byte.to_ascii_lowercase());
+        product + product / (1 << 20)
+    });
+    mixed % (1 << 32)
 }
 
 /// Everything open, and items from the hotel down for those at or below it.
