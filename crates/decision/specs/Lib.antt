@@ -1,3 +1,4 @@
 pub mod Chosen
 pub mod Digests
 pub mod Grants
+pub mod Scores

@@ -1,6 +1,8 @@
 // The decision about one thing of an entry. The greatest score among the items that concern the entry and answer the question decides, found in one
 // pass over their rows of rights; an item with a lower score than one before it is not looked at. Bytes are compared last, and only for an item
 // about one value with the same digest.
+pub mod types;
+
 use name::equal_at;
 use permissions::DIGEST;
 use permissions::LENGTH;
@@ -24,7 +26,7 @@ ghost use Rattle.decision.specs.Grants.{afterBy, passBy, permits, entryA
 const NO_ITEM: u64 = 1;
 
 // Does the sum of permissions have the permission `q` in it? Read and FilterMatch, which are asked most, take no division.
-fn permitted(sum: u64, q: u64) -> bool
+pub(crate) fn permitted(sum: u64, q: u64) -> bool
     requires { ⌜ 1 ≤ q ⌝ }
     ensures { λ r. ⌜ r ≡ permits sum q ⌝ }
 {

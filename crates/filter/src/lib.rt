@@ -26,7 +26,7 @@ pub(crate) const PRESENT: u64 = 26;
 // The permission FilterMatch.
 pub(crate) const FILTER_MATCH: u64 = 32;
 
-// What a table has for a type or a value: nothing yet, or FilterMatch refused or granted.
+// What a table has for a value: nothing yet, or FilterMatch refused or granted.
 pub(crate) const NOT_ASKED: u8 = 0;
 
 pub(crate) const REFUSED: u8 = 1;
