@@ -2,13 +2,13 @@
 use Prim.Native.Nat.{ℕ, zero, suc, _+_, _-_, _*_, _/_, _%_, _≤_, _<_, max, suc-le-suc, zero-le}
 use mathlib.Core.Path.{_≡_, refl, sym, ap, ap₂, _∙_, subst}
 use mathlib.Core.Bool.{Bool, true, false, _&&_, _||_, not, cond, true≢false}
-use mathlib.Core.List.{List, [], _∷_, map}
+use mathlib.Core.List.{List, [], _∷_, _++_, map}
 use native.Mathlib.Nat.{le-of-suc-le-suc}
 use native.Mathlib.Numerals.{add-one}
 use native.Mathlib.Omega.{arith}
 use lib.Dec.{eqb, leb, ltb}
-use lib.ListN.{length, getD, drop, drop-of-length-le}
-use lib.Seq.{drop-cons}
+use lib.ListN.{length, getD, take, drop, drop-of-length-le}
+use lib.Seq.{drop-cons, take-all, take-suc}
 use borrow.Author.Tests.{eq-eqb, ne-eqb, le-leb, lt-leb, le-ltb, eqb-true, eqb-false, ltb-true, ltb-false}
 use Rattle.rules.specs.Lists.{keep}
 use Rattle.rules.specs.Sheet.{Bytes, valueOf}
@@ -166,6 +166,40 @@ module _ (rights : List ℕ) where
     pass-either b (k ∷ ks) =
         ap (λ (x : ℕ). passBy two rights x ks) (sym (after-past k (afterBy one rights k b) ks) ∙ ap (λ (x : ℕ). passBy one rights x ks) (sym (after-either k b)))
         ∙ pass-either (afterBy either rights k b) ks
+
+-- ---- the pass from the last item on
+
+module _ (test : ℕ → Bool) (rights : List ℕ) where
+  after-swap : (k x b : ℕ) → afterBy test rights k (afterBy test rights x b) ≡ afterBy test rights x (afterBy test rights k b)
+  unfolding afterBy
+  after-swap k x b = go (leb (length rights / 8) k) (test (k * 8)) (getD rights (k * 8) 0) (leb (length rights / 8) x) (test (x * 8)) (getD rights (x * 8) 0)
+    where
+      go : (o t : Bool) (s : ℕ) (o′ t′ : Bool) (s′ : ℕ) → cond o (cond o′ b (cond t′ (max b s′) b)) (cond t (max (cond o′ b (cond t′ (max b s′) b)) s) (cond o′ b (cond t′ (max b s′) b)))
+          ≡ cond o′ (cond o b (cond t (max b s) b)) (cond t′ (max (cond o b (cond t (max b s) b)) s′) (cond o b (cond t (max b s) b)))
+      go true t s o′ t′ s′ = refl
+      go false false s o′ t′ s′ = refl
+      go false true s true t′ s′ = refl
+      go false true s false false s′ = refl
+      go false true s false true s′ = omega arith
+
+  pass-last : (b k : ℕ) (ks : List ℕ) → passBy test rights b (ks ++ (k ∷ [])) ≡ passBy test rights (afterBy test rights k b) ks
+  unfolding passBy
+  pass-last b k [] = refl
+  pass-last b k (x ∷ ks) = pass-last (afterBy test rights x b) k ks ∙ ap (λ (m : ℕ). passBy test rights m ks) (after-swap k x b)
+
+  module _ (best : ℕ) (list : List ℕ) (j : ℕ) where
+    pub pass-start : passBy test rights best (take (length list) list) ≡ passBy test rights best list
+    pass-start = ap (passBy test rights best) (take-all (length list) list (omega arith))
+
+    pub pass-back : 0 < j → j ≤ length list → passBy test rights best (take j list) ≡ passBy test rights (afterBy test rights (getD list (j - 1) 0) best) (take (j - 1) list)
+    pass-back l h =
+        let e : j ≡ suc (j - 1) = omega arith in
+        let i : j - 1 < length list = omega arith in
+        ap (λ (m : ℕ). passBy test rights best (take m list)) e ∙ ap (passBy test rights best) (take-suc list (j - 1) 0 i) ∙ pass-last best (getD list (j - 1) 0) (take (j - 1) list)
+
+    pub pass-done : j ≤ 0 → passBy test rights best (take j list) ≡ best
+    unfolding passBy
+    pass-done h = let e : j ≡ 0 = omega arith in ap (λ (m : ℕ). passBy test rights best (take m list)) e
 
 -- ---- the pass is the rules' pass
 

@@ -1,5 +1,5 @@
 // The decision about one thing of an entry. The greatest score among the items that concern the entry and answer the question decides, found in one
-// pass over their rows of rights; an item with a lower score than one before it is not looked at. Bytes are compared last, and only for an item
+// pass over their rows of rights, from the last: an item that scores less than one seen is not looked at, and exceptions mostly stand last. Bytes are compared last, and only for an item
 // about one value with the same digest.
 pub mod types;
 
@@ -221,10 +221,10 @@ pub fn granted_entry(rights: &[u64], list: &[usize], q: u64) -> bool
     ensures { λ r. ⌜ ((σ : Setting) (n : Name) (w : ℕ) (p : Bytes) (scopes : List ℕ) → Rows w p (σ .items) (now (rights .entry)) scopes → Chosen σ n (now (list .entry)) → r ≡ granted σ n entry q) ⌝ }
 {
     let mut best = NO_ITEM;
-    let mut j: usize = 0;
-    while j < list.len() {
+    let mut j = list.len();
+    while 0 < j {
+        j -= 1;
         best = after_entry(rights, q, list[j], best);
-        j += 1;
     }
     best % 2 == 0
 }
@@ -235,10 +235,10 @@ pub fn general_score(rights: &[u64], list: &[usize], q: u64) -> u64
     ensures { λ r. ⌜ r ≡ passBy (generalAsked (now (rights .entry)) q) (now (rights .entry)) 1 (now (list .entry)) ⌝ }
 {
     let mut best = NO_ITEM;
-    let mut j: usize = 0;
-    while j < list.len() {
+    let mut j = list.len();
+    while 0 < j {
+        j -= 1;
         best = after_general(rights, q, list[j], best);
-        j += 1;
     }
     best
 }
@@ -249,10 +249,10 @@ pub fn granted_type_beside(rights: &[u64], list: &[usize], general: u64, t: u64,
     ensures { λ r. ⌜ ((σ : Setting) (n : Name) (w : ℕ) (p : Bytes) (scopes : List ℕ) → Rows w p (σ .items) (now (rights .entry)) scopes → Chosen σ n (now (list .entry)) → general ≡ passBy (generalAsked (now (rights .entry)) q) (now (rights .entry)) 1 (now (list .entry)) → r ≡ granted σ n (ofType t) q) ⌝ }
 {
     let mut best = general;
-    let mut j: usize = 0;
-    while j < list.len() {
+    let mut j = list.len();
+    while 0 < j {
+        j -= 1;
         best = after_specific(rights, t, q, list[j], best);
-        j += 1;
     }
     best % 2 == 0
 }
@@ -282,10 +282,10 @@ pub fn granted_value(
 {
     let digest = value::digest::digest(0, v);
     let mut best = NO_ITEM;
-    let mut j: usize = 0;
-    while j < list.len() {
+    let mut j = list.len();
+    while 0 < j {
+        j -= 1;
         best = after_value(schema, w, p, rights, t, v, digest, q, list[j], best);
-        j += 1;
     }
     best % 2 == 0
 }

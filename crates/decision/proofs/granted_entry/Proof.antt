@@ -1,21 +1,26 @@
-use Prim.Native.Nat.{ℕ, _+_, _-_, _≤_}
-use mathlib.Core.Path.{_≡_, refl, sym, ap, _∙_}
-use lib.ListN.{length, drop}
+use Prim.Native.Nat.{ℕ, _-_, _≤_}
+use mathlib.Core.Path.{_≡_, sym, ap, _∙_}
+use lib.ListN.{length, take}
 use denote.Ref.{now}
-use Rattle.decision.specs.Grants.{entryAsked, passBy, pass-on, pass-end, grantedBy, entry-decided}
+use Rattle.decision.specs.Grants.{entryAsked, passBy, pass-start, pass-back, pass-done, grantedBy, entry-decided}
 use borrow.Author.Needs.{needs}
 use Rattle.decision.proofs.granted_entry.Statement.{statement}
 use Rattle.decision.proofs.granted_entry.Tie as tie
 
 abbrev Inv-loop : tie.InvT-loop
 Inv-loop rights list q best₀ j₀ best j =
-    (j ≤ length list) × (passBy (entryAsked rights q) rights best (drop j list) ≡ passBy (entryAsked rights q) rights 1 list)
+    (j ≤ length list) × (passBy (entryAsked rights q) rights best (take j list) ≡ passBy (entryAsked rights q) rights 1 list)
 
 abbrev μ-loop : tie.MeasureT-loop
-μ-loop rights list q best₀ j₀ best j = length list - j
+μ-loop rights list q best₀ j₀ best j = j
 
 loop-holds : tie.Need-loop-holds Inv-loop μ-loop
-loop-holds c = search needs
+loop-holds c =
+    let a = c .before .before .args in
+    (search needs, pass-start (entryAsked (now (a .rights)) (a .q)) (now (a .rights)) 1 (now (a .list)) 0)
+
+sub-j : tie.Need-sub-j Inv-loop μ-loop
+sub-j c = search needs
 
 mul-after-entry : tie.Need-mul-after-entry Inv-loop μ-loop
 mul-after-entry c = search needs
@@ -26,9 +31,6 @@ shared-slice-read-after-entry c = search needs
 after-entry-requires : tie.Need-after-entry-requires Inv-loop μ-loop
 after-entry-requires c κs = search needs
 
-add-j : tie.Need-add-j Inv-loop μ-loop
-add-j c = search needs
-
 loop-less : tie.Need-loop-less Inv-loop μ-loop
 loop-less c = search needs
 
@@ -37,8 +39,8 @@ loop-again c =
     let a = c .before .before .before .before .before .before .args in
     let L = c .before .before .before .loop in (
       search needs,
-      ap (λ (b : ℕ). passBy (entryAsked (now (a .rights)) (a .q)) (now (a .rights)) b (drop (L .j + 1) (now (a .list)))) (c .after-entry .ensures)
-          ∙ sym (pass-on (entryAsked (now (a .rights)) (a .q)) (now (a .rights)) (L .best) (now (a .list)) (L .j) (c .before .before .loop-test .taken))
+      ap (λ (b : ℕ). passBy (entryAsked (now (a .rights)) (a .q)) (now (a .rights)) b (take (L .j - 1) (now (a .list)))) (c .after-entry .ensures)
+          ∙ sym (pass-back (entryAsked (now (a .rights)) (a .q)) (now (a .rights)) (L .best) (now (a .list)) (L .j) (c .before .before .loop-test .taken) (L .inv .0))
           ∙ L .inv .1,
     )
 
@@ -46,7 +48,7 @@ returns : tie.Need-returns Inv-loop μ-loop
 returns c =
     let a = c .before .before .before .before .args in
     let L = c .before .loop in
-    λ σ n w p scopes rows h. ap grantedBy (sym (pass-end (entryAsked (now (a .rights)) (a .q)) (now (a .rights)) (L .best) (now (a .list)) (L .j) (c .loop-test .left)) ∙ L .inv .1) ∙ entry-decided σ (a .q) w p (now (a .rights)) scopes rows n (now (a .list)) h
+    λ σ n w p scopes rows h. ap grantedBy (sym (pass-done (entryAsked (now (a .rights)) (a .q)) (now (a .rights)) (L .best) (now (a .list)) (L .j) (c .loop-test .left)) ∙ L .inv .1) ∙ entry-decided σ (a .q) w p (now (a .rights)) scopes rows n (now (a .list)) h
 
 pub granted-entry-spec : {M : Type 1} → statement M
 granted-entry-spec =
@@ -55,10 +57,10 @@ granted-entry-spec =
     Inv-loop
     μ-loop
     loop-holds
+    sub-j
     mul-after-entry
     shared-slice-read-after-entry
     after-entry-requires
-    add-j
     loop-less
     loop-again
     returns)

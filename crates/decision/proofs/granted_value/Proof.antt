@@ -1,26 +1,31 @@
-use Prim.Native.Nat.{ℕ, _+_, _-_, _≤_}
-use mathlib.Core.Path.{_≡_, refl, sym, ap, _∙_}
-use lib.ListN.{length, drop}
+use Prim.Native.Nat.{ℕ, _-_, _≤_}
+use mathlib.Core.Path.{_≡_, sym, ap, _∙_}
+use lib.ListN.{length, take}
 use denote.Ref.{now}
-use Rattle.decision.specs.Grants.{valueAsked, passBy, pass-on, pass-end, grantedBy, value-decided}
 use Rattle.rules.specs.Places.{schemaOf}
+use Rattle.decision.specs.Grants.{valueAsked, passBy, pass-start, pass-back, pass-done, grantedBy, value-decided}
 use borrow.Author.Needs.{needs}
 use Rattle.decision.proofs.granted_value.Statement.{statement}
 use Rattle.decision.proofs.granted_value.Tie as tie
-use Rattle.value.proofs.digest.digest.Reads as digest-reads
 
 abbrev Inv-loop : tie.InvT-loop
 Inv-loop schema w p rights list t v q digest best₀ j₀ best j =
-    (j ≤ length list) × (passBy (valueAsked (schemaOf schema) w p rights t v digest q) rights best (drop j list) ≡ passBy (valueAsked (schemaOf schema) w p rights t v digest q) rights 1 list)
+    (j ≤ length list) × (passBy (valueAsked (schemaOf schema) w p rights t v digest q) rights best (take j list) ≡ passBy (valueAsked (schemaOf schema) w p rights t v digest q) rights 1 list)
 
 abbrev μ-loop : tie.MeasureT-loop
-μ-loop schema w p rights list t v q digest best₀ j₀ best j = length list - j
+μ-loop schema w p rights list t v q digest best₀ j₀ best j = j
 
 digest-requires : tie.Need-digest-requires Inv-loop μ-loop
 digest-requires c κs = search needs
 
 loop-holds : tie.Need-loop-holds Inv-loop μ-loop
-loop-holds c = search needs
+loop-holds c =
+    let a = c .before .before .before .before .before .before .args in
+    let d = c .digest in
+    (search needs, pass-start (valueAsked (schemaOf (now (a .schema))) (a .w) (now (a .p)) (now (a .rights)) (a .t) (now (a .v)) (d .result) (a .q)) (now (a .rights)) 1 (now (a .list)) 0)
+
+sub-j : tie.Need-sub-j Inv-loop μ-loop
+sub-j c = search needs
 
 mul-after-value : tie.Need-mul-after-value Inv-loop μ-loop
 mul-after-value c = search needs
@@ -31,9 +36,6 @@ shared-slice-read-after-value c = search needs
 after-value-requires : tie.Need-after-value-requires Inv-loop μ-loop
 after-value-requires c κs = search needs
 
-add-j : tie.Need-add-j Inv-loop μ-loop
-add-j c = search needs
-
 loop-less : tie.Need-loop-less Inv-loop μ-loop
 loop-less c = search needs
 
@@ -43,8 +45,8 @@ loop-again c =
     let d = c .before .before .before .before .digest in
     let L = c .before .before .before .loop in (
       search needs,
-      ap (λ (b : ℕ). passBy (valueAsked (schemaOf (now (a .schema))) (a .w) (now (a .p)) (now (a .rights)) (a .t) (now (a .v)) (d .result) (a .q)) (now (a .rights)) b (drop (L .j + 1) (now (a .list)))) (c .after-value .ensures)
-          ∙ sym (pass-on (valueAsked (schemaOf (now (a .schema))) (a .w) (now (a .p)) (now (a .rights)) (a .t) (now (a .v)) (d .result) (a .q)) (now (a .rights)) (L .best) (now (a .list)) (L .j) (c .before .before .loop-test .taken))
+      ap (λ (b : ℕ). passBy (valueAsked (schemaOf (now (a .schema))) (a .w) (now (a .p)) (now (a .rights)) (a .t) (now (a .v)) (d .result) (a .q)) (now (a .rights)) b (take (L .j - 1) (now (a .list)))) (c .after-value .ensures)
+          ∙ sym (pass-back (valueAsked (schemaOf (now (a .schema))) (a .w) (now (a .p)) (now (a .rights)) (a .t) (now (a .v)) (d .result) (a .q)) (now (a .rights)) (L .best) (now (a .list)) (L .j) (c .before .before .loop-test .taken) (L .inv .0))
           ∙ L .inv .1,
     )
 
@@ -54,7 +56,7 @@ returns c =
     let d = c .before .before .digest in
     let L = c .before .loop in
     λ σ n scopes e rows h.
-    ap grantedBy (sym (pass-end (valueAsked (schemaOf (now (a .schema))) (a .w) (now (a .p)) (now (a .rights)) (a .t) (now (a .v)) (d .result) (a .q)) (now (a .rights)) (L .best) (now (a .list)) (L .j) (c .loop-test .left)) ∙ L .inv .1)
+    ap grantedBy (sym (pass-done (valueAsked (schemaOf (now (a .schema))) (a .w) (now (a .p)) (now (a .rights)) (a .t) (now (a .v)) (d .result) (a .q)) (now (a .rights)) (L .best) (now (a .list)) (L .j) (c .loop-test .left)) ∙ L .inv .1)
     ∙ value-decided σ (a .q) (a .w) (now (a .p)) (now (a .rights)) scopes rows n (now (a .list)) h (a .t) (now (a .v)) (d .result) (d .ensures) (schemaOf (now (a .schema))) e
 
 pub granted-value-spec : {M : Type 1} → statement M
@@ -65,10 +67,10 @@ granted-value-spec =
     μ-loop
     digest-requires
     loop-holds
+    sub-j
     mul-after-value
     shared-slice-read-after-value
     after-value-requires
-    add-j
     loop-less
     loop-again
     returns)
