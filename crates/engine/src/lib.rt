@@ -1,4 +1,5 @@
 // A request answered: the three sheets judged, the answer planned, its length known, and only then its bytes written.
+mod conclude;
 mod respond;
 mod selection;
 

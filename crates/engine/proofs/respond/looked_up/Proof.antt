@@ -22,7 +22,7 @@ use Rattle.engine.proofs.respond.looked_up.Reads as reads
 use Rattle.engine.proofs.respond.looked_up.Lts as lts
 use Rattle.access.proofs.entries.resolve.Reads as resolve-reads
 use Rattle.access.proofs.matched.matched.Reads as matched-reads
-use Rattle.engine.proofs.respond.concluded.Reads as concluded-reads
+use Rattle.engine.proofs.conclude.concluded.Reads as concluded-reads
 
 -- src/respond.rt:313:9
 resolve-requires : tie.Need-resolve-requires

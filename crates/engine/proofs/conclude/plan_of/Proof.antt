@@ -16,10 +16,10 @@ use Rattle.engine.specs.Operations.{by-read, by-compare, by-list, by-sea
 use Rattle.engine.specs.Judges.{world-of}
 use Rattle.engine.specs.Serve.{replies-same}
 use borrow.Author.Needs.{needs}
-use Rattle.engine.proofs.respond.plan_of.Statement.{statement}
-use Rattle.engine.proofs.respond.plan_of.Tie as tie
-use Rattle.engine.proofs.respond.plan_of.Reads as reads
-use Rattle.engine.proofs.respond.plan_of.Lts as lts
+use Rattle.engine.proofs.conclude.plan_of.Statement.{statement}
+use Rattle.engine.proofs.conclude.plan_of.Tie as tie
+use Rattle.engine.proofs.conclude.plan_of.Reads as reads
+use Rattle.engine.proofs.conclude.plan_of.Lts as lts
 use Rattle.read.proofs.compare.compare.Reads as compare-reads
 use Rattle.search.proofs.list.list.Reads as list-reads
 use Rattle.read.proofs.read.read.Reads as read-reads

@@ -16,10 +16,10 @@ use Rattle.engine.specs.Operations.{by-read, by-compare, by-list, by-sea
 use Rattle.engine.specs.Judges.{world-of}
 use Rattle.engine.specs.Serve.{replies-same}
 use borrow.Author.Needs.{needs}
-use Rattle.engine.proofs.respond.written.Statement.{statement}
-use Rattle.engine.proofs.respond.written.Tie as tie
-use Rattle.engine.proofs.respond.written.Reads as reads
-use Rattle.engine.proofs.respond.written.Lts as lts
+use Rattle.engine.proofs.conclude.written.Statement.{statement}
+use Rattle.engine.proofs.conclude.written.Tie as tie
+use Rattle.engine.proofs.conclude.written.Reads as reads
+use Rattle.engine.proofs.conclude.written.Lts as lts
 use Rattle.engine.proofs.refused.Reads as refused-reads
 use Rattle.render.proofs.render.Reads as render-reads
 

@@ -16,12 +16,12 @@ use Rattle.engine.specs.Operations.{by-read, by-compare, by-list, by-sea
 use Rattle.engine.specs.Judges.{world-of}
 use Rattle.engine.specs.Serve.{replies-same}
 use borrow.Author.Needs.{needs}
-use Rattle.engine.proofs.respond.concluded.Statement.{statement}
-use Rattle.engine.proofs.respond.concluded.Tie as tie
-use Rattle.engine.proofs.respond.concluded.Reads as reads
-use Rattle.engine.proofs.respond.concluded.Lts as lts
-use Rattle.engine.proofs.respond.plan_of.Reads as plan-of-reads
-use Rattle.engine.proofs.respond.written.Reads as written-reads
+use Rattle.engine.proofs.conclude.concluded.Statement.{statement}
+use Rattle.engine.proofs.conclude.concluded.Tie as tie
+use Rattle.engine.proofs.conclude.concluded.Reads as reads
+use Rattle.engine.proofs.conclude.concluded.Lts as lts
+use Rattle.engine.proofs.conclude.plan_of.Reads as plan-of-reads
+use Rattle.engine.proofs.conclude.written.Reads as written-reads
 
 -- src/respond.rt:263:9
 slice-aggregate-plan-of : tie.Need-slice-aggregate-plan-of
