@@ -21,8 +21,8 @@ use Rattle.rules.specs.Places.{schemaOf, linesAt, partsOf, typesOf}
 use Rattle.rules.specs.Laws.Resolve.{walk}
 use Rattle.rules.specs.Laws.Reach.{reachOf}
 use Rattle.decision.specs.Chosen.{Rows}
-use Rattle.access.specs.Entries.{UpTo, up-to}
-use Rattle.access.specs.Scopes.{Asker}
+use Rattle.lookup.specs.Entries.{UpTo, up-to}
+use Rattle.scope.specs.Scopes.{Asker}
 use Rattle.access.specs.World.{Numbers, World}
 use Rattle.plan.specs.Lent.{Lent, Base, Numbered, Sound}
 use Rattle.plan.specs.Plan.{planned}

@@ -2,10 +2,10 @@
 use super::Reply;
 use super::conclude::concluded;
 use super::selection::wanted;
-use access::entries::resolve;
-use access::matched::matched;
-use access::scope::reach_all;
+use lookup::entries::resolve;
+use matched::matched;
 use request::Asked;
+use scope::reach_all;
 ghost use mathlib.Core.Path.{_≡_};
 ghost use Prim.Native.Nat.{ℕ, _+_, _*_, _≤_};
 ghost use mathlib.Core.List.{List, map};

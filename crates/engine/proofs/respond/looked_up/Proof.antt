@@ -20,8 +20,8 @@ use Rattle.engine.proofs.respond.looked_up.Statement.{statement}
 use Rattle.engine.proofs.respond.looked_up.Tie as tie
 use Rattle.engine.proofs.respond.looked_up.Reads as reads
 use Rattle.engine.proofs.respond.looked_up.Lts as lts
-use Rattle.access.proofs.entries.resolve.Reads as resolve-reads
-use Rattle.access.proofs.matched.matched.Reads as matched-reads
+use Rattle.lookup.proofs.entries.resolve.Reads as resolve-reads
+use Rattle.matched.proofs.matched.Reads as matched-reads
 use Rattle.engine.proofs.conclude.concluded.Reads as concluded-reads
 
 -- src/respond.rt:313:9

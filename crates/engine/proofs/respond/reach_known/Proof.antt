@@ -20,7 +20,7 @@ use Rattle.engine.proofs.respond.reach_known.Statement.{statement}
 use Rattle.engine.proofs.respond.reach_known.Tie as tie
 use Rattle.engine.proofs.respond.reach_known.Reads as reads
 use Rattle.engine.proofs.respond.reach_known.Lts as lts
-use Rattle.access.proofs.scope.reach_all.Reads as reach-all-reads
+use Rattle.scope.proofs.reach_all.Reads as reach-all-reads
 use Rattle.engine.proofs.respond.reached.Reads as reached-reads
 
 -- src/respond.rt:451:9
