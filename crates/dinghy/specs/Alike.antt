@@ -9,8 +9,8 @@ use Rattle.rules.specs.Judge.{Verdict, accept, refuse}
 use Rattle.rules.specs.Serve.{width, serve}
 use Rattle.rules.specs.Shown.{Alike}
 use Rattle.rules.specs.Secrecy.Demand3.{demand-3}
-use Rattle.engine.specs.declared.Reply.{Reply}
-use Rattle.engine.specs.Reply.{replyOf, leftOf}
+use Rattle.reply.specs.declared.Reply.{Reply}
+use Rattle.reply.specs.Reply.{replyOf, leftOf}
 
 -- two calls, with the sheets `d₁` and `d₂` as directory and buffers that hold `one` and `two`
 pub record SameAnswer (d₁ d₂ p q one two : Bytes) : Type 0 where

@@ -2,7 +2,7 @@
 ghost use mathlib.Core.Path.{_≡_};
 ghost use lib.ListN.{length};
 ghost use Rattle.rules.specs.Serve.{serve};
-ghost use Rattle.engine.specs.Reply.{replyOf, leftOf};
+ghost use Rattle.reply.specs.Reply.{replyOf, leftOf};
 
 // Answers the request over the directory and the permissions: the reply, and the answer's bytes at the front of `out`. With a refusal, and beyond the
 // answer's length, `out` is unchanged.
@@ -12,7 +12,7 @@ pub extern "C" fn dinghy_serve(
     permissions: &[u8],
     request: &[u8],
     out: &mut [u8],
-) -> engine::Reply
+) -> reply::Reply
     ensures reply { λ r. ⌜ r ≡ replyOf (serve (now (directory .entry)) (now (permissions .entry)) (now (request .entry)) (length (now (out .entry)))) ⌝ }
     ensures left { λ r. ⌜ now (out .exit) ≡ leftOf (serve (now (directory .entry)) (now (permissions .entry)) (now (request .entry)) (length (now (out .entry)))) (now (out .entry)) ⌝ }
 {

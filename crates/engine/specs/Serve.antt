@@ -13,8 +13,8 @@ use Rattle.rules.specs.Serve.{respond, serveAt}
 use Rattle.rules.specs.Places.{schemaOf}
 use Rattle.permissions.specs.Noted as Permissions
 use Rattle.permissions.specs.declared.Items.{Items}
-use Rattle.engine.specs.declared.Reply.{Reply}
-use Rattle.engine.specs.Reply.{replyOf, leftOf, Replies}
+use Rattle.reply.specs.declared.Reply.{Reply}
+use Rattle.reply.specs.Reply.{replyOf, leftOf, Replies}
 
 -- the verdict once the request is judged, the permissions, the directory
 abbrev pub fromRequest : ℕ → Directory → List Item → Bytes → ℕ → Verdict Bytes

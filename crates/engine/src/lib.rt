@@ -1,8 +1,8 @@
 // A request answered: the three sheets judged, the answer planned, its length known, and only then its bytes written.
-mod conclude;
 mod respond;
-mod selection;
 
+use reply::Reply;
+use reply::refused;
 use respond::answered;
 ghost use mathlib.Core.Path.{_≡_};
 ghost use Prim.Native.Nat.{ℕ, _+_, _*_, _≤_};
@@ -11,26 +11,9 @@ ghost use lib.ListN.{length};
 ghost use Rattle.rules.specs.Directory.{Directory};
 ghost use Rattle.rules.specs.Serve.{serveAt};
 ghost use Rattle.access.specs.World.{Numbers};
-ghost use Rattle.engine.specs.Reply.{replyOf, leftOf, Replies};
+ghost use Rattle.reply.specs.Reply.{Replies};
 ghost use Rattle.engine.specs.Serve.{fromPermissions};
 ghost use Rattle.engine.specs.Judges.{DirectoryAt};
-
-// The refusal number, 0 for none, and the number of bytes of the answer.
-#[repr(C)]
-pub struct Reply {
-    pub refusal: u64,
-    pub length: u64,
-}
-
-// A refusal has no bytes.
-fn refused(number: u64) -> Reply
-    ensures { λ r. ⌜ r ≡ record { refusal = number; length = 0 } ⌝ }
-{
-    Reply {
-        refusal: number,
-        length: 0,
-    }
-}
 
 // The answer over an accepted directory: permissions come next, then the request.
 fn permitted(

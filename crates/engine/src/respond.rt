@@ -1,11 +1,11 @@
 // An accepted request answered: the reach of the items, the name looked up, the answer concluded.
-use super::Reply;
-use super::conclude::concluded;
-use super::selection::wanted;
+use conclude::concluded;
 use lookup::entries::resolve;
 use matched::matched;
+use reply::Reply;
 use request::Asked;
 use scope::reach_all;
+use selection::wanted;
 ghost use mathlib.Core.Path.{_≡_};
 ghost use Prim.Native.Nat.{ℕ, _+_, _*_, _≤_};
 ghost use mathlib.Core.List.{List, map};
@@ -21,8 +21,8 @@ ghost use Rattle.decision.specs.Chosen.{Rows};
 ghost use Rattle.access.specs.World.{Numbers, World};
 ghost use Rattle.plan.specs.Lent.{Lent};
 ghost use Rattle.request.specs.Noted.{Noted};
-ghost use Rattle.engine.specs.Reply.{Replies};
-ghost use Rattle.engine.specs.Respond.{selectionOf};
+ghost use Rattle.reply.specs.Reply.{Replies};
+ghost use Rattle.conclude.specs.Selected.{selectionOf};
 ghost use Rattle.engine.specs.Judges.{DirectoryAt};
 
 // The answer, once each item's reach is known: the entry that is named, and the matched name.

@@ -12,7 +12,7 @@ use Rattle.engine.proofs.permitted.Statement.{statement}
 use Rattle.engine.proofs.permitted.Tie as tie
 use Rattle.engine.proofs.permitted.Reads as reads
 use Rattle.engine.proofs.permitted.Lts as lts
-use Rattle.engine.proofs.refused.Reads as refused-reads
+use Rattle.reply.proofs.refused.Reads as refused-reads
 use Rattle.engine.proofs.respond.answered.Reads as answered-reads
 use Rattle.permissions.proofs.judge.Reads as judge-reads
 use Rattle.request.proofs.judge.Reads as judge-reads′

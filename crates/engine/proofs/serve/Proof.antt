@@ -14,7 +14,7 @@ use Rattle.engine.proofs.serve.Reads as reads
 use Rattle.engine.proofs.serve.Lts as lts
 use Rattle.directory.proofs.judge.Reads as judge-reads
 use Rattle.engine.proofs.permitted.Reads as permitted-reads
-use Rattle.engine.proofs.refused.Reads as refused-reads
+use Rattle.reply.proofs.refused.Reads as refused-reads
 
 -- src/lib.rt:100:9
 judge-requires : tie.Need-judge-requires

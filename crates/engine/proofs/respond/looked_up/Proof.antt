@@ -11,10 +11,7 @@ use Rattle.rules.specs.Answer.{answer}
 use Rattle.rules.specs.Serve.{settingOf}
 use Rattle.plan.specs.Lent.{Lent, lent-again}
 use Rattle.plan.specs.Plan.{planned}
-use Rattle.engine.specs.Respond.{selectionOf, nothingSelected, selection-noted, run-refused, run-answered, replies-lines, lent-of, numbered-by, sound-by, numbered-of, base-of, asker-of, front-again, respond-is}
-use Rattle.engine.specs.Operations.{by-read, by-compare, by-list, by-search, value-within}
-use Rattle.engine.specs.Judges.{world-of}
-use Rattle.engine.specs.Serve.{replies-same}
+use Rattle.engine.specs.Respond.{numbered-of, base-of}
 use borrow.Author.Needs.{needs}
 use Rattle.engine.proofs.respond.looked_up.Statement.{statement}
 use Rattle.engine.proofs.respond.looked_up.Tie as tie
@@ -22,7 +19,7 @@ use Rattle.engine.proofs.respond.looked_up.Reads as reads
 use Rattle.engine.proofs.respond.looked_up.Lts as lts
 use Rattle.lookup.proofs.entries.resolve.Reads as resolve-reads
 use Rattle.matched.proofs.matched.Reads as matched-reads
-use Rattle.engine.proofs.conclude.concluded.Reads as concluded-reads
+use Rattle.conclude.proofs.concluded.Reads as concluded-reads
 
 -- src/respond.rt:313:9
 resolve-requires : tie.Need-resolve-requires

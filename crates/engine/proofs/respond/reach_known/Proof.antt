@@ -11,8 +11,7 @@ use Rattle.rules.specs.Answer.{answer}
 use Rattle.rules.specs.Serve.{settingOf}
 use Rattle.plan.specs.Lent.{Lent, lent-again}
 use Rattle.plan.specs.Plan.{planned}
-use Rattle.engine.specs.Respond.{selectionOf, nothingSelected, selection-noted, run-refused, run-answered, replies-lines, lent-of, numbered-by, sound-by, numbered-of, base-of, asker-of, front-again, front-types, cut-count, cut-few, respond-is}
-use Rattle.engine.specs.Operations.{by-read, by-compare, by-list, by-search, value-within}
+use Rattle.engine.specs.Respond.{asker-of, front-again, cut-count, cut-few, respond-is}
 use Rattle.engine.specs.Judges.{world-of}
 use Rattle.engine.specs.Serve.{replies-same}
 use borrow.Author.Needs.{needs}

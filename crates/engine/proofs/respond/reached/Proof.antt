@@ -11,17 +11,15 @@ use Rattle.rules.specs.Answer.{answer}
 use Rattle.rules.specs.Serve.{settingOf}
 use Rattle.plan.specs.Lent.{Lent, lent-again}
 use Rattle.plan.specs.Plan.{planned}
-use Rattle.engine.specs.Respond.{selectionOf, nothingSelected, selection-noted, run-refused, run-answered, replies-lines, lent-of, numbered-by, sound-by, numbered-of, base-of, asker-of, front-again, front-types, respond-is}
-use Rattle.engine.specs.Operations.{by-read, by-compare, by-list, by-search, value-within}
-use Rattle.engine.specs.Judges.{world-of}
-use Rattle.engine.specs.Serve.{replies-same}
+use Rattle.conclude.specs.Selected.{selection-noted}
+use Rattle.engine.specs.Respond.{lent-of, front-types}
 use borrow.Author.Needs.{needs}
 use Rattle.engine.proofs.respond.reached.Statement.{statement}
 use Rattle.engine.proofs.respond.reached.Tie as tie
 use Rattle.engine.proofs.respond.reached.Reads as reads
 use Rattle.engine.proofs.respond.reached.Lts as lts
 use Rattle.engine.proofs.respond.looked_up.Reads as looked-up-reads
-use Rattle.engine.proofs.selection.wanted.Reads as wanted-reads
+use Rattle.selection.proofs.wanted.Reads as wanted-reads
 
 -- src/respond.rt:388:59
 slice-aggregate-wanted : tie.Need-slice-aggregate-wanted

@@ -4,7 +4,7 @@ use mathlib.Core.Path.{_≡_}
 use lib.ListN.{length, drop}
 use Rattle.rules.specs.Sheet.{Bytes}
 use Rattle.rules.specs.Judge.{Verdict, accept, refuse}
-use Rattle.engine.specs.declared.Reply.{Reply}
+use Rattle.reply.specs.declared.Reply.{Reply}
 
 -- "one answer, or one refusal number with length 0"
 unfoldable pub replyOf : Verdict Bytes → Reply

@@ -11,42 +11,41 @@ use Rattle.rules.specs.Answer.{answer}
 use Rattle.rules.specs.Serve.{settingOf}
 use Rattle.plan.specs.Lent.{Lent, lent-again}
 use Rattle.plan.specs.Plan.{planned}
-use Rattle.engine.specs.Respond.{selectionOf, nothingSelected, selection-noted, run-refused, run-answered, replies-lines, lent-of, numbered-by, sound-by, numbered-of, base-of, asker-of, front-again, respond-is}
-use Rattle.engine.specs.Operations.{by-read, by-compare, by-list, by-search, value-within}
-use Rattle.engine.specs.Judges.{world-of}
-use Rattle.engine.specs.Serve.{replies-same}
+use Rattle.conclude.specs.Selected.{selectionOf, nothingSelected}
+use Rattle.conclude.specs.Conclude.{numbered-by, sound-by}
+use Rattle.conclude.specs.Operations.{by-read, by-compare, by-list, by-search, value-within}
 use borrow.Author.Needs.{needs}
-use Rattle.engine.proofs.conclude.plan_of.Statement.{statement}
-use Rattle.engine.proofs.conclude.plan_of.Tie as tie
-use Rattle.engine.proofs.conclude.plan_of.Reads as reads
-use Rattle.engine.proofs.conclude.plan_of.Lts as lts
+use Rattle.conclude.proofs.plan_of.Statement.{statement}
+use Rattle.conclude.proofs.plan_of.Tie as tie
+use Rattle.conclude.proofs.plan_of.Reads as reads
+use Rattle.conclude.proofs.plan_of.Lts as lts
 use Rattle.read.proofs.compare.compare.Reads as compare-reads
 use Rattle.search.proofs.list.list.Reads as list-reads
 use Rattle.read.proofs.read.read.Reads as read-reads
 use Rattle.search.proofs.search.search.Reads as search-reads
 use Rattle.sheet.proofs.value_at.Reads as value-at-reads
 
--- src/respond.rt:60:9
+-- src/lib.rt:60:9
 read-requires : tie.Need-read-requires
 read-requires c κs = search needs
 
--- src/respond.rt:60:9
+-- src/lib.rt:60:9
 same-length : tie.Need-same-length
 same-length c = search needs
 
--- src/respond.rt:60:9
+-- src/lib.rt:60:9
 same-length-2 : tie.Need-same-length-2
 same-length-2 c = search needs
 
--- src/respond.rt:60:9
+-- src/lib.rt:60:9
 same-length-3 : tie.Need-same-length-3
 same-length-3 c = search needs
 
--- src/respond.rt:60:9
+-- src/lib.rt:60:9
 same-length-4 : tie.Need-same-length-4
 same-length-4 c = search needs
 
--- src/respond.rt:60:9
+-- src/lib.rt:60:9
 returns : tie.Need-returns
 returns c = let a = c .before .before .before .before .before .before .before .before .before .before .before .before .before .before .before .before .before .before .before .before .before .before .before .before .before .before .before .before .before .before .args in
     let r = c .before .before .before .before .before .before .before .before .read in (
@@ -56,31 +55,31 @@ returns c = let a = c .before .before .before .before .before .before .before .b
           (λ s sl st sv. r .ensures .1 σ es naming scopes (x .base) s (now (a .hits)) W B sl st sv),
     )
 
--- src/respond.rt:95:13
+-- src/lib.rt:95:13
 value-at-requires : tie.Need-value-at-requires
 value-at-requires c κs = let a = c .before .before .before .before .before .before .before .before .before .before .before .before .before .before .before .before .before .before .before .args in let X = c .before .before .before .before .before .before .before .before .before .before .before .before .before .before .before .before .before .before .before .pre .3 in value-within (a .w) (now (a .q)) (a .asked) (X .0 .operation) (X .1 .operation) (c .if2 .taken)
 
--- src/respond.rt:82:9
+-- src/lib.rt:82:9
 compare-requires : tie.Need-compare-requires
 compare-requires c κs = (c .before .before .before .before .before .before .before .before .before .before .before .before .before .before .before .before .before .before .before .before .before .before .before .before .pre .0, c .before .before .before .before .before .before .before .before .before .before .before .before .before .before .before .before .before .before .before .before .before .before .before .before .pre .1)
 
--- src/respond.rt:82:9
+-- src/lib.rt:82:9
 same-length-5 : tie.Need-same-length-5
 same-length-5 c = search needs
 
--- src/respond.rt:82:9
+-- src/lib.rt:82:9
 same-length-6 : tie.Need-same-length-6
 same-length-6 c = search needs
 
--- src/respond.rt:82:9
+-- src/lib.rt:82:9
 same-length-7 : tie.Need-same-length-7
 same-length-7 c = search needs
 
--- src/respond.rt:82:9
+-- src/lib.rt:82:9
 same-length-8 : tie.Need-same-length-8
 same-length-8 c = search needs
 
--- src/respond.rt:82:9
+-- src/lib.rt:82:9
 returns-2 : tie.Need-returns-2
 returns-2 c = let a = c .before .before .before .before .before .before .before .before .before .before .before .before .before .before .before .before .before .before .before .before .before .before .before .before .before .before .before .before .before .before .before .before .before .args in
     let r = c .before .before .before .before .before .before .before .before .compare in (
@@ -91,19 +90,19 @@ returns-2 c = let a = c .before .before .before .before .before .before .before 
           ∙ ap₂ (λ (m : ℕ) (u : Bytes). answer σ (map entryOf es) (x .base) (compare m u)) en (c .before .before .before .before .before .before .before .before .before .before .before .before .before .value-at .ensures ∙ ev)),
     )
 
--- src/respond.rt:103:9
+-- src/lib.rt:103:9
 list-requires : tie.Need-list-requires
 list-requires c κs = let a = c .before .before .before .before .before .before .before .before .before .before .before .before .before .before .before .before .before .before .before .before .before .before .before .args in let P = c .before .before .before .before .before .before .before .before .before .before .before .before .before .before .before .before .before .before .before .before .before .before .before .pre in let e = P .0 .parents-noted in (numbered-by (a .base) (a .missing) e (P .1), P .0 .items, omega (arith, e, P .2))
 
--- src/respond.rt:103:9
+-- src/lib.rt:103:9
 same-length-9 : tie.Need-same-length-9
 same-length-9 c = search needs
 
--- src/respond.rt:103:9
+-- src/lib.rt:103:9
 same-length-10 : tie.Need-same-length-10
 same-length-10 c = search needs
 
--- src/respond.rt:103:9
+-- src/lib.rt:103:9
 returns-3 : tie.Need-returns-3
 returns-3 c = let a = c .before .before .before .before .before .before .before .before .before .before .before .before .before .before .before .before .before .before .before .before .before .before .before .before .before .before .before .before .args in
     let P = c .before .before .before .before .before .before .before .before .before .before .before .before .before .before .before .before .before .before .before .before .before .before .before .before .before .before .before .before .pre in
@@ -115,31 +114,31 @@ returns-3 c = let a = c .before .before .before .before .before .before .before 
           ∙ ap (λ (m : ℕ). answer σ (map entryOf es) (x .base) (list m)) e),
     )
 
--- src/respond.rt:114:5
+-- src/lib.rt:114:5
 search-requires : tie.Need-search-requires
 search-requires c κs = let a = c .before .before .before .before .before .before .before .before .before .before .before .before .before .before .before .before .before .before .before .before .before .before .before .before .before .before .args in let P = c .before .before .before .before .before .before .before .before .before .before .before .before .before .before .before .before .before .before .before .before .before .before .before .before .before .before .pre in let e = P .0 .parents-noted in (P .0, numbered-by (a .base) (a .missing) e (P .1), omega (arith, e, P .2))
 
--- src/respond.rt:35:1
+-- src/lib.rt:35:1
 same-length-11 : tie.Need-same-length-11
 same-length-11 c = search needs
 
--- src/respond.rt:35:1
+-- src/lib.rt:35:1
 same-length-12 : tie.Need-same-length-12
 same-length-12 c = search needs
 
--- src/respond.rt:35:1
+-- src/lib.rt:35:1
 same-length-13 : tie.Need-same-length-13
 same-length-13 c = search needs
 
--- src/respond.rt:35:1
+-- src/lib.rt:35:1
 same-length-14 : tie.Need-same-length-14
 same-length-14 c = search needs
 
--- src/respond.rt:35:1
+-- src/lib.rt:35:1
 same-length-15 : tie.Need-same-length-15
 same-length-15 c = search needs
 
--- src/respond.rt:35:1
+-- src/lib.rt:35:1
 returns-4 : tie.Need-returns-4
 returns-4 c = let a = c .before .before .before .before .before .before .before .before .before .before .before .before .before .before .before .before .before .before .before .before .before .before .before .before .before .before .before .before .before .before .before .before .before .before .before .before .before .args in
     let P = c .before .before .before .before .before .before .before .before .before .before .before .before .before .before .before .before .before .before .before .before .before .before .before .before .before .before .before .before .before .before .before .before .before .before .before .before .before .pre in

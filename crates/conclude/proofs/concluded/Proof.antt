@@ -11,57 +11,55 @@ use Rattle.rules.specs.Answer.{answer}
 use Rattle.rules.specs.Serve.{settingOf}
 use Rattle.plan.specs.Lent.{Lent, lent-again}
 use Rattle.plan.specs.Plan.{planned}
-use Rattle.engine.specs.Respond.{selectionOf, nothingSelected, selection-noted, run-refused, run-answered, replies-lines, lent-of, numbered-by, sound-by, numbered-of, base-of, asker-of, front-again, respond-is}
-use Rattle.engine.specs.Operations.{by-read, by-compare, by-list, by-search, value-within}
-use Rattle.engine.specs.Judges.{world-of}
-use Rattle.engine.specs.Serve.{replies-same}
+use Rattle.conclude.specs.Selected.{selectionOf, selection-noted}
+use Rattle.conclude.specs.Conclude.{replies-lines}
 use borrow.Author.Needs.{needs}
-use Rattle.engine.proofs.conclude.concluded.Statement.{statement}
-use Rattle.engine.proofs.conclude.concluded.Tie as tie
-use Rattle.engine.proofs.conclude.concluded.Reads as reads
-use Rattle.engine.proofs.conclude.concluded.Lts as lts
-use Rattle.engine.proofs.conclude.plan_of.Reads as plan-of-reads
-use Rattle.engine.proofs.conclude.written.Reads as written-reads
+use Rattle.conclude.proofs.concluded.Statement.{statement}
+use Rattle.conclude.proofs.concluded.Tie as tie
+use Rattle.conclude.proofs.concluded.Reads as reads
+use Rattle.conclude.proofs.concluded.Lts as lts
+use Rattle.conclude.proofs.plan_of.Reads as plan-of-reads
+use Rattle.conclude.proofs.written.Reads as written-reads
 
--- src/respond.rt:263:9
+-- src/lib.rt:263:9
 slice-aggregate-plan-of : tie.Need-slice-aggregate-plan-of
 slice-aggregate-plan-of c = search needs
 
--- src/respond.rt:244:9
+-- src/lib.rt:244:9
 plan-of-requires : tie.Need-plan-of-requires
 plan-of-requires c κs = search needs
 
--- src/respond.rt:278:9
+-- src/lib.rt:278:9
 slice-aggregate-written : tie.Need-slice-aggregate-written
 slice-aggregate-written c = search needs
 
--- src/respond.rt:265:5
+-- src/lib.rt:265:5
 written-requires : tie.Need-written-requires
 written-requires c κs = let P = c .before .before .before .before .before .before .before .before .before .before .before .before .before .before .before .before .before .before .before .before .before .before .before .before .before .before .before .before .before .before .before .before .before .before .before .before .before .pre in
     let r = c .before .before .before .before .before .before .before .before .before .before .before .before .before .before .before .plan-of in
     (P .0, lent-again (r .last .1 .1 .1 .1 .1 .1 .1 .1 .1 .1 .1 .1 .1 .1 .0) (r .last .1 .1 .1 .1 .1 .1 .1 .1 .1 .1 .1 .1 .1 .1 .1 .0) (r .last .1 .1 .1 .1 .1 .1 .1 .1 .1 .1 .1 .1 .1 .1 .1 .1 .0) (r .last .1 .1 .1 .1 .1 .1 .1 .1 .1 .1 .1 .1 .1 .1 .1 .1 .1 .0) (search needs) (search needs) (search needs) (search needs) (P .1), search needs, r .ensures .0)
 
--- src/respond.rt:218:1
+-- src/lib.rt:218:1
 same-length : tie.Need-same-length
 same-length c = search needs
 
--- src/respond.rt:218:1
+-- src/lib.rt:218:1
 same-length-2 : tie.Need-same-length-2
 same-length-2 c = search needs
 
--- src/respond.rt:218:1
+-- src/lib.rt:218:1
 same-length-3 : tie.Need-same-length-3
 same-length-3 c = search needs
 
--- src/respond.rt:218:1
+-- src/lib.rt:218:1
 same-length-4 : tie.Need-same-length-4
 same-length-4 c = search needs
 
--- src/respond.rt:218:1
+-- src/lib.rt:218:1
 same-length-5 : tie.Need-same-length-5
 same-length-5 c = search needs
 
--- src/respond.rt:218:1
+-- src/lib.rt:218:1
 returns : tie.Need-returns
 returns c = let a = c .before .before .before .before .before .before .before .before .before .before .before .before .before .before .before .before .before .before .before .before .before .before .before .before .before .before .before .before .before .before .before .before .before .before .before .before .before .before .before .before .before .before .before .before .before .before .before .before .args in
     let r = c .before .before .before .before .before .before .before .before .before .before .before .before .before .before .before .before .before .before .before .before .before .before .before .before .before .before .plan-of in

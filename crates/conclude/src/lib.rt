@@ -1,9 +1,9 @@
 // The answer planned, its length told by a first run, and then its bytes written.
-use super::Reply;
-use super::refused;
 use plan::Plan;
 use read::compare::compare;
 use read::read::read;
+use reply::Reply;
+use reply::refused;
 use request::Asked;
 use rules::Found;
 use search::search::search;
@@ -21,8 +21,8 @@ ghost use Rattle.access.specs.World.{Numbers, World};
 ghost use Rattle.plan.specs.Lent.{Lent, Base, Numbered, Sound};
 ghost use Rattle.plan.specs.Plan.{planned};
 ghost use Rattle.request.specs.Noted.{Noted};
-ghost use Rattle.engine.specs.Reply.{Replies};
-ghost use Rattle.engine.specs.Respond.{selectionOf};
+ghost use Rattle.reply.specs.Reply.{Replies};
+ghost use Rattle.conclude.specs.Selected.{selectionOf};
 
 // The plan of the answer, by the operation.
 fn plan_of(
@@ -208,7 +208,7 @@ fn written(
 }
 
 // The answer planned and written, once the name is looked up.
-pub(crate) fn concluded(
+pub fn concluded(
     out: &mut [u8],
     w: usize,
     schema: &[u64],

@@ -1,4 +1,4 @@
-use Rattle.engine.specs.Selection.{types-start, types-done, types-broken, types-end, types-on}
+use Rattle.selection.specs.Selection.{types-start, types-done, types-broken, types-end, types-on}
 use Rattle.rules.specs.Places.{linesAt, typesOf}
 use Rattle.rules.specs.Laws.Sheet.{taken-fits}
 use denote.Ref.{now}
@@ -8,10 +8,10 @@ use mathlib.Core.List.{_++_}
 use mathlib.Core.Path.{_≡_, refl, sym, ap, _∙_}
 use Prim.Native.Nat.{ℕ, _+_, _-_, _*_, _≤_, _<_}
 use borrow.Author.Needs.{needs}
-use Rattle.engine.proofs.selection.wanted.Statement.{statement}
-use Rattle.engine.proofs.selection.wanted.Tie as tie
-use Rattle.engine.proofs.selection.wanted.Reads as reads
-use Rattle.engine.proofs.selection.wanted.Lts as lts
+use Rattle.selection.proofs.wanted.Statement.{statement}
+use Rattle.selection.proofs.wanted.Tie as tie
+use Rattle.selection.proofs.wanted.Reads as reads
+use Rattle.selection.proofs.wanted.Lts as lts
 use Rattle.sheet.proofs.line_at.Reads as line-at-reads
 
 abbrev Inv-loop : tie.InvT-loop
@@ -20,35 +20,35 @@ Inv-loop q i n w types₀ j₀ k₀ types j k = (k ≤ n) × (length types ≡ l
 abbrev μ-loop : tie.MeasureT-loop
 μ-loop q i n w types₀ j₀ k₀ types j k = n - k
 
--- src/selection.rt:15:5
+-- src/lib.rt:15:5
 loop-holds : tie.Need-loop-holds Inv-loop μ-loop
 loop-holds c = let a = c .before .before .args in (omega arith, refl, omega arith, types-start (a .w) (now (a .q)) (a .i) (a .n))
 
--- src/selection.rt:16:15
+-- src/lib.rt:16:15
 line-at-requires : tie.Need-line-at-requires Inv-loop μ-loop
 line-at-requires c κs = search needs
 
--- src/selection.rt:19:17
+-- src/lib.rt:19:17
 enum-known-a : tie.Need-enum-known-a Inv-loop μ-loop
 enum-known-a c = search needs
 
--- src/selection.rt:24:17
+-- src/lib.rt:24:17
 mul-types : tie.Need-mul-types Inv-loop μ-loop
 mul-types c = search needs
 
--- src/selection.rt:24:17
+-- src/lib.rt:24:17
 slice-write-types : tie.Need-slice-write-types Inv-loop μ-loop
 slice-write-types c = search needs
 
--- src/selection.rt:25:22
+-- src/lib.rt:25:22
 mul-j : tie.Need-mul-j Inv-loop μ-loop
 mul-j c = search needs
 
--- src/selection.rt:25:22
+-- src/lib.rt:25:22
 add-j : tie.Need-add-j Inv-loop μ-loop
 add-j c = search needs
 
--- src/selection.rt:25:22
+-- src/lib.rt:25:22
 add-j-2 : tie.Need-add-j-2 Inv-loop μ-loop
 add-j-2 c = let a = c .before .before .before .before .before .before .before .before .args in
     let L = c .before .before .before .before .before .loop in
@@ -56,7 +56,7 @@ add-j-2 c = let a = c .before .before .before .before .before .before .before .b
     let h = taken-fits (a .w) (now (a .q)) (L .j) e in
     omega (arith, h .0, h .1, L .inv .2)
 
--- src/selection.rt:25:17
+-- src/lib.rt:25:17
 add-j-3 : tie.Need-add-j-3 Inv-loop μ-loop
 add-j-3 c = let a = c .before .before .before .before .before .before .before .before .args in
     let L = c .before .before .before .before .before .loop in
@@ -64,15 +64,15 @@ add-j-3 c = let a = c .before .before .before .before .before .before .before .b
     let h = taken-fits (a .w) (now (a .q)) (L .j) e in
     omega (arith, h .0, h .1, L .inv .2)
 
--- src/selection.rt:26:17
+-- src/lib.rt:26:17
 add-k : tie.Need-add-k Inv-loop μ-loop
 add-k c = search needs
 
--- src/selection.rt:15:5
+-- src/lib.rt:15:5
 loop-less : tie.Need-loop-less Inv-loop μ-loop
 loop-less c = search needs
 
--- src/selection.rt:15:5
+-- src/lib.rt:15:5
 loop-again : tie.Need-loop-again Inv-loop μ-loop
 loop-again c = let a = c .before .before .before .before .before .before .before .before .args in
     let L = c .before .before .before .before .before .loop in
@@ -84,39 +84,39 @@ loop-again c = let a = c .before .before .before .before .before .before .before
       types-on (a .w) (now (a .q)) (L .j) (L .types) (L .k) (typesOf (a .n) (linesAt (a .w) (now (a .q)) (a .i))) (a .n - L .k) (a .n - (L .k + 1)) (omega (arith, c .before .before .before .before .loop-test .taken)) (omega arith) (omega (arith, c .before .before .before .before .loop-test .taken, c .before .before .before .before .before .before .before .before .pre .1, L .inv .1)) e (L .inv .3),
     )
 
--- src/selection.rt:29:17
+-- src/lib.rt:29:17
 enum-told : tie.Need-enum-told Inv-loop μ-loop
 enum-told c = search needs
 
--- src/selection.rt:29:17
+-- src/lib.rt:29:17
 same-length : tie.Need-same-length Inv-loop μ-loop
 same-length c = search needs
 
--- src/selection.rt:29:17
+-- src/lib.rt:29:17
 returns : tie.Need-returns Inv-loop μ-loop
 returns c = let a = c .before .before .before .before .before .before .before .args in
     let L = c .before .before .before .before .loop in
     (omega (arith, L .inv .0), types-broken (a .w) (now (a .q)) (L .j) (L .types) (L .k) (typesOf (a .n) (linesAt (a .w) (now (a .q)) (a .i))) (a .n - L .k) (omega (arith, c .before .before .before .loop-test .taken)) (sym (c .before .before .line-at .ensures) ∙ c .enum-told .given .1) (L .inv .3))
 
--- src/selection.rt:32:17
+-- src/lib.rt:32:17
 enum-told-2 : tie.Need-enum-told-2 Inv-loop μ-loop
 enum-told-2 c = search needs
 
--- src/selection.rt:32:17
+-- src/lib.rt:32:17
 same-length-2 : tie.Need-same-length-2 Inv-loop μ-loop
 same-length-2 c = search needs
 
--- src/selection.rt:32:17
+-- src/lib.rt:32:17
 returns-2 : tie.Need-returns-2 Inv-loop μ-loop
 returns-2 c = let a = c .before .before .before .before .before .before .before .args in
     let L = c .before .before .before .before .loop in
     (omega (arith, L .inv .0), types-end (a .w) (now (a .q)) (L .j) (L .types) (L .k) (typesOf (a .n) (linesAt (a .w) (now (a .q)) (a .i))) (a .n - L .k) (omega (arith, c .before .before .before .loop-test .taken)) (sym (c .before .before .line-at .ensures) ∙ c .enum-told2 .given .1) (L .inv .3))
 
--- src/selection.rt:9:1
+-- src/lib.rt:9:1
 same-length-3 : tie.Need-same-length-3 Inv-loop μ-loop
 same-length-3 c = search needs
 
--- src/selection.rt:9:1
+-- src/lib.rt:9:1
 returns-3 : tie.Need-returns-3 Inv-loop μ-loop
 returns-3 c = let a = c .before .before .before .before .args in
     let L = c .before .loop in
