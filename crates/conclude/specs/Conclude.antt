@@ -9,15 +9,10 @@ use lib.ListN.{length}
 use borrow.Author.Tests.{lt-ltb, le-ltb}
 use Rattle.rules.specs.Sheet.{Bytes, Line, print}
 use Rattle.rules.specs.Serve.{fitting}
-use Rattle.plan.specs.Lent.{Numbered, Sound}
-use Rattle.rules.specs.declared.Found.{Found}
-use Rattle.plan.specs.declared.Plan.{Plan}
 use Rattle.answer.specs.Emit.{Emits}
 use Rattle.answer.specs.Laws.{emit-all, put-front}
 use Rattle.reply.specs.declared.Reply.{Reply}
 use Rattle.reply.specs.Reply.{replyOf, leftOf, Replies}
-
--- ---- the length first, then 31 or the bytes
 
 module _ (w : ℕ) (ls : List Line) (out : Bytes) where
   -- the answer does not fit
@@ -62,11 +57,3 @@ module _ (w : ℕ) (ls : List Line) (out x : Bytes) (none : length x ≡ 0) (e y
 -- the same lines by other words
 pub replies-lines : {ls ls′ : List Line} (w room : ℕ) (before after : Bytes) (r : Reply) → ls ≡ ls′ → Replies (fitting room (print w ls)) before r after → Replies (fitting room (print w ls′)) before r after
 replies-lines w room before after r e k = subst (λ (l : List Line). Replies (fitting room (print w l)) before r after) e k
-
--- ---- a bound by other words
-
-pub numbered-by : {m n : ℕ} (base : Found) (missing : ℕ) → m ≡ n → Numbered n base missing → Numbered m base missing
-numbered-by base missing e k = subst (λ (c : ℕ). Numbered c base missing) (sym e) k
-
-pub sound-by : {m n : ℕ} (r : Plan) (hits : List ℕ) → m ≡ n → Sound m r hits → Sound n r hits
-sound-by r hits e k = subst (λ (c : ℕ). Sound c r hits) e k

@@ -1,3 +1,1 @@
-pub mod Selected
-pub mod Operations
 pub mod Conclude

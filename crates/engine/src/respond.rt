@@ -22,7 +22,7 @@ ghost use Rattle.access.specs.World.{Numbers, World};
 ghost use Rattle.plan.specs.Lent.{Lent};
 ghost use Rattle.request.specs.Noted.{Noted};
 ghost use Rattle.reply.specs.Reply.{Replies};
-ghost use Rattle.conclude.specs.Selected.{selectionOf};
+ghost use Rattle.operation.specs.Selected.{selectionOf};
 ghost use Rattle.engine.specs.Judges.{DirectoryAt};
 
 // The answer, once each item's reach is known: the entry that is named, and the matched name.

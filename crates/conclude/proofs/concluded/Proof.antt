@@ -11,14 +11,14 @@ use Rattle.rules.specs.Answer.{answer}
 use Rattle.rules.specs.Serve.{settingOf}
 use Rattle.plan.specs.Lent.{Lent, lent-again}
 use Rattle.plan.specs.Plan.{planned}
-use Rattle.conclude.specs.Selected.{selectionOf, selection-noted}
+use Rattle.operation.specs.Selected.{selectionOf, selection-noted}
 use Rattle.conclude.specs.Conclude.{replies-lines}
 use borrow.Author.Needs.{needs}
 use Rattle.conclude.proofs.concluded.Statement.{statement}
 use Rattle.conclude.proofs.concluded.Tie as tie
 use Rattle.conclude.proofs.concluded.Reads as reads
 use Rattle.conclude.proofs.concluded.Lts as lts
-use Rattle.conclude.proofs.plan_of.Reads as plan-of-reads
+use Rattle.operation.proofs.plan_of.Reads as plan-of-reads
 use Rattle.conclude.proofs.written.Reads as written-reads
 
 -- src/lib.rt:263:9

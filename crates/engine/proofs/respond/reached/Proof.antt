@@ -11,7 +11,7 @@ use Rattle.rules.specs.Answer.{answer}
 use Rattle.rules.specs.Serve.{settingOf}
 use Rattle.plan.specs.Lent.{Lent, lent-again}
 use Rattle.plan.specs.Plan.{planned}
-use Rattle.conclude.specs.Selected.{selection-noted}
+use Rattle.operation.specs.Selected.{selection-noted}
 use Rattle.engine.specs.Respond.{lent-of, front-types}
 use borrow.Author.Needs.{needs}
 use Rattle.engine.proofs.respond.reached.Statement.{statement}

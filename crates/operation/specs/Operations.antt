@@ -10,7 +10,7 @@ use Rattle.rules.specs.Request.{Selection, Search, Operation, read, compare, li
 use Rattle.rules.specs.Places.{linesAt}
 use Rattle.request.specs.Noted.{NotedOperation}
 use Rattle.request.specs.declared.Asked.{Asked}
-use Rattle.conclude.specs.Selected.{selectionOf}
+use Rattle.operation.specs.Selected.{selectionOf}
 
 -- what holds of every operation that may stand in the request holds of the one that does
 module _ (w : ℕ) (q : Bytes) (a : Asked) (P : Operation → Type 0) where

@@ -11,14 +11,14 @@ use Rattle.rules.specs.Answer.{answer}
 use Rattle.rules.specs.Serve.{settingOf}
 use Rattle.plan.specs.Lent.{Lent, lent-again}
 use Rattle.plan.specs.Plan.{planned}
-use Rattle.conclude.specs.Selected.{selectionOf, nothingSelected}
-use Rattle.conclude.specs.Conclude.{numbered-by, sound-by}
-use Rattle.conclude.specs.Operations.{by-read, by-compare, by-list, by-search, value-within}
+use Rattle.operation.specs.Selected.{selectionOf, nothingSelected}
+use Rattle.operation.specs.Bounds.{numbered-by, sound-by}
+use Rattle.operation.specs.Operations.{by-read, by-compare, by-list, by-search, value-within}
 use borrow.Author.Needs.{needs}
-use Rattle.conclude.proofs.plan_of.Statement.{statement}
-use Rattle.conclude.proofs.plan_of.Tie as tie
-use Rattle.conclude.proofs.plan_of.Reads as reads
-use Rattle.conclude.proofs.plan_of.Lts as lts
+use Rattle.operation.proofs.plan_of.Statement.{statement}
+use Rattle.operation.proofs.plan_of.Tie as tie
+use Rattle.operation.proofs.plan_of.Reads as reads
+use Rattle.operation.proofs.plan_of.Lts as lts
 use Rattle.read.proofs.compare.compare.Reads as compare-reads
 use Rattle.search.proofs.list.list.Reads as list-reads
 use Rattle.read.proofs.read.read.Reads as read-reads

@@ -1,0 +1,3 @@
+pub mod Selected
+pub mod Operations
+pub mod Bounds
