@@ -14,7 +14,7 @@ use Rattle.access.specs.Reach.{Selected, parents-of}
 
 -- the entries' numbers, whatever entries they stand for: every position lies within the sheet, every parent before its child
 pub record Numbers (w : ℕ) (d : Bytes) (at parents naming lengths : List ℕ) : Type 0 where
-  pub narrow : 1 ≤ w
+  pub narrow : 6 ≤ w
   pub wide : w ≤ 18
   pub small : length d ≤ 65536
   pub few : length at ≤ 256

@@ -1,4 +1,3 @@
 pub mod Emit
 pub mod Laws
 pub mod Names
-pub mod Information

@@ -23,5 +23,5 @@ pub fn emit(
     if out.len() < end {
         return end;
     }
-    sheet::write::put_line(out, at, w, kind, a, b, c, bytes)
+    write::put_line(out, at, w, kind, a, b, c, bytes)
 }

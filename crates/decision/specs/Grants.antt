@@ -46,15 +46,24 @@ grantedBy best = eqb (best % 2) 0
 unfoldable pub permits : ℕ → ℕ → Bool
 permits m q = eqb (m / q % 2) 1
 
-unfoldable pub entryAsked : List ℕ → ℕ → ℕ → Bool
-entryAsked rights q at = eqb (getD rights (at + 3) 0) 0 && permits (getD rights (at + 5) 0) q
+-- the row is about `what` and has the permission
+unfoldable pub askedOf : ℕ → List ℕ → ℕ → ℕ → Bool
+askedOf what rights q at = eqb (getD rights (at + 3) 0) what && permits (getD rights (at + 5) 0) q
+
+-- .. and it is about the type `t`
+unfoldable pub askedOfType : ℕ → List ℕ → ℕ → ℕ → ℕ → Bool
+askedOfType what rights t q at = (eqb (getD rights (at + 3) 0) what && eqb (getD rights (at + 4) 0) t) && permits (getD rights (at + 5) 0) q
+
+-- "an entry: 0"
+abbrev pub entryAsked : List ℕ → ℕ → ℕ → Bool
+entryAsked rights q = askedOf 0 rights q
 
 -- "a type: 1, 2, 3": the first two are about all types
 unfoldable pub generalAsked : List ℕ → ℕ → ℕ → Bool
 generalAsked rights q at = (eqb (getD rights (at + 3) 0) 1 || eqb (getD rights (at + 3) 0) 2) && permits (getD rights (at + 5) 0) q
 
-unfoldable pub specificAsked : List ℕ → ℕ → ℕ → ℕ → Bool
-specificAsked rights t q at = (eqb (getD rights (at + 3) 0) 3 && eqb (getD rights (at + 4) 0) t) && permits (getD rights (at + 5) 0) q
+abbrev pub specificAsked : List ℕ → ℕ → ℕ → ℕ → Bool
+specificAsked rights t q = askedOfType 3 rights t q
 
 -- "a value: 2, 4, 5", the bytes left out
 unfoldable pub valueCovered : ℕ → ℕ → ℕ → Bool
@@ -160,7 +169,7 @@ module _ (rights : List ℕ) where
         go false true s = pass-max one b s ks
         go false false s = refl
 
-    pass-either : (b : ℕ) (ks : List ℕ) → passBy two rights (passBy one rights b ks) ks ≡ passBy either rights b ks
+    pub pass-either : (b : ℕ) (ks : List ℕ) → passBy two rights (passBy one rights b ks) ks ≡ passBy either rights b ks
     unfolding passBy
     pass-either b [] = refl
     pass-either b (k ∷ ks) =
@@ -289,13 +298,13 @@ module _ (σ : Setting) (x : Thing) (q w : ℕ) (p : Bytes) (rights scopes : Lis
 module _ (σ : Setting) (q w : ℕ) (p : Bytes) (rights scopes : List ℕ) (rows : Rows w p (σ .items) rights scopes) where
   module _ (k : ℕ) (l : k < length (σ .items)) where
     entry-asked : entryAsked rights q (k * 8) ≡ answers σ entry q (getD (σ .items) k blank)
-    unfolding entryAsked permits answers whatCovers names
+    unfolding askedOf permits answers whatCovers names
     entry-asked =
         let R = rows .row k l in
         ap₂ _&&_ (ap (λ (m : ℕ). eqb m 0) (R .what)) (ap (λ (m : ℕ). eqb (m / q % 2) 1) (R .permissions))
 
     type-asked : (t : ℕ) → (generalAsked rights q (k * 8) || specificAsked rights t q (k * 8)) ≡ answers σ (ofType t) q (getD (σ .items) k blank)
-    unfolding generalAsked specificAsked permits answers whatCovers names
+    unfolding generalAsked askedOfType permits answers whatCovers names
     type-asked t =
         let R = rows .row k l in
         regroup (eqb (getD rights (k * 8 + 3) 0) 1) (eqb (getD rights (k * 8 + 3) 0) 2) (eqb (getD rights (k * 8 + 3) 0) 3 && eqb (getD rights (k * 8 + 4) 0) t) (eqb (getD rights (k * 8 + 5) 0 / q % 2) 1)
@@ -310,7 +319,7 @@ module _ (σ : Setting) (q w : ℕ) (p : Bytes) (rights scopes : List ℕ) (rows
         regroup false true false false = refl
         regroup false false c m = refl
 
-    value-asked : (t : ℕ) (v : Bytes) → valueAsked (σ .schema) w p rights t v (digest 0 v) q (k * 8) ≡ answers σ (ofValue t v) q (getD (σ .items) k blank)
+    pub value-asked : (t : ℕ) (v : Bytes) → valueAsked (σ .schema) w p rights t v (digest 0 v) q (k * 8) ≡ answers σ (ofValue t v) q (getD (σ .items) k blank)
     unfolding valueAsked valueCovered permits answers whatCovers names
     value-asked t v =
         let R = rows .row k l in

@@ -1,4 +1,3 @@
 pub mod Chosen
 pub mod Digests
 pub mod Grants
-pub mod Scores

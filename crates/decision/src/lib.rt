@@ -1,8 +1,6 @@
 // The decision about one thing of an entry. The greatest score among the items that concern the entry and answer the question decides, found in one
 // pass over their rows of rights, from the last: an item that scores less than one seen is not looked at, and exceptions mostly stand last. Bytes are compared last, and only for an item
 // about one value with the same digest.
-pub mod types;
-
 use name::equal_at;
 use permissions::DIGEST;
 use permissions::LENGTH;
@@ -20,13 +18,16 @@ ghost use Rattle.rules.specs.Name.{Name};
 ghost use Rattle.rules.specs.Decision.{Setting, entry, ofType, ofValue, granted};
 ghost use Rattle.rules.specs.Places.{schemaOf};
 ghost use Rattle.decision.specs.Chosen.{Rows, Chosen};
-ghost use Rattle.decision.specs.Grants.{afterBy, passBy, permits, entryAsked, generalAsked, specificAsked, valueCovered, valueAsked};
+ghost use Rattle.decision.specs.Grants.{afterBy, passBy, permits, askedOf, generalAsked, specificAsked, valueCovered, valueAsked};
 
 // The greatest score where no item answers. An even score grants.
 const NO_ITEM: u64 = 1;
 
+// What an item is about: the entry.
+const ENTRY: u64 = 0;
+
 // Does the sum of permissions have the permission `q` in it? Read and FilterMatch, which are asked most, take no division.
-pub(crate) fn permitted(sum: u64, q: u64) -> bool
+pub fn permitted(sum: u64, q: u64) -> bool
     requires { ⌜ 1 ≤ q ⌝ }
     ensures { λ r. ⌜ r ≡ permits sum q ⌝ }
 {
@@ -39,12 +40,12 @@ pub(crate) fn permitted(sum: u64, q: u64) -> bool
     sum / q % 2 == 1
 }
 
-// Does the row at `at` answer a question about the entry?
-fn entry_asked(rights: &[u64], q: u64, at: usize) -> bool
+// Is the row at `at` about `what`, with the permission?
+pub fn asked_of(rights: &[u64], what: u64, q: u64, at: usize) -> bool
     requires { ⌜ (1 ≤ q) × (at + 8 ≤ length (now rights)) ⌝ }
-    ensures { λ r. ⌜ r ≡ entryAsked (now (rights .entry)) q at ⌝ }
+    ensures { λ r. ⌜ r ≡ askedOf what (now (rights .entry)) q at ⌝ }
 {
-    if rights[at + WHAT] != 0 {
+    if rights[at + WHAT] != what {
         return false;
     }
     permitted(rights[at + PERMISSIONS], q)
@@ -128,10 +129,10 @@ fn value_asked(
     false
 }
 
-// The greatest score with item number `k`, asked about the entry.
-fn after_entry(rights: &[u64], q: u64, k: usize, best: u64) -> u64
+// The greatest score with item number `k`, if it is about `what`.
+fn after_of(rights: &[u64], what: u64, q: u64, k: usize, best: u64) -> u64
     requires { ⌜ 1 ≤ q ⌝ }
-    ensures { λ r. ⌜ r ≡ afterBy (entryAsked (now (rights .entry)) q) (now (rights .entry)) k best ⌝ }
+    ensures { λ r. ⌜ r ≡ afterBy (askedOf what (now (rights .entry)) q) (now (rights .entry)) k best ⌝ }
 {
     if rights.len() / RIGHTS <= k {
         return best;
@@ -141,7 +142,7 @@ fn after_entry(rights: &[u64], q: u64, k: usize, best: u64) -> u64
     if score <= best {
         return best;
     }
-    if entry_asked(rights, q, at) {
+    if asked_of(rights, what, q, at) {
         return score;
     }
     best
@@ -215,18 +216,26 @@ fn after_value(
     best
 }
 
-// Is the permission `q` granted on the entry that the items of `list` concern?
-pub fn granted_entry(rights: &[u64], list: &[usize], q: u64) -> bool
+// The greatest score of the items of `list` about `what`.
+pub fn score_of(rights: &[u64], list: &[usize], what: u64, q: u64) -> u64
     requires { ⌜ 1 ≤ q ⌝ }
-    ensures { λ r. ⌜ ((σ : Setting) (n : Name) (w : ℕ) (p : Bytes) (scopes : List ℕ) → Rows w p (σ .items) (now (rights .entry)) scopes → Chosen σ n (now (list .entry)) → r ≡ granted σ n entry q) ⌝ }
+    ensures { λ r. ⌜ r ≡ passBy (askedOf what (now (rights .entry)) q) (now (rights .entry)) 1 (now (list .entry)) ⌝ }
 {
     let mut best = NO_ITEM;
     let mut j = list.len();
     while 0 < j {
         j -= 1;
-        best = after_entry(rights, q, list[j], best);
+        best = after_of(rights, what, q, list[j], best);
     }
-    best % 2 == 0
+    best
+}
+
+// Is the permission `q` granted on the entry that the items of `list` concern?
+pub fn granted_entry(rights: &[u64], list: &[usize], q: u64) -> bool
+    requires { ⌜ 1 ≤ q ⌝ }
+    ensures { λ r. ⌜ ((σ : Setting) (n : Name) (w : ℕ) (p : Bytes) (scopes : List ℕ) → Rows w p (σ .items) (now (rights .entry)) scopes → Chosen σ n (now (list .entry)) → r ≡ granted σ n entry q) ⌝ }
+{
+    score_of(rights, list, ENTRY, q) % 2 == 0
 }
 
 // The greatest score of the items about all types of that entry.

@@ -27,7 +27,7 @@ use Rattle.directory.specs.Lines.{judgedFrom, lineHere, taken-wide, judg
 use Rattle.directory.specs.Mark.{Mark, mark, Within, bucketAt, bucket-bound, lastIn}
 use Rattle.directory.specs.Schema.{Rising}
 use Rattle.directory.specs.Types.{typed, TypesStopped}
-use Rattle.directory.specs.Twins.{keyOf, any-snoc, Named, named-start, named-entry, valued-none}
+use Rattle.directory.specs.Twins.{keyOf, key-bound, any-snoc, Named, named-start, named-entry, valued-none}
 use Rattle.directory.specs.Rulings.{Ready, ready-more, reading, filled, Refused, Elsewhere, Counted, EntryTaken, EntryOutcome, entryRuling, entry-outcome}
 use Rattle.directory.specs.Values.{after, Begun, ValuesStopped, ValuesJudged}
 use Rattle.directory.specs.declared.Notes.{Notes}
@@ -190,7 +190,7 @@ module _ {w : ℕ} {s : Bytes} {ks : List ℕ} {notes : Notes} {depths marks hea
         let low : a ≤ 256 = omega (arith, t .parent, t .room) in
         let number : notes .count + 1 ≡ length (es ++ (d ∷ [])) = ap (λ (q : ℕ). q + 1) (st .counted .number) ∙ sym (length-append es (d ∷ [])) in
         record {
-          ready = ready-more (st .ready) m (record { size = h .0; line = h .1 }) n (r .bucket) (r .mark) (st .marked) (ap (λ (y : Ruling). y .bucket) (t .ruling)) (ap (λ (y : Ruling). y .mark) (t .ruling)) (omega (arith, st .space, h, st .ready .sheet));
+          ready = ready-more (st .ready) m (record { key = key-bound ks a b few (omega arith); size = h .0; line = h .1 }) n (r .bucket) (r .mark) (st .marked) (ap (λ (y : Ruling). y .bucket) (t .ruling)) (ap (λ (y : Ruling). y .mark) (t .ruling)) (omega (arith, st .space, h, st .ready .sheet));
           count = omega (arith, st .marked);
           number = number;
           most = omega (arith, t .room);

@@ -20,8 +20,8 @@ use Rattle.rules.specs.declared.Column.{Column}
 use Rattle.rules.specs.declared.Column.the-variants.{Number, Malformed}
 use Rattle.rules.specs.declared.Front.{Front}
 use Rattle.rules.specs.declared.Front.the-variants.{Taken, NotInForm, End}
-use Rattle.sheet.specs.Columns.{fits, inFormOf}
-use Rattle.sheet.specs.Laws.Columns.{taken-in-form}
+use Rattle.form.specs.Columns.{fits, inFormOf}
+use Rattle.form.specs.Laws.Columns.{taken-in-form}
 
 -- the rest of the sheet from position `i` on, judged with what was read before
 abbrev pub judgedFrom : ℕ → Bytes → Reading → ℕ → Verdict Directory

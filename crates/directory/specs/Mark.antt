@@ -13,7 +13,7 @@ use borrow.Author.Tests.{eq-eqb, ne-eqb, eqb-true}
 use Rattle.rules.specs.Lists.{any}
 use Rattle.rules.specs.Sheet.{Bytes, valueOf}
 use Rattle.rules.specs.Value.{same}
-use Rattle.rules.specs.Laws.Tests.{and-left, and-right, contra}
+use Rattle.rules.specs.Laws.Tests.{and-left, and-right, both, bool-ext, contra}
 use Rattle.value.specs.Digest.{digest, digest-same}
 
 -- the owner and type of a value as one number, and the position and length of its line
@@ -28,7 +28,7 @@ mark key place size = record { key = key; place = place; size = size }
 abbrev pub bytesOf : ℕ → Bytes → Mark → Bytes
 bytesOf w s m = valueOf w (m .size) (drop (m .place) s)
 
--- ---- buckets
+-- ---- buckets and labels
 
 -- the bucket of a value under a key
 abbrev pub bucketAt : ℕ → Bytes → ℕ
@@ -40,29 +40,44 @@ bucketOf w s m = bucketAt (m .key) (bytesOf w s m)
 pub bucket-bound : (key : ℕ) (v : Bytes) → bucketAt key v < 2048
 bucket-bound key v = omega arith
 
--- equal values have one bucket
-bucket-same : (key s : ℕ) (u v : Bytes) → same s u v ≡ true → bucketAt key u ≡ bucketAt key v
-bucket-same key s u v e = ap (λ (d : ℕ). d % 2048) (digest-same key s u v e)
+-- the key with a tag above it, 11 further bits of the digest
+abbrev pub labelAt : ℕ → Bytes → ℕ
+labelAt key v = digest key v / 2048 % 2048 * 65536 + key
 
--- ---- a mark as a number
+abbrev pub labelOf : ℕ → Bytes → Mark → ℕ
+labelOf w s m = labelAt (m .key) (bytesOf w s m)
 
-unfoldable pub packed : Mark → ℕ → ℕ
-packed m head = ((m .key * 65536 + m .place) * 128 + m .size) * 16384 + head
+-- equal values have one bucket, and one label
+module _ (key s : ℕ) (u v : Bytes) (e : same s u v ≡ true) where
+  bucket-same : bucketAt key u ≡ bucketAt key v
+  bucket-same = ap (λ (d : ℕ). d % 2048) (digest-same key s u v e)
 
-module _ (m : Mark) (head : ℕ) (hp : m .place < 65536) (hs : m .size < 128) (hh : head < 16384) where
-  pub packed-key : packed m head / 137438953472 ≡ m .key
+  label-same : labelAt key u ≡ labelAt key v
+  label-same = ap (λ (d : ℕ). d / 2048 % 2048 * 65536 + key) (digest-same key s u v e)
+
+-- a label tells its key
+label-key : (j k : ℕ) (u v : Bytes) → j < 65536 → k < 65536 → labelAt j u ≡ labelAt k v → j ≡ k
+label-key j k u v p q e = omega arith
+
+-- ---- a mark as a number, with its label and the number of the mark before it in its bucket
+
+unfoldable pub packed : ℕ → Mark → ℕ → ℕ
+packed label m head = ((label * 65536 + m .place) * 128 + m .size) * 16384 + head
+
+module _ (label : ℕ) (m : Mark) (head : ℕ) (hp : m .place < 65536) (hs : m .size < 128) (hh : head < 16384) where
+  pub packed-label : packed label m head / 137438953472 ≡ label
   unfolding packed
-  packed-key = omega arith
+  packed-label = omega arith
 
-  pub packed-place : packed m head / 2097152 % 65536 ≡ m .place
+  pub packed-place : packed label m head / 2097152 % 65536 ≡ m .place
   unfolding packed
   packed-place = omega arith
 
-  pub packed-size : packed m head / 16384 % 128 ≡ m .size
+  pub packed-size : packed label m head / 16384 % 128 ≡ m .size
   unfolding packed
   packed-size = omega arith
 
-  pub packed-head : packed m head % 16384 ≡ head
+  pub packed-head : packed label m head % 16384 ≡ head
   unfolding packed
   packed-head = omega arith
 
@@ -73,15 +88,16 @@ unfoldable pub lastIn : ℕ → Bytes → ℕ → List Mark → ℕ
 lastIn w s b [] = 0
 lastIn w s b (m ∷ ms) = cond (eqb (bucketOf w s m) b) (suc (length ms)) (lastIn w s b ms)
 
--- a mark's line lies within the sheet
+-- a mark's key has 16 bits, and its line lies within the sheet
 pub record Within (w : ℕ) (s : Bytes) (m : Mark) : Type 0 where
+  pub key : m .key < 65536
   pub size : m .size ≤ 64
   pub line : m .place + (5 * w + 1 + m .size) ≤ length s
 
 -- the numbers `marks` are the marks `ms`, each with the number of the mark before it in its bucket
 abbrev pub Chained : ℕ → Bytes → List ℕ → List Mark → Type 0
 Chained w s marks [] = Unit {0}
-Chained w s marks (m ∷ ms) = (getD marks (length ms) 0 ≡ packed m (lastIn w s (bucketOf w s m) ms)) × Within w s m × Chained w s marks ms
+Chained w s marks (m ∷ ms) = (getD marks (length ms) 0 ≡ packed (labelOf w s m) m (lastIn w s (bucketOf w s m) ms)) × Within w s m × Chained w s marks ms
 
 -- the first `n` numbers are marks, and `heads` has the newest of each bucket
 pub record Chain (w : ℕ) (s : Bytes) (marks heads : List ℕ) (n : ℕ) (ms : List Mark) : Type 0 where
@@ -118,15 +134,15 @@ module _ {w : ℕ} {s : Bytes} {marks heads : List ℕ} {n : ℕ} {ms : List Mar
           rw (e, eq-eqb (bucketOf w s m) (bucketOf w s m) refl, getD-set-same heads (bucketOf w s m) (n + 1) 0 k) (omega (arith, c .count))
       go (no e) = rw (ne-eqb (bucketOf w s m) b′ (λ q. e (sym q)), getD-set-other heads (bucketOf w s m) b′ (n + 1) 0 e) (c .newest b′ l)
 
-  pub chain-more : Chain w s (set marks n (packed m (getD heads (bucketOf w s m) 0))) (set heads (bucketOf w s m) (n + 1)) (suc n) (m ∷ ms)
+  pub chain-more : Chain w s (set marks n (packed (labelOf w s m) m (getD heads (bucketOf w s m) 0))) (set heads (bucketOf w s m) (n + 1)) (suc n) (m ∷ ms)
   chain-more = record {
     count = omega (arith, c .count);
     marked = simp length-set (c .marked);
     buckets = simp length-set (c .buckets);
     chained = (
-      ap (λ (k : ℕ). getD (set marks n (packed m (getD heads (bucketOf w s m) 0))) k 0) (c .count)
+      ap (λ (k : ℕ). getD (set marks n (packed (labelOf w s m) m (getD heads (bucketOf w s m) 0))) k 0) (c .count)
           ∙ getD-set-same marks n _ 0 (omega (arith, c .marked))
-          ∙ ap (packed m) (c .newest (bucketOf w s m) (bucket-bound (m .key) (bytesOf w s m))),
+          ∙ ap (packed (labelOf w s m) m) (c .newest (bucketOf w s m) (bucket-bound (m .key) (bytesOf w s m))),
       within,
       chained-set w s marks n _ ms (omega (arith, c .count)) (c .chained),
     );
@@ -138,6 +154,24 @@ module _ {w : ℕ} {s : Bytes} {marks heads : List ℕ} {n : ℕ} {ms : List Mar
 -- the mark has this key and an equal value
 abbrev pub twin : ℕ → Bytes → ℕ → ℕ → Bytes → Mark → Bool
 twin w s syntax key v m = eqb (m .key) key && same syntax (bytesOf w s m) v
+
+-- the same by the label instead of the key
+twin-label : (w : ℕ) (s : Bytes) (syntax key : ℕ) (v : Bytes) (m : Mark) → m .key < 65536 → key < 65536
+    → (eqb (labelOf w s m) (labelAt key v) && same syntax (bytesOf w s m) v) ≡ twin w s syntax key v m
+twin-label w s syntax key v m p q = bool-ext _ _ there back
+  where
+    there : (eqb (labelOf w s m) (labelAt key v) && same syntax (bytesOf w s m) v) ≡ true → twin w s syntax key v m ≡ true
+    there e =
+        both (eqb (m .key) key) _
+        (eq-eqb (m .key) key (label-key (m .key) key (bytesOf w s m) v p q (eqb-true (labelOf w s m) (labelAt key v) (and-left (eqb (labelOf w s m) (labelAt key v)) _ e))))
+        (and-right (eqb (labelOf w s m) (labelAt key v)) _ e)
+
+    back : twin w s syntax key v m ≡ true → (eqb (labelOf w s m) (labelAt key v) && same syntax (bytesOf w s m) v) ≡ true
+    back e =
+        let alike = and-right (eqb (m .key) key) _ e in
+        both (eqb (labelOf w s m) (labelAt key v)) _
+        (eq-eqb (labelOf w s m) (labelAt key v) (ap (λ (k : ℕ). labelAt k (bytesOf w s m)) (eqb-true (m .key) key (and-left (eqb (m .key) key) _ e)) ∙ label-same key syntax (bytesOf w s m) v alike))
+        alike
 
 twin-bucket : (w : ℕ) (s : Bytes) (syntax key : ℕ) (v : Bytes) (m : Mark) → twin w s syntax key v m ≡ true → bucketOf w s m ≡ bucketAt key v
 twin-bucket w s syntax key v m e =
@@ -173,24 +207,26 @@ module _ (w : ℕ) (s : Bytes) (marks : List ℕ) (syntax key : ℕ) (v : Bytes)
           let off : twin w s syntax key v m ≡ false = contra _ (eqb (bucketOf w s m) (bucketAt key v)) (λ q. eq-eqb _ _ (twin-bucket w s syntax key v m q)) e in
           (r .0, record { count = l .count; most = omega (arith, l .most); chained = l .chained; top = l .top; twins = l .twins ∙ ap (λ (b : Bool). b || any (twin w s syntax key v) ms) (sym off) })
 
--- the mark of number `x` has this key and an equal value
+-- the mark of number `x` has this label and an equal value
 abbrev pub bears : ℕ → Bytes → ℕ → ℕ → Bytes → ℕ → Bool
-bears w s syntax key v x = eqb (x / 137438953472) key && same syntax (valueOf w (x / 16384 % 128) (drop (x / 2097152 % 65536) s)) v
+bears w s syntax label v x = eqb (x / 137438953472) label && same syntax (valueOf w (x / 16384 % 128) (drop (x / 2097152 % 65536) s)) v
 
--- a walk through the bucket of `v`, from its newest mark
-pub record Walk (w : ℕ) (s : Bytes) (marks : List ℕ) (head bucket : ℕ) (all : List Mark) : Type 0 where
+-- a walk through the bucket of `v` under `key`, from its newest mark
+pub record Walk (w : ℕ) (s : Bytes) (marks : List ℕ) (head label key : ℕ) (v : Bytes) (all : List Mark) : Type 0 where
   pub chained : Chained w s marks all
-  pub newest : head ≡ lastIn w s bucket all
+  pub newest : head ≡ lastIn w s (bucketAt key v) all
+  pub labelled : label ≡ labelAt key v
+  pub small : key < 65536
   pub most : length all < 10923
   pub room : length all ≤ length marks
   pub sheet : length s ≤ 65536
 
-abbrev pub Walkable : ℕ → Bytes → List ℕ → ℕ → ℕ → Type 0
-Walkable w s marks head bucket = (all : List Mark) × Walk w s marks head bucket all
+abbrev pub Walkable : ℕ → Bytes → List ℕ → ℕ → ℕ → Bytes → Type 0
+Walkable w s marks head label v = (key : ℕ) × (all : List Mark) × Walk w s marks head label key v all
 
--- whether one of the marks has this key and an equal value
+-- whether one of the marks has the label's key and an equal value
 abbrev pub Answers : ℕ → Bytes → List ℕ → ℕ → ℕ → ℕ → Bytes → Bool → Type 0
-Answers w s marks head syntax key v found = (all : List Mark) → Walk w s marks head (bucketAt key v) all → found ≡ any (twin w s syntax key v) all
+Answers w s marks head label syntax v found = (key : ℕ) (all : List Mark) → Walk w s marks head label key v all → found ≡ any (twin w s syntax key v) all
 
 -- the number `x` is that of mark `m`, of which `rest` are older
 pub record Here (w : ℕ) (s : Bytes) (marks : List ℕ) (syntax key : ℕ) (v : Bytes) (k : ℕ) (all : List Mark) (x : ℕ) (m : Mark) (rest : List Mark) : Type 0 where
@@ -198,10 +234,10 @@ pub record Here (w : ℕ) (s : Bytes) (marks : List ℕ) (syntax key : ℕ) (v :
   pub below : suc (length rest) ≤ length all
   pub chained : Chained w s marks rest
   pub within : Within w s m
-  pub number : x ≡ packed m (lastIn w s (bucketAt key v) rest)
+  pub number : x ≡ packed (labelOf w s m) m (lastIn w s (bucketAt key v) rest)
   pub twins : (twin w s syntax key v m || any (twin w s syntax key v) rest) ≡ any (twin w s syntax key v) all
 
-module _ {w : ℕ} {s : Bytes} {marks : List ℕ} {syntax key : ℕ} {v : Bytes} {head : ℕ} {all : List Mark} (walk : Walk w s marks head (bucketAt key v) all) where
+module _ {w : ℕ} {s : Bytes} {marks : List ℕ} {syntax key : ℕ} {v : Bytes} {head label : ℕ} {all : List Mark} (walk : Walk w s marks head label key v all) where
   pub start : (rest : List Mark) × Left w s marks syntax key v head all rest
   start = subst (λ (k : ℕ). (rest : List Mark) × Left w s marks syntax key v k all rest) (sym (walk .newest)) (down w s marks syntax key v all (walk .chained))
 
@@ -217,7 +253,7 @@ module _ {w : ℕ} {s : Bytes} {marks : List ℕ} {syntax key : ℕ} {v : Bytes}
             below = l .most;
             chained = l .chained .2;
             within = l .chained .1;
-            number = ap (λ (i : ℕ). getD marks i 0) e ∙ l .chained .0 ∙ ap (λ (b : ℕ). packed m (lastIn w s b rest)) (l .top);
+            number = ap (λ (i : ℕ). getD marks i 0) e ∙ l .chained .0 ∙ ap (λ (b : ℕ). packed (labelOf w s m) m (lastIn w s b rest)) (l .top);
             twins = l .twins;
           },
         )
@@ -233,17 +269,17 @@ module _ {w : ℕ} {s : Bytes} {marks : List ℕ} {syntax key : ℕ} {v : Bytes}
       bound : (m .place < 65536) × (m .size < 128) × (lastIn w s (bucketAt key v) rest < 16384)
       bound = omega (arith, h .within .size, h .within .line, walk .sheet, walk .most, h .below, last-most w s (bucketAt key v) rest)
 
-      pub key-is : x / 137438953472 ≡ m .key
-      key-is = ap (λ (n : ℕ). n / 137438953472) (h .number) ∙ packed-key m _ (bound .0) (bound .1) (bound .2)
+      pub label-is : x / 137438953472 ≡ labelOf w s m
+      label-is = ap (λ (n : ℕ). n / 137438953472) (h .number) ∙ packed-label _ m _ (bound .0) (bound .1) (bound .2)
 
       pub place-is : x / 2097152 % 65536 ≡ m .place
-      place-is = ap (λ (n : ℕ). n / 2097152 % 65536) (h .number) ∙ packed-place m _ (bound .0) (bound .1) (bound .2)
+      place-is = ap (λ (n : ℕ). n / 2097152 % 65536) (h .number) ∙ packed-place _ m _ (bound .0) (bound .1) (bound .2)
 
       pub size-is : x / 16384 % 128 ≡ m .size
-      size-is = ap (λ (n : ℕ). n / 16384 % 128) (h .number) ∙ packed-size m _ (bound .0) (bound .1) (bound .2)
+      size-is = ap (λ (n : ℕ). n / 16384 % 128) (h .number) ∙ packed-size _ m _ (bound .0) (bound .1) (bound .2)
 
       pub next-is : x % 16384 ≡ lastIn w s (bucketAt key v) rest
-      next-is = ap (λ (n : ℕ). n % 16384) (h .number) ∙ packed-head m _ (bound .0) (bound .1) (bound .2)
+      next-is = ap (λ (n : ℕ). n % 16384) (h .number) ∙ packed-head _ m _ (bound .0) (bound .1) (bound .2)
 
       -- its line may be read
       pub readable : x / 2097152 % 65536 + (5 * w + x / 16384 % 128) ≤ length s
@@ -253,15 +289,18 @@ module _ {w : ℕ} {s : Bytes} {marks : List ℕ} {syntax key : ℕ} {v : Bytes}
       pub older : x % 16384 < k
       older = omega (arith, next-is, last-most w s (bucketAt key v) rest, h .count)
 
-      bears-is : bears w s syntax key v x ≡ twin w s syntax key v m
-      bears-is = ap₂ (λ (k : ℕ) (u : Bytes). eqb k key && same syntax u v) key-is (rw (place-is, size-is))
+      bears-is : bears w s syntax label v x ≡ twin w s syntax key v m
+      bears-is =
+          ap₂ (λ (l : ℕ) (u : Bytes). eqb l label && same syntax u v) label-is (rw (place-is, size-is))
+          ∙ ap (λ (l : ℕ). eqb (labelOf w s m) l && same syntax (bytesOf w s m) v) (walk .labelled)
+          ∙ twin-label w s syntax key v m (h .within .key) (walk .small)
 
       -- an equal value of the same key
-      pub found : bears w s syntax key v x ≡ true → true ≡ any (twin w s syntax key v) all
+      pub found : bears w s syntax label v x ≡ true → true ≡ any (twin w s syntax key v) all
       found e = sym (ap (λ (b : Bool). b || any (twin w s syntax key v) rest) (sym bears-is ∙ e)) ∙ h .twins
 
       -- another value: on to the next
-      pub onward : bears w s syntax key v x ≡ false → (older : List Mark) × Left w s marks syntax key v (x % 16384) all older
+      pub onward : bears w s syntax label v x ≡ false → (older : List Mark) × Left w s marks syntax key v (x % 16384) all older
       onward e =
           let d = down w s marks syntax key v rest (h .chained) in
           let l = d .1 in (

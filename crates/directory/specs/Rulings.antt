@@ -1,5 +1,5 @@
 -- What the code decides on an entry line and on a value line, and that it is what the rules decide.
-use Prim.Native.Nat.{ℕ, zero, suc, _+_, _*_, _%_, _≤_, _<_}
+use Prim.Native.Nat.{ℕ, zero, suc, _+_, _*_, _/_, _%_, _≤_, _<_}
 use mathlib.Core.Path.{_≡_, refl, sym, ap, ap₂, _∙_, subst}
 use mathlib.Core.Logic.{_⊎_, inl, inr}
 use mathlib.Core.Bool.{Bool, true, false, _&&_, _||_, not, cond}
@@ -18,11 +18,12 @@ use Rattle.rules.specs.Judge.{Verdict, accept, refuse, refuseIf}
 use Rattle.rules.specs.Directory.{Stored, Reading, entriesOf, nameAt, newEntry, withValue, lacksNaming, clashes, typeLine, entryLine, valueLine, step}
 use Rattle.rules.specs.Places.{schemaOf}
 use Rattle.rules.specs.declared.Front.the-variants.{Taken}
-use Rattle.sheet.specs.Columns.{inFormOf}
+use Rattle.value.specs.Digest.{digest}
+use Rattle.form.specs.Columns.{inFormOf}
 use Rattle.directory.specs.Lines.{lineHere, formed, step-form, step-type, step-entry, step-value, other-columns}
-use Rattle.directory.specs.Mark.{Mark, mark, bucketAt, bucket-bound, bucketOf, packed, Within, Chain, chain-more, Walk, Answers, twin, last-most}
-use Rattle.directory.specs.Schema.{rankOf, rank-most, Rising, Known, allowed-known}
-use Rattle.directory.specs.Twins.{ownerOf, keyOf, twins, Named, Valued}
+use Rattle.directory.specs.Mark.{Mark, mark, bucketAt, bucket-bound, bucketOf, labelAt, labelOf, packed, Within, Chain, chain-more, Walk, Answers, twin, last-most}
+use Rattle.directory.specs.Schema.{rankOf, Rising, Known, allowed-known}
+use Rattle.directory.specs.Twins.{ownerOf, keyOf, key-bound, twins, Named, Valued}
 use Rattle.directory.specs.declared.entry.Ruling.{Ruling}
 
 -- ---- what the code decides
@@ -34,7 +35,8 @@ refusing n = record { refusal = n; rank = 0; bucket = 0; mark = 0 }
 abbrev pub marking : ℕ → Bytes → List ℕ → List ℕ → ℕ → ℕ → ℕ → ℕ → Ruling
 marking w s ks heads owner t at size =
     let bucket = bucketAt (keyOf ks owner t) (valueOf w size (drop at s)) in
-    record { refusal = 0; rank = rankOf ks t; bucket = bucket; mark = packed (mark (keyOf ks owner t) at size) (getD heads bucket 0) }
+    let label = labelAt (keyOf ks owner t) (valueOf w size (drop at s)) in
+    record { refusal = 0; rank = rankOf ks t; bucket = bucket; mark = packed label (mark (keyOf ks owner t) at size) (getD heads bucket 0) }
 
 -- a value that the schema allows and its owner does not have yet
 unfoldable pub ruledOf : ℕ → Bytes → List ℕ → List ℕ → ℕ → ℕ → ℕ → ℕ → List Mark → Ruling
@@ -86,7 +88,7 @@ pub record Asked (w : ℕ) (s : Bytes) (ks marks heads : List ℕ) (at size : �
 
 -- with one mark more
 pub ready-more : {w : ℕ} {s : Bytes} {ks marks heads : List ℕ} {ms : List Mark} → Ready w s ks marks heads ms → (m : Mark) → Within w s m → (n bucket number : ℕ)
-    → length ms ≡ n → bucket ≡ bucketOf w s m → number ≡ packed m (getD heads (bucketOf w s m) 0) → n + 1 < 10923
+    → length ms ≡ n → bucket ≡ bucketOf w s m → number ≡ packed (labelOf w s m) m (getD heads (bucketOf w s m) 0) → n + 1 < 10923
     → Ready w s ks (set marks n number) (set heads bucket (n + 1)) (m ∷ ms)
 ready-more {w} {s} {ks} {marks} {heads} {ms} r m within n bucket number count is-bucket is-number room = record {
   sheet = r .sheet;
@@ -107,12 +109,14 @@ place-low depths count lacks a z = go (ltb count a) refl z
     go true e q = absurd (omega arith)
     go false e q = ltb-false count a e
 
--- a walk through the bucket `b`
-pub walk-of : {w : ℕ} {s : Bytes} {ks marks heads : List ℕ} {ms : List Mark} → Ready w s ks marks heads ms → (b bucket : ℕ) → bucket ≡ b → b < 2048
-    → Walk w s marks (getD heads bucket 0) b ms
-walk-of {heads = heads} r b bucket is h = record {
+-- a walk through the bucket of `v` under `key`
+pub walk-of : {w : ℕ} {s : Bytes} {ks marks heads : List ℕ} {ms : List Mark} → Ready w s ks marks heads ms → (key : ℕ) (v : Bytes) → key < 65536
+    → (bucket label : ℕ) → bucket ≡ bucketAt key v → label ≡ labelAt key v → Walk w s marks (getD heads bucket 0) label key v ms
+walk-of {heads = heads} r key v small bucket label bucket-is label-is = record {
   chained = r .chain .chained;
-  newest = ap (λ (k : ℕ). getD heads k 0) is ∙ r .chain .newest b h;
+  newest = ap (λ (k : ℕ). getD heads k 0) bucket-is ∙ r .chain .newest (bucketAt key v) (bucket-bound key v);
+  labelled = label-is;
+  small = small;
   most = r .room;
   room = omega (arith, r .room, r .chain .marked);
   sheet = r .sheet;
@@ -122,7 +126,7 @@ walk-of {heads = heads} r b bucket is h = record {
 module _ {w : ℕ} {s : Bytes} {ks marks heads : List ℕ} {at size : ℕ} (asked : Asked w s ks marks heads at size)
     (owner t rank : ℕ) (is : rank ≡ rankOf ks t) (low : owner ≤ 513) (u : Bytes) (here : u ≡ valueOf w size (drop at s)) where
   pub key-small : owner * 64 + rank < 65536
-  key-small = omega (arith, rank-most ks t, asked .ready .few)
+  key-small = rw is (key-bound ks owner t (asked .ready .few) low)
 
   pub rank-within : allowed (schemaOf ks) t u ≡ true → rank < length ks
   rank-within a = rw is (allowed-known 0 ks (asked .ready .rising) t u a .within)
@@ -131,36 +135,44 @@ module _ {w : ℕ} {s : Bytes} {ks marks heads : List ℕ} {at size : ℕ} (aske
   unfolding ruledOf
   ruled-unfit a ms = let f = ap (λ (v : Bytes). allowed (schemaOf ks) t v) (sym here) ∙ a in rw f
 
-  module _ (bucket : ℕ) (bucket-is : bucket ≡ bucketAt (owner * 64 + rank) u) where
-    pub bucket-within : bucket < length heads
-    bucket-within = omega (arith, bucket-is, bucket-bound (owner * 64 + rank) u, asked .ready .chain .buckets)
+  -- its key
+  abbrev key : ℕ
+  key = owner * 64 + rank
 
-    pub head-small : getD heads bucket 0 < 10923
-    head-small = let walk = walk-of (asked .ready) (bucketAt (owner * 64 + rank) u) bucket bucket-is (bucket-bound _ u) in
-        omega (arith, walk .newest, last-most w s (bucketAt (owner * 64 + rank) u) (asked .all), asked .ready .room)
+  -- its digest, of which the bucket and the tag are parts
+  module _ (d : ℕ) (digest-is : d ≡ digest key u) where
+    abbrev label : ℕ
+    label = d / 2048 % 2048 * 65536 + key
+
+    pub bucket-within : d % 2048 < length heads
+    bucket-within = omega (arith, asked .ready .chain .buckets)
+
+    pub walking : {ms : List Mark} → Ready w s ks marks heads ms → Walk w s marks (getD heads (d % 2048) 0) label key u ms
+    walking ready = walk-of ready key u key-small (d % 2048) label (ap (λ (n : ℕ). n % 2048) digest-is) (ap (λ (n : ℕ). n / 2048 % 2048 * 65536 + key) digest-is)
+
+    head-small : getD heads (d % 2048) 0 < 10923
+    head-small = omega (arith, walking (asked .ready) .newest, last-most w s (bucketAt key u) (asked .all), asked .ready .room)
 
     -- its numbers make one number
-    pub mark-small : (owner * 64 + rank < 65536) × (at ≤ 65536) × (size ≤ 64) × (getD heads bucket 0 < 10923)
-    mark-small = (key-small, omega (arith, asked .within .line, asked .ready .sheet), asked .within .size, head-small)
+    pub mark-small : (label < 134217728) × (at < 65536) × (size ≤ 64) × (getD heads (d % 2048) 0 < 10923)
+    mark-small = (omega (arith, key-small), omega (arith, asked .within .line, asked .ready .sheet), asked .within .size, head-small)
 
     module _ (a : allowed (schemaOf ks) t u ≡ true) (found : Bool)
-        (answers : Answers w s marks (getD heads bucket 0) (getD ks rank 0 % 4) (owner * 64 + rank) u found) (ms : List Mark) (ready : Ready w s ks marks heads ms) where
+        (answers : Answers w s marks (getD heads (d % 2048) 0) label (getD ks rank 0 % 4) u found) (ms : List Mark) (ready : Ready w s ks marks heads ms) where
       fit : allowed (schemaOf ks) t (valueOf w size (drop at s)) ≡ true
       fit = ap (λ (v : Bytes). allowed (schemaOf ks) t v) (sym here) ∙ a
 
       twins-are : found ≡ twins w s ks owner t (valueOf w size (drop at s)) ms
-      twins-are =
-          answers ms (walk-of ready (bucketAt (owner * 64 + rank) u) bucket bucket-is (bucket-bound _ u))
-          ∙ ap₂ (λ (r : ℕ) (v : Bytes). any (twin w s (getD ks r 0 % 4) (owner * 64 + r) v) ms) is here
+      twins-are = answers key ms (walking ready) ∙ ap₂ (λ (r : ℕ) (v : Bytes). any (twin w s (getD ks r 0 % 4) (owner * 64 + r) v) ms) is here
 
       pub ruled-twice : found ≡ true → refusing 5 ≡ ruledOf w s ks heads owner t at size ms
       unfolding ruledOf
       ruled-twice f = let z = sym twins-are ∙ f in rw (fit, z)
 
       pub ruled-marked : found ≡ false
-          → record { refusal = 0; rank = rank; bucket = bucket; mark = (((owner * 64 + rank) * 65536 + at) * 128 + size) * 16384 + getD heads bucket 0 } ≡ ruledOf w s ks heads owner t at size ms
+          → record { refusal = 0; rank = rank; bucket = d % 2048; mark = ((label * 65536 + at) * 128 + size) * 16384 + getD heads (d % 2048) 0 } ≡ ruledOf w s ks heads owner t at size ms
       unfolding ruledOf packed
-      ruled-marked f = let z = sym twins-are ∙ f in rw (fit, z, bucket-is, here, is)
+      ruled-marked f = let z = sym twins-are ∙ f in rw (fit, z, digest-is, here, is)
 
 -- ---- what the rules decide
 

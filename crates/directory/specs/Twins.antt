@@ -17,7 +17,7 @@ use Rattle.rules.specs.Places.{schemaOf}
 use Rattle.rules.specs.Laws.Tests.{and-left, and-right, both, and-cong, bool-ext}
 use Rattle.rules.specs.Laws.Name.{samePart-sym}
 use Rattle.directory.specs.Mark.{Mark, bytesOf, twin}
-use Rattle.directory.specs.Schema.{rankOf, syntaxOf, Rising, Known, allowed-known, allowed-fits, equal-known}
+use Rattle.directory.specs.Schema.{rankOf, rank-most, syntaxOf, Rising, Known, allowed-known, allowed-fits, equal-known}
 
 -- the owner of an entry's values, by the entry's number; an entry line's owner is its parent's number
 abbrev pub ownerOf : ℕ → ℕ
@@ -25,6 +25,9 @@ ownerOf number = 257 + number
 
 abbrev pub keyOf : List ℕ → ℕ → ℕ → ℕ
 keyOf ks owner t = owner * 64 + rankOf ks t
+
+pub key-bound : (ks : List ℕ) (owner t : ℕ) → length ks ≤ 64 → owner ≤ 513 → keyOf ks owner t < 65536
+key-bound ks owner t few low = omega (arith, rank-most ks t)
 
 -- a mark of this owner and type has an equal value
 abbrev pub twins : ℕ → Bytes → List ℕ → ℕ → ℕ → Bytes → List Mark → Bool

@@ -19,7 +19,7 @@ use Rattle.rules.specs.Directory.{Reading, lastType, typeLine, entriesOf, step,
 use Rattle.rules.specs.Places.{attributeOf, schemaOf}
 use Rattle.rules.specs.Laws.Sheet.{taken-fits}
 use Rattle.rules.specs.declared.Front.the-variants.{Taken}
-use Rattle.sheet.specs.Columns.{inFormOf}
+use Rattle.form.specs.Columns.{inFormOf}
 use Rattle.directory.specs.Lines.{judgedFrom, lineHere, formed, judged-refused, judged-on, step-form, step-type, type-columns}
 use Rattle.directory.specs.Schema.{Rising, rising-more, last-more, schema-more, attribute-of}
 use Rattle.directory.specs.declared.schema.TypeLines.{TypeLines}

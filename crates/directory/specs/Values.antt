@@ -21,7 +21,7 @@ use Rattle.rules.specs.declared.Front.the-variants.{Taken, NotInForm, End}
 use Rattle.directory.specs.Lines.{judgedFrom, lineHere, taken-wide, judged-refused, judged-on, values-on, values-none}
 use Rattle.directory.specs.Mark.{Mark, mark, bucketAt, bucket-bound, Within}
 use Rattle.directory.specs.Schema.{rankOf, syntaxOf, Known, allowed-known}
-use Rattle.directory.specs.Twins.{ownerOf, keyOf, any-snoc, last-snoc, Named, Valued, part-same, named-value, valued-more}
+use Rattle.directory.specs.Twins.{ownerOf, keyOf, key-bound, any-snoc, last-snoc, Named, Valued, part-same, named-value, valued-more}
 use Rattle.directory.specs.Rulings.{Ready, reading, filled, marking, valueRuling, Refused, ValueTaken, ValueOutcome, value-outcome, ready-more}
 use Rattle.directory.specs.declared.entry.Ruling.{Ruling}
 use Rattle.directory.specs.declared.values.Current.{Current}
@@ -182,7 +182,8 @@ module _ {w : ℕ} {s : Bytes} {ks marks₀ heads₀ marks heads : List ℕ} {n�
         let t = taking z .0 in
         let rank : r .rank ≡ rankOf ks a = ap (λ (x : Ruling). x .rank) (t .ruling) in
         let h = fits-here in
-        let within : Within w s m = record { size = h .0; line = h .1 } in
+        let key = key-bound ks (ownerOf (e .number)) a (g .ready .few) (omega (arith, b .most)) in
+        let within : Within w s m = record { key = key; size = h .0; line = h .1 } in
         let sheet = g .ready .sheet in
         let names : (eqb (e .naming) a && same (getD ks (r .rank) 0 % 4) (valueOf w (e .length) (drop (e .at) s)) here) ≡ samePart (schemaOf ks) (d .naming) (part a here)
         = rw (b .type, b .value, rank) (sym (part-same ks (g .ready .rising) (g .ready .few) (d .naming .type) a (d .naming .value) here (b .fit) (t .fit))) in

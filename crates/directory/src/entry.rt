@@ -1,7 +1,7 @@
 // An entry line, K 2, and the rulings that entry lines and value lines share.
 use crate::mark;
 use crate::schema;
-use sheet::columns::directory_columns;
+use form::columns::directory_columns;
 ghost use mathlib.Core.Path.{_≡_};
 ghost use Prim.Native.Nat.{_≤_};
 ghost use lib.ListN.{length};
@@ -50,16 +50,18 @@ pub(crate) fn ruled(
         return refusing(4);
     }
     let key = owner * 64 + rank;
-    let bucket = mark::bucket(key, v);
+    let digest = value::digest::digest(key as u64, v);
+    let bucket = (digest % 2048) as usize;
+    let label = (digest / 2048 % 2048) as usize * 65536 + key;
     let head = heads[bucket];
-    if mark::twin(s, w, marks, head, key, schema[rank] % 4, v) {
+    if mark::twin(s, w, marks, head, label, schema[rank] % 4, v) {
         return refusing(5);
     }
     Ruling {
         refusal: 0,
         rank,
         bucket,
-        mark: ((key * 65536 + at) * 128 + len) * 16384 + head,
+        mark: ((label * 65536 + at) * 128 + len) * 16384 + head,
     }
 }
 

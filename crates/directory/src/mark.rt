@@ -1,23 +1,17 @@
 // A mark for each entry line and value line taken: it finds an equal value of the same owner and type without going through all
-// of them. A mark is one number: key, position and length of its line, and the mark before it in its bucket (from 1; 0: none).
+// of them. A mark is one number: label, position and length of its line, and the mark before it in its bucket (from 1; 0: none).
+// The label is the key with a tag above it, 11 bits of the value's digest: bytes are compared only where both agree.
 ghost use mathlib.Core.Path.{_≡_};
 ghost use Prim.Native.Nat.{_+_, _*_, _/_, _%_, _≤_, _<_};
 ghost use lib.ListN.{length};
 ghost use Rattle.directory.specs.Mark as Mark;
 
-// The bucket of a value under a key: equal values have one.
-pub(crate) fn bucket(key: usize, v: &[u8]) -> usize
-    ensures { λ r. ⌜ r ≡ Mark.bucketAt key (now (v .entry)) ⌝ }
-{
-    (value::digest::digest(key as u64, v) % 2048) as usize
-}
-
-// Whether the mark `m` has this key and an equal value.
-fn bears(s: &[u8], w: usize, m: usize, key: usize, syntax: u64, v: &[u8]) -> bool
+// Whether the mark `m` has this label and an equal value.
+fn bears(s: &[u8], w: usize, m: usize, label: usize, syntax: u64, v: &[u8]) -> bool
     requires { ⌜ m / 2097152 % 65536 + (5 * w + m / 16384 % 128) ≤ length (now s) ⌝ }
-    ensures { λ r. ⌜ r ≡ Mark.bears w (now (s .entry)) syntax key (now (v .entry)) m ⌝ }
+    ensures { λ r. ⌜ r ≡ Mark.bears w (now (s .entry)) syntax label (now (v .entry)) m ⌝ }
 {
-    if m / 137438953472 != key {
+    if m / 137438953472 != label {
         return false;
     }
     value::same(
@@ -27,23 +21,23 @@ fn bears(s: &[u8], w: usize, m: usize, key: usize, syntax: u64, v: &[u8]) -> boo
     )
 }
 
-// Whether a mark with this key, from `head` on in its bucket, has an equal value.
+// Whether a mark with this label, from `head` on in its bucket, has an equal value.
 pub(crate) fn twin(
     s: &[u8],
     w: usize,
     marks: &[usize],
     head: usize,
-    key: usize,
+    label: usize,
     syntax: u64,
     v: &[u8],
 ) -> bool
-    requires { ⌜ Mark.Walkable w (now s) (now marks) head (Mark.bucketAt key (now v)) ⌝ }
-    ensures { λ r. ⌜ Mark.Answers w (now (s .entry)) (now (marks .entry)) head syntax key (now (v .entry)) r ⌝ }
+    requires { ⌜ Mark.Walkable w (now s) (now marks) head label (now v) ⌝ }
+    ensures { λ r. ⌜ Mark.Answers w (now (s .entry)) (now (marks .entry)) head label syntax (now (v .entry)) r ⌝ }
 {
     let mut k = head;
     while k != 0 {
         let m = marks[k - 1];
-        if bears(s, w, m, key, syntax, v) {
+        if bears(s, w, m, label, syntax, v) {
             return true;
         }
         k = m % 16384;

@@ -1,6 +1,6 @@
 // The schema: the K 1 lines, noted as one number for each attribute type (its number times 4, and its syntax), and looked up.
+use form::columns::directory_columns;
 use rules::Front;
-use sheet::columns::directory_columns;
 ghost use mathlib.Core.Path.{_≡_};
 ghost use Prim.Native.Nat.{_≤_};
 ghost use lib.ListN.{length};

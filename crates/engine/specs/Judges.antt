@@ -72,7 +72,7 @@ module _ (w : ℕ) (d : Bytes) (x : Directory) (r : Notes) (ok : directoryOf w d
   }
 
   -- what may be relied on whatever the directory is
-  pub numbers-of : 1 ≤ w → w ≤ 18 → Numbers w d (cut (r .at)) (cut (r .parents)) (cut (r .naming)) (cut (r .lengths))
+  pub numbers-of : 6 ≤ w → w ≤ 18 → Numbers w d (cut (r .at)) (cut (r .parents)) (cut (r .naming)) (cut (r .lengths))
   numbers-of narrow wide =
       let n : length (cut (r .at)) ≡ r .count = cut-length (r .at) (r .count) (enough (r .at) (noted .at-length)) in
       let count : r .count ≡ length (x .entries) = noted .count in
@@ -98,7 +98,7 @@ module _ (w : ℕ) (d : Bytes) (x : Directory) (r : Notes) (ok : directoryOf w d
   pub directory-parts : DirectoryAt w d x (take (r .types - 0) (r .schema)) (take (r .count - 0) (r .at)) (take (r .count - 0) (r .parents)) (take (r .count - 0) (r .naming)) (take (r .count - 0) (r .lengths))
   directory-parts = let z : r .count - 0 ≡ r .count = omega arith in let y : r .types - 0 ≡ r .types = omega arith in rw (z, y) directory-at
 
-  pub number-parts : 1 ≤ w → w ≤ 18 → Numbers w d (take (r .count - 0) (r .at)) (take (r .count - 0) (r .parents)) (take (r .count - 0) (r .naming)) (take (r .count - 0) (r .lengths))
+  pub number-parts : 6 ≤ w → w ≤ 18 → Numbers w d (take (r .count - 0) (r .at)) (take (r .count - 0) (r .parents)) (take (r .count - 0) (r .naming)) (take (r .count - 0) (r .lengths))
   number-parts narrow wide = let z : r .count - 0 ≡ r .count = omega arith in rw z (numbers-of narrow wide)
 
 -- ---- the items by numbers

@@ -77,7 +77,7 @@ pub fn serve(
     places: &mut [usize],
     sizes: &mut [usize],
 ) -> Reply
-    requires { ⌜ (1 ≤ w) × (w ≤ 18) × (length (now places) ≡ length (now types)) × (length (now sizes) ≡ length (now types)) × (65536 ≤ (5 * w + 1) * length (now types)) × (length (now types) ≤ 65536) ⌝ }
+    requires { ⌜ (6 ≤ w) × (w ≤ 18) × (length (now places) ≡ length (now types)) × (length (now sizes) ≡ length (now types)) × (65536 ≤ (5 * w + 1) * length (now types)) × (length (now types) ≤ 65536) ⌝ }
     ensures { λ r. ⌜ Replies (serveAt w (now (d .entry)) (now (p .entry)) (now (q .entry)) (length (now (out .entry)))) (now (out .entry)) r (now (out .exit)) ⌝ }
 {
     let notes = directory::judge(d, w);

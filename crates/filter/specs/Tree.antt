@@ -1,117 +1,100 @@
--- A filter's lines as nodes, and a law for each way through their evaluation.
-use Prim.Native.Nat.{ℕ, zero, suc, _+_, _-_, _*_, _≤_, _<_}
+-- A law for each way through the evaluation of a filter's lines.
+use Prim.Native.Nat.{ℕ, zero, suc, _+_, _-_, _≤_, _<_}
 use mathlib.Core.Path.{_≡_, refl, sym, ap, _∙_}
-use mathlib.Core.Bool.{Bool, true, false, _||_, cond}
+use mathlib.Core.Bool.{Bool, true, false, _||_, cond, true≢false}
+use mathlib.Core.List.{List}
 use native.Mathlib.Omega.{arith}
 use lib.Dec.{eqb}
-use lib.ListN.{length, drop}
-use Rattle.rules.specs.Sheet.{Bytes, line, Sheet, frontOf, valueOf}
+use lib.ListN.{drop}
+use borrow.Author.Tests.{eq-eqb, ne-eqb}
+use Rattle.rules.specs.Sheet.{Bytes, line, Sheet, frontOf}
 use Rattle.rules.specs.Filter.{Assertion, Filter, truth, negation, evaluate}
 use Rattle.rules.specs.Judge.{accept}
 use Rattle.rules.specs.Request.{filter}
 use Rattle.rules.specs.Places.{linesAt}
-use Rattle.rules.specs.Laws.Sheet.{lines-taken, lines-broken, lines-end, taken-fits}
-use Rattle.rules.specs.Laws.Filter.{both, either, piecesOf, afterLines, assertionOf, afterItem, Evaluated, evaluated, partsFrom, evaluateLine, evaluateSheet, evaluateLines, filter-read}
+use Rattle.rules.specs.Laws.Sheet.{lines-taken, lines-broken, lines-end}
+use Rattle.rules.specs.Laws.Filter.{both, either, afterLines, assertionOf, afterItem, Evaluated, evaluated, partsFrom, evaluateLine, evaluateSheet, evaluateLines, filter-read}
+use Rattle.assertion.specs.Items.{assertionBy}
+use Rattle.assertion.specs.Lines.{Lines, kindAt, firstAt, secondAt, positionAt, valueAt, piecesAt}
 use Rattle.rules.specs.declared.Truth.{Truth}
 use Rattle.rules.specs.declared.Truth.the-variants.{True, False, Undefined}
-use Rattle.rules.specs.declared.Front.{Front}
-use Rattle.rules.specs.declared.Front.the-variants.{Taken, NotInForm, End}
-use Rattle.filter.specs.Items.{assertionBy}
-use Rattle.filter.specs.declared.tree.Node.{Node}
-use Rattle.filter.specs.declared.tree.Node.the-variants.{Group, Not, Item, Missing}
+use Rattle.rules.specs.declared.Front.the-variants.{NotInForm, End}
 
 -- "and" (a conjunction) or "or"
 abbrev pub joinBy : Bool → Truth → Truth → Truth
 joinBy true = both
 joinBy false = either
 
--- ---- nodes
-
-abbrev pub nodeBy : ℕ → ℕ → Front → Node
-nodeBy w at (Taken k a b c l) =
-    cond (eqb k 20) (Group true a (at + (5 * w + 1 + l)))
-    (cond (eqb k 21) (Group false a (at + (5 * w + 1 + l)))
-    (cond (eqb k 22) (Not (at + (5 * w + 1 + l)))
-    (Item k a b l (at + (5 * w + 1 + l)))))
-nodeBy w at NotInForm = Missing
-nodeBy w at End = Missing
-
-unfoldable pub nodeAt : ℕ → Bytes → ℕ → Node
-nodeAt w q at = nodeBy w at (frontOf w (drop at q))
-
 -- what follows an item
 unfoldable pub afterBy : ℕ → ℕ → Sheet → Sheet
 afterBy k b rest = cond (eqb k 23 || (eqb k 24 || (eqb k 25 || eqb k 26))) rest (afterLines b rest)
 
--- a node evaluated, its parts by `one`
-abbrev pub byNode : (Assertion → Truth) → (Sheet → Evaluated) → ℕ → Bytes → ℕ → Node → Evaluated
-byNode m one w q at (Group g n next) = partsFrom (joinBy g) one n (truth g) (linesAt w q next)
-byNode m one w q at (Not next) = evaluated (negation (one (linesAt w q next) .truth)) (one (linesAt w q next) .rest)
-byNode m one w q at (Item k a b l next) = evaluated (m (assertionBy k a (valueOf w l (drop at q)) (piecesOf b (linesAt w q next)))) (afterBy k b (linesAt w q next))
-byNode m one w q at Missing = evaluated Undefined (linesAt w q at)
+-- ---- line by line
 
-module _ (m : Assertion → Truth) (w : ℕ) (q : Bytes) (at : ℕ) where
-  node-line : (one : Sheet → Evaluated) → evaluateSheet m (evaluateLine m one) (linesAt w q at) ≡ byNode m one w q at (nodeAt w q at)
-  unfolding evaluateSheet evaluateLine nodeAt assertionOf afterItem afterBy
-  node-line one = go (frontOf w (drop at q)) refl
-    where
-      go : (f : Front) → frontOf w (drop at q) ≡ f → evaluateSheet m (evaluateLine m one) (linesAt w q at) ≡ byNode m one w q at (nodeBy w at f)
-      go (Taken k a b c l) e = ap (evaluateSheet m (evaluateLine m one)) (lines-taken w q at e) ∙ kinds (eqb k 20) (eqb k 21) (eqb k 22)
-        where
-          kinds : (x y z : Bool)
-              → cond x (partsFrom both one a True (linesAt w q (at + (5 * w + 1 + l))))
-              (cond y (partsFrom either one a False (linesAt w q (at + (5 * w + 1 + l))))
-              (cond z (evaluated (negation (one (linesAt w q (at + (5 * w + 1 + l))) .truth)) (one (linesAt w q (at + (5 * w + 1 + l))) .rest))
-              (evaluated (m (assertionOf (line k a b c (valueOf w l (drop at q))) (linesAt w q (at + (5 * w + 1 + l))))) (afterItem (line k a b c (valueOf w l (drop at q))) (linesAt w q (at + (5 * w + 1 + l)))))))
-              ≡ byNode m one w q at (cond x (Group true a (at + (5 * w + 1 + l))) (cond y (Group false a (at + (5 * w + 1 + l))) (cond z (Not (at + (5 * w + 1 + l))) (Item k a b l (at + (5 * w + 1 + l))))))
-          kinds true y z = refl
-          kinds false true z = refl
-          kinds false false true = refl
-          kinds false false false = refl
-      go NotInForm e = ap (evaluateSheet m (evaluateLine m one)) (lines-broken w q at e) ∙ ap (evaluated Undefined) (sym (lines-broken w q at e))
-      go End e = ap (evaluateSheet m (evaluateLine m one)) (lines-end w q at e) ∙ ap (evaluated Undefined) (sym (lines-end w q at e))
-
+module _ (m : Assertion → Truth) {w : ℕ} {q : Bytes} {rows : List ℕ} {lines : ℕ} (h : Lines w q rows lines) (k depth : ℕ) where
   -- too deep
-  pub tree-none : (depth : ℕ) → depth ≡ 0 → evaluated Undefined (linesAt w q at) ≡ evaluateLines m depth (linesAt w q at)
+  pub tree-none : depth ≡ 0 → evaluated Undefined (linesAt w q (positionAt rows k)) ≡ evaluateLines m depth (linesAt w q (positionAt rows k))
   unfolding evaluateLines
-  tree-none depth e = rw e
+  tree-none e = rw e
 
-  -- by the node that was found
-  pub tree-node : (depth : ℕ) → (depth ≡ 0 → ⊥) → (x : Node) → nodeAt w q at ≡ x → evaluateLines m depth (linesAt w q at) ≡ byNode m (evaluateLines m (depth - 1)) w q at x
-  unfolding evaluateLines
-  tree-node zero nz x e = absurd (nz refl)
-  tree-node (suc depth) nz x e = let z : suc depth - 1 ≡ depth = omega arith in rw z (node-line (evaluateLines m depth) ∙ ap (byNode m (evaluateLines m depth) w q at) e)
+  -- no line is left
+  pub tree-over : lines ≤ k → k ≤ lines → evaluated Undefined (linesAt w q (positionAt rows k)) ≡ evaluateLines m depth (linesAt w q (positionAt rows k))
+  unfolding evaluateLines evaluateSheet
+  tree-over l n = let z : k ≡ lines = omega (arith, l, n) in rw z (over depth (h .broken) (h .ends))
+    where
+      over : (depth : ℕ) (b : Bool) → frontOf w (drop (positionAt rows lines) q) ≡ cond b NotInForm End
+          → evaluated Undefined (linesAt w q (positionAt rows lines)) ≡ evaluateLines m depth (linesAt w q (positionAt rows lines))
+      over zero b e = refl
+      over (suc depth) true e = rw (lines-broken w q (positionAt rows lines) e)
+      over (suc depth) false e = rw (lines-end w q (positionAt rows lines) e)
 
--- ---- an item's line lies on the sheet
+  module _ (l : k < lines) (nz : depth ≡ 0 → ⊥) where
+    abbrev one : Sheet → Evaluated
+    one = evaluateLines m (depth - 1)
 
-no-group : {g : Bool} {n i k a b l next : ℕ} → Group g n i ≡ Item k a b l next → ⊥
-no-group e = let z : _≡_ {A = ℕ} 0 1 = cc in omega arith
+    abbrev rest : Sheet
+    rest = linesAt w q (positionAt rows (k + 1))
 
-no-not : {i k a b l next : ℕ} → Not i ≡ Item k a b l next → ⊥
-no-not e = let z : _≡_ {A = ℕ} 0 1 = cc in omega arith
-
-no-line : {k a b l next : ℕ} → Missing ≡ Item k a b l next → ⊥
-no-line e = let z : _≡_ {A = ℕ} 0 1 = cc in omega arith
-
-pub item-fits : (w : ℕ) (q : Bytes) (at : ℕ) {k a b l next : ℕ} → nodeAt w q at ≡ Item k a b l next → at + (5 * w + l) ≤ length q
-unfolding nodeAt
-item-fits w q at {k} {a} {b} {l} {next} e = go (frontOf w (drop at q)) refl e
-  where
-    go : (f : Front) → frontOf w (drop at q) ≡ f → nodeBy w at f ≡ Item k a b l next → at + (5 * w + l) ≤ length q
-    go (Taken k′ a′ b′ c′ l′) e h = kinds (eqb k′ 20) (eqb k′ 21) (eqb k′ 22) h
+    by-line : evaluateLines m depth (linesAt w q (positionAt rows k))
+        ≡ evaluateLine m one (line (kindAt rows k) (firstAt rows k) (secondAt rows k) (h .line k l .third) (valueAt w q rows k)) rest
+    unfolding evaluateLines evaluateSheet
+    by-line = deeper depth nz
+        ∙ ap (evaluateSheet m (evaluateLine m one)) (lines-taken w q (positionAt rows k) (h .line k l .front))
+        ∙ ap (λ (x : ℕ). evaluateLine m one (line (kindAt rows k) (firstAt rows k) (secondAt rows k) (h .line k l .third) (valueAt w q rows k)) (linesAt w q x)) (sym (h .line k l .next))
       where
-        kinds : (x y z : Bool)
-            → cond x (Group true a′ (at + (5 * w + 1 + l′))) (cond y (Group false a′ (at + (5 * w + 1 + l′))) (cond z (Not (at + (5 * w + 1 + l′))) (Item k′ a′ b′ l′ (at + (5 * w + 1 + l′))))) ≡ Item k a b l next
-            → at + (5 * w + l) ≤ length q
-        kinds true y z h = absurd (no-group h)
-        kinds false true z h = absurd (no-group h)
-        kinds false false true h = absurd (no-not h)
-        kinds false false false h =
-            let g : l′ ≡ l = cc in
-            let f = taken-fits w q at e in
-            omega (arith, g, f .1)
-    go NotInForm e h = absurd (no-line h)
-    go End e h = absurd (no-line h)
+        deeper : (depth : ℕ) → (depth ≡ 0 → ⊥) → evaluateLines m depth (linesAt w q (positionAt rows k)) ≡ evaluateSheet m (evaluateLine m (evaluateLines m (depth - 1))) (linesAt w q (positionAt rows k))
+        deeper zero nz = absurd (nz refl)
+        deeper (suc depth) nz = let z : suc depth - 1 ≡ depth = omega arith in rw z
+
+    pub tree-not : kindAt rows k ≡ 22 → evaluateLines m depth (linesAt w q (positionAt rows k)) ≡ evaluated (negation (one rest .truth)) (one rest .rest)
+    unfolding evaluateLine
+    tree-not e = by-line ∙ rw (ne-eqb (kindAt rows k) 20 (λ z. omega (arith, e, z)), ne-eqb (kindAt rows k) 21 (λ z. omega (arith, e, z)), eq-eqb (kindAt rows k) 22 e)
+
+    -- "and", or else "or"
+    pub tree-group : (eqb (kindAt rows k) 20 || eqb (kindAt rows k) 21) ≡ true
+        → evaluateLines m depth (linesAt w q (positionAt rows k)) ≡ partsFrom (joinBy (eqb (kindAt rows k) 20)) one (firstAt rows k) (truth (eqb (kindAt rows k) 20)) rest
+    unfolding evaluateLine
+    tree-group e = by-line ∙ go (eqb (kindAt rows k) 20) (eqb (kindAt rows k) 21) e _
+      where
+        go : (x y : Bool) → (x || y) ≡ true → (other : Evaluated)
+            → cond x (partsFrom both one (firstAt rows k) True rest) (cond y (partsFrom either one (firstAt rows k) False rest) other) ≡ partsFrom (joinBy x) one (firstAt rows k) (truth x) rest
+        go true y e other = refl
+        go false true e other = refl
+        go false false e other = absurd (true≢false (sym e))
+
+    pub tree-item : (kindAt rows k ≡ 22 → ⊥) → (eqb (kindAt rows k) 20 || eqb (kindAt rows k) 21) ≡ false
+        → evaluateLines m depth (linesAt w q (positionAt rows k))
+        ≡ evaluated (m (assertionBy (kindAt rows k) (firstAt rows k) (valueAt w q rows k) (piecesAt w q rows k))) (afterBy (kindAt rows k) (secondAt rows k) rest)
+    unfolding evaluateLine assertionOf afterItem afterBy
+    tree-item ne e = by-line ∙ go (eqb (kindAt rows k) 20) (eqb (kindAt rows k) 21) e _ _
+      where
+        go : (x y : Bool) → (x || y) ≡ false → (a b : Evaluated)
+            → cond x a (cond y b (cond (eqb (kindAt rows k) 22) (evaluated (negation (one rest .truth)) (one rest .rest))
+            (evaluated (m (assertionOf (line (kindAt rows k) (firstAt rows k) (secondAt rows k) (h .line k l .third) (valueAt w q rows k)) rest)) (afterItem (line (kindAt rows k) (firstAt rows k) (secondAt rows k) (h .line k l .third) (valueAt w q rows k)) rest))))
+            ≡ evaluated (m (assertionBy (kindAt rows k) (firstAt rows k) (valueAt w q rows k) (piecesAt w q rows k))) (afterBy (kindAt rows k) (secondAt rows k) rest)
+        go true y e a b = absurd (true≢false e)
+        go false true e a b = absurd (true≢false e)
+        go false false e a b = rw (ne-eqb (kindAt rows k) 22 ne)
 
 -- ---- the parts one by one
 

@@ -1,19 +1,9 @@
-// The three truth values: of a test, and of "and", "or" and "not", one part at a time.
-use rules::Order;
+// The three truth values of "and", "or" and "not", one part at a time.
 use rules::Truth;
 ghost use mathlib.Core.Path.{_≡_};
-ghost use mathlib.Core.Bool.{not};
-ghost use Rattle.rules.specs.Filter.{truth, isTrue, negation};
-ghost use Rattle.rules.specs.FilterItem.{isLess};
+ghost use Rattle.rules.specs.Filter.{isTrue, negation};
 ghost use Rattle.rules.specs.Laws.Filter as Filter;
 ghost use Rattle.filter.specs.Tree.{joinBy};
-
-// The truth of a test.
-pub(crate) fn truth_of(b: bool) -> Truth
-    ensures { λ r. ⌜ r ≡ truth b ⌝ }
-{
-    if b { Truth::True } else { Truth::False }
-}
 
 // Is it true?
 pub(crate) fn is_true(t: Truth) -> bool
@@ -74,16 +64,5 @@ pub(crate) fn negated(t: Truth) -> Truth
         Truth::True => Truth::False,
         Truth::False => Truth::True,
         Truth::Undefined => t,
-    }
-}
-
-// Is the first value not below the second?
-pub(crate) fn not_below(order: Order) -> bool
-    ensures { λ r. ⌜ r ≡ not (isLess order) ⌝ }
-{
-    match order {
-        Order::Less => false,
-        Order::Equal => true,
-        Order::Greater => true,
     }
 }

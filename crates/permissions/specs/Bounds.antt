@@ -7,7 +7,7 @@ use lib.Dec.{leb}
 use borrow.Author.Tests.{eqb-true, leb-true}
 use Rattle.rules.specs.Columns.{Range, unnamed, exactly, between, free, inRange, types, bytes, parts, Form, form, permissionForms}
 use Rattle.rules.specs.Laws.Tests.{and-left, and-right}
-use Rattle.sheet.specs.Columns.{fits, inFormOf}
+use Rattle.form.specs.Columns.{fits, inFormOf}
 
 -- a range as a statement
 abbrev Within : Range → ℕ → Type 0

@@ -20,8 +20,8 @@ use Rattle.rules.specs.declared.Column.{Column}
 use Rattle.rules.specs.declared.Column.the-variants.{Number, Malformed}
 use Rattle.rules.specs.declared.Front.{Front}
 use Rattle.rules.specs.declared.Front.the-variants.{Taken, NotInForm, End}
-use Rattle.sheet.specs.Columns.{inFormOf}
-use Rattle.sheet.specs.Laws.Columns.{in-form}
+use Rattle.form.specs.Columns.{inFormOf}
+use Rattle.form.specs.Laws.Columns.{in-form}
 use Rattle.permissions.specs.Steps.{soundOf, faultOf, noLine, lineBy, surplusOf, dueBy, dueAt, partsAt}
 use Rattle.permissions.specs.declared.line.Due.{Due}
 

@@ -10,7 +10,7 @@ use Rattle.rules.specs.Columns.{permissionForms}
 use Rattle.rules.specs.Name.{Schema, known, allowed}
 use Rattle.rules.specs.declared.Front.{Front}
 use Rattle.rules.specs.declared.Front.the-variants.{Taken, NotInForm, End}
-use Rattle.sheet.specs.Columns.{inFormOf}
+use Rattle.form.specs.Columns.{inFormOf}
 use Rattle.value.specs.Digest.{digest}
 use Rattle.permissions.specs.declared.line.Due.{Due}
 use Rattle.permissions.specs.declared.line.Reached.{Reached}

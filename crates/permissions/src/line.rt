@@ -85,7 +85,7 @@ fn fault(
     requires { ⌜ at + (5 * w + length) ≤ ListN.length (now p) ⌝ }
     ensures { λ r. ⌜ r ≡ faultOf (schemaOf (now (schema .entry))) due kind a b c length (valueOf w length (drop at (now (p .entry)))) ⌝ }
 {
-    if !sheet::columns::permission_columns(kind, a, b, c, length) {
+    if !form::columns::permission_columns(kind, a, b, c, length) {
         return 12;
     }
     if kind != due {
@@ -163,7 +163,7 @@ pub fn surplus_at(p: &[u8], at: usize, w: usize) -> u64
             c,
             length,
         } => {
-            if sheet::columns::permission_columns(kind, a, b, c, length) {
+            if form::columns::permission_columns(kind, a, b, c, length) {
                 return 13;
             }
             12

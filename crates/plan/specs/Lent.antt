@@ -15,7 +15,7 @@ use Rattle.plan.specs.declared.Plan.{Plan}
 
 -- the entries' numbers lie within the sheet, and there is room: in `list` for the items of an entry, in `types`, `places` and `sizes` for its values
 pub record Lent (w : ℕ) (d : Bytes) (at parents lengths reach list types places sizes : List ℕ) : Type 0 where
-  pub narrow : 1 ≤ w
+  pub narrow : 6 ≤ w
   pub wide : w ≤ 18
   pub small : length d ≤ 65536
   pub few : length at ≤ 256

@@ -8,7 +8,7 @@ use Rattle.rules.specs.Decision.{Setting}
 use Rattle.rules.specs.Places.{ValuesAt}
 use Rattle.decision.specs.Chosen.{Chosen}
 use Rattle.access.specs.World.{World}
-use Rattle.filter.specs.Seen.{Seen}
+use Rattle.assertion.specs.Seen.{Seen}
 use Rattle.plan.specs.Opened.{front}
 
 module _ (σ : Setting) (es : List Stored) (schema : List ℕ) (w : ℕ) (d : Bytes) (at parents naming lengths : List ℕ) (p : Bytes) (rights scopes reach : List ℕ)

@@ -21,7 +21,7 @@ ghost use Rattle.rules.specs.Request as Request;
 ghost use Rattle.rules.specs.Answer as Answer;
 ghost use Rattle.rules.specs.declared.Found.the-variants.{At};
 ghost use Rattle.access.specs.World.{World};
-ghost use Rattle.filter.specs.Seen.{Seen};
+ghost use Rattle.assertion.specs.Seen.{Seen};
 ghost use Rattle.plan.specs.Plan.{planned};
 ghost use Rattle.plan.specs.Lent.{Lent, Base, Numbered, Sound};
 ghost use Rattle.read.specs.Compare.{refusal, comparison, compareOutcome, comparePlan};
@@ -115,7 +115,7 @@ fn compare_open(
     if outcome != 0 {
         return refused(2, outcome);
     }
-    compared(filter::values::held_equal(
+    compared(assertion::values::held_equal(
         schema,
         w,
         d,

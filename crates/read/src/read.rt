@@ -22,7 +22,7 @@ ghost use Rattle.rules.specs.Answer as Answer;
 ghost use Rattle.rules.specs.declared.Found.the-variants.{At};
 ghost use Rattle.access.specs.World.{World};
 ghost use Rattle.entry.specs.Values.{bytesAt};
-ghost use Rattle.filter.specs.Seen.{Ruled, Seen};
+ghost use Rattle.assertion.specs.Seen.{Ruled, Seen};
 ghost use Rattle.plan.specs.Plan.{planned};
 ghost use Rattle.plan.specs.Lent.{Lent, Base, Numbered, Sound};
 ghost use Rattle.read.specs.Read.{readable, asksNothing, readOutcome, readPlan};
@@ -45,7 +45,7 @@ fn readable_at(
     requires { ⌜ w ≤ 18 ⌝ }
     ensures { λ r. ⌜ ((σ : Setting) (n : Name) (s : Selection) → Ruled σ n (now (schema .entry)) w (now (p .entry)) (now (rights .entry)) (now (list .entry)) → s .listed ≡ listed → s .types ≡ now (wanted .entry) → s .values ≡ values → r ≡ readable σ s n (part t (bytesAt (now (d .entry)) place size))) ⌝ }
 {
-    if answer::information::selected(listed, wanted, t) {
+    if information::selected(listed, wanted, t) {
         if decision::granted_type(rights, list, t, READ) {
             if values {
                 let v = entry::bytes_at(d, place, size);
@@ -146,7 +146,7 @@ fn outcome_of(
     ) {
         return 0;
     }
-    if answer::information::discloses(rights, list, types, listed, wanted) {
+    if information::discloses(rights, list, types, listed, wanted) {
         return 2;
     }
     3

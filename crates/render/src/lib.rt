@@ -1,9 +1,9 @@
 // A plan written, line by line, each only where it fits: over an empty part of the buffer it tells the length of the answer.
-use answer::information::emit_information;
 use answer::line::emit;
 use answer::names::emit_child;
 use answer::names::emit_entry;
 use answer::names::emit_name;
+use information::emit_information;
 use plan::Plan;
 ghost use mathlib.Core.Path.{_≡_};
 ghost use Prim.Native.Nat.{ℕ, suc, _+_, _*_, _≤_, _<_, _^_};

@@ -7,7 +7,7 @@ use Rattle.rules.specs.Sheet.{Bytes, frontOf}
 use Rattle.rules.specs.Columns.{requestForms}
 use Rattle.rules.specs.declared.Front.{Front}
 use Rattle.rules.specs.declared.Front.the-variants.{Taken, NotInForm, End}
-use Rattle.sheet.specs.Columns.{inFormOf}
+use Rattle.form.specs.Columns.{inFormOf}
 use Rattle.request.specs.declared.line.Seen.{Seen}
 use Rattle.request.specs.declared.line.Seen.the-variants as Seen
 use Rattle.request.specs.declared.line.Seen.the-variants.{NotAllowed, Missing}

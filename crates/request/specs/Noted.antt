@@ -90,6 +90,7 @@ pub record Noted (w : ℕ) (q : Bytes) (x : Request) (r : Asked) : Type 0 where
   pub requester : NotedName w q (x .requester .name) (r .requester) (r .«requester_parts»)
   pub base : NotedName w q (x .base) (r .base) (r .«base_parts»)
   pub operation : NotedOperation w q (x .operation) r
+  pub short : length q ≤ 8192
 
 -- nothing is asked: the refusal `n`
 abbrev pub refused : ℕ → Asked

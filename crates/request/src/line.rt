@@ -58,7 +58,7 @@ pub fn seen_at(q: &[u8], at: usize, w: usize) -> Seen
             c,
             length,
         } => {
-            if sheet::columns::request_columns(kind, a, b, c, length) {
+            if form::columns::request_columns(kind, a, b, c, length) {
                 let next = at + (5 * w + 1 + length);
                 Seen::Line {
                     kind,

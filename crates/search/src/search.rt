@@ -1,4 +1,4 @@
-// Search: the entries of the subset that the filter is true of, by number. Permissions are looked at before the filter.
+// Search: the entries of the subset that the filter is true of, by number. The filter's lines are read once; permissions are looked at before it.
 use super::returned::disclosed;
 use super::returned::returnable;
 use super::returned::returned;
@@ -25,6 +25,7 @@ ghost use Rattle.access.specs.Reach.{Parents};
 ghost use Rattle.access.specs.World.{World};
 ghost use Rattle.plan.specs.Plan.{planned};
 ghost use Rattle.plan.specs.Lent.{Lent, Base, Numbered, Sound};
+ghost use Rattle.assertion.specs.Lines.{Lines, Typed, positionAt};
 ghost use Rattle.search.specs.Passing.{Indices, passing};
 ghost use Rattle.search.specs.Hits.{matchesAt, foundAt};
 
@@ -42,7 +43,7 @@ fn within(parents: &[usize], b: usize, subset: u64, k: usize) -> bool
     access::reach::climbs(parents, b, k + 1)
 }
 
-// Is the filter at position `filter` of `q` true of the entry of index `k`, which the items of `list` concern?
+// Is the filter whose lines are `rows` true of the entry of index `k`, which the items of `list` concern?
 fn matching(
     schema: &[u64],
     w: usize,
@@ -52,15 +53,16 @@ fn matching(
     p: &[u8],
     rights: &[u64],
     q: &[u8],
-    filter: usize,
+    rows: &[u64],
+    lines: usize,
     k: usize,
     list: &[usize],
     types: &mut [u64],
     places: &mut [usize],
     sizes: &mut [usize],
 ) -> bool
-    requires { ⌜ (w ≤ 18) × (length (now d) ≤ 65536) × (k < length (now at)) × (length (now lengths) ≡ length (now at)) × (getD (now at) k 0 + (5 * w + 1 + getD (now lengths) k 0) ≤ length (now d)) × (length (now places) ≡ length (now types)) × (length (now sizes) ≡ length (now types)) × (length (now d) ≤ (5 * w + 1) * length (now types)) ⌝ }
-    ensures { λ r. ⌜ ((σ : Setting) (es : List Stored) (parents naming scopes reach : List ℕ) (f : Filter) → World σ es (now (schema .entry)) w (now (d .entry)) (now (at .entry)) parents naming (now (lengths .entry)) (now (p .entry)) (now (rights .entry)) scopes reach → Chosen σ (getD es k blank .name) (now (list .entry)) → Request.filter 16 128 (linesAt w (now (q .entry)) filter) (λ f left rest. accept f) ≡ accept f → r ≡ matchesAt σ es f k) ⌝ }
+    requires { ⌜ Lines w (now q) (now rows) lines × Typed (now schema) (now rows) lines × (w ≤ 18) × (length (now d) ≤ 65536) × (k < length (now at)) × (length (now lengths) ≡ length (now at)) × (getD (now at) k 0 + (5 * w + 1 + getD (now lengths) k 0) ≤ length (now d)) × (length (now places) ≡ length (now types)) × (length (now sizes) ≡ length (now types)) × (length (now d) ≤ (5 * w + 1) * length (now types)) ⌝ }
+    ensures { λ r. ⌜ ((σ : Setting) (es : List Stored) (parents naming scopes reach : List ℕ) (f : Filter) → World σ es (now (schema .entry)) w (now (d .entry)) (now (at .entry)) parents naming (now (lengths .entry)) (now (p .entry)) (now (rights .entry)) scopes reach → Chosen σ (getD es k blank .name) (now (list .entry)) → Request.filter 16 128 (linesAt w (now (q .entry)) (positionAt (now (rows .entry)) 0)) (λ f left rest. accept f) ≡ accept f → r ≡ matchesAt σ es f k) ⌝ }
 {
     let n = values(w, d, at, lengths, k, types, places, sizes);
     filter::tree::matches(
@@ -74,7 +76,8 @@ fn matching(
         &places[0..n],
         &sizes[0..n],
         q,
-        filter,
+        rows,
+        lines,
     )
 }
 
@@ -92,15 +95,16 @@ fn found_at(
     b: usize,
     subset: u64,
     q: &[u8],
-    filter: usize,
+    rows: &[u64],
+    lines: usize,
     k: usize,
     list: &mut [usize],
     types: &mut [u64],
     places: &mut [usize],
     sizes: &mut [usize],
 ) -> bool
-    requires { ⌜ Lent w (now d) (now at) (now parents) (now lengths) (now reach) (now list) (now types) (now places) (now sizes) × (k < length (now parents)) ⌝ }
-    ensures { λ r. ⌜ ((σ : Setting) (es : List Stored) (naming scopes : List ℕ) (f : Filter) → World σ es (now (schema .entry)) w (now (d .entry)) (now (at .entry)) (now (parents .entry)) naming (now (lengths .entry)) (now (p .entry)) (now (rights .entry)) scopes (now (reach .entry)) → Request.filter 16 128 (linesAt w (now (q .entry)) filter) (λ f left rest. accept f) ≡ accept f → r ≡ foundAt σ es b subset f k) ⌝ }
+    requires { ⌜ Lent w (now d) (now at) (now parents) (now lengths) (now reach) (now list) (now types) (now places) (now sizes) × (k < length (now parents)) × Lines w (now q) (now rows) lines × Typed (now schema) (now rows) lines ⌝ }
+    ensures { λ r. ⌜ ((σ : Setting) (es : List Stored) (naming scopes : List ℕ) (f : Filter) → World σ es (now (schema .entry)) w (now (d .entry)) (now (at .entry)) (now (parents .entry)) naming (now (lengths .entry)) (now (p .entry)) (now (rights .entry)) scopes (now (reach .entry)) → Request.filter 16 128 (linesAt w (now (q .entry)) (positionAt (now (rows .entry)) 0)) (λ f left rest. accept f) ≡ accept f → r ≡ foundAt σ es b subset f k) ⌝ }
 {
     if !within(parents, b, subset, k) {
         return false;
@@ -118,7 +122,8 @@ fn found_at(
         p,
         rights,
         q,
-        filter,
+        rows,
+        lines,
         k,
         &list[0..n],
         types,
@@ -141,15 +146,16 @@ fn found(
     b: usize,
     subset: u64,
     q: &[u8],
-    filter: usize,
+    rows: &[u64],
+    lines: usize,
     list: &mut [usize],
     types: &mut [u64],
     places: &mut [usize],
     sizes: &mut [usize],
     hits: &mut [usize],
 ) -> usize
-    requires { ⌜ Lent w (now d) (now at) (now parents) (now lengths) (now reach) (now list) (now types) (now places) (now sizes) × (length (now parents) ≤ length (now hits)) ⌝ }
-    ensures { λ n. ⌜ Indices (length (now (parents .entry))) n (now (hits .exit)) × ((σ : Setting) (es : List Stored) (naming scopes : List ℕ) (f : Filter) → World σ es (now (schema .entry)) w (now (d .entry)) (now (at .entry)) (now (parents .entry)) naming (now (lengths .entry)) (now (p .entry)) (now (rights .entry)) scopes (now (reach .entry)) → Request.filter 16 128 (linesAt w (now (q .entry)) filter) (λ f left rest. accept f) ≡ accept f → take n (now (hits .exit)) ≡ passing (foundAt σ es b subset f) (length es)) ⌝ }
+    requires { ⌜ Lent w (now d) (now at) (now parents) (now lengths) (now reach) (now list) (now types) (now places) (now sizes) × (length (now parents) ≤ length (now hits)) × Lines w (now q) (now rows) lines × Typed (now schema) (now rows) lines ⌝ }
+    ensures { λ n. ⌜ Indices (length (now (parents .entry))) n (now (hits .exit)) × ((σ : Setting) (es : List Stored) (naming scopes : List ℕ) (f : Filter) → World σ es (now (schema .entry)) w (now (d .entry)) (now (at .entry)) (now (parents .entry)) naming (now (lengths .entry)) (now (p .entry)) (now (rights .entry)) scopes (now (reach .entry)) → Request.filter 16 128 (linesAt w (now (q .entry)) (positionAt (now (rows .entry)) 0)) (λ f left rest. accept f) ≡ accept f → take n (now (hits .exit)) ≡ passing (foundAt σ es b subset f) (length es)) ⌝ }
 {
     let mut n: usize = 0;
     let mut k: usize = 0;
@@ -167,7 +173,8 @@ fn found(
             b,
             subset,
             q,
-            filter,
+            rows,
+            lines,
             k,
             list,
             types,
@@ -206,12 +213,14 @@ pub fn search(
     sizes: &mut [usize],
     hits: &mut [usize],
 ) -> Plan
-    requires { ⌜ Lent w (now d) (now at) (now parents) (now lengths) (now reach) (now list) (now types) (now places) (now sizes) × Numbered (length (now parents)) base missing × (length (now parents) ≤ length (now hits)) ⌝ }
+    requires { ⌜ Lent w (now d) (now at) (now parents) (now lengths) (now reach) (now list) (now types) (now places) (now sizes) × Numbered (length (now parents)) base missing × (length (now parents) ≤ length (now hits)) × (length (now q) ≤ (5 * w + 1) * 265) ⌝ }
     ensures { λ r. ⌜ Sound (length (now (parents .entry))) r (now (hits .exit)) × ((σ : Setting) (es : List Stored) (naming scopes : List ℕ) (n : Name) (s : Search) → World σ es (now (schema .entry)) w (now (d .entry)) (now (at .entry)) (now (parents .entry)) naming (now (lengths .entry)) (now (p .entry)) (now (rights .entry)) scopes (now (reach .entry)) → Base σ es n base missing → s .limit ≡ limit → s .subset ≡ subset → Request.filter 16 128 (linesAt w (now (q .entry)) filter) (λ f left rest. accept f) ≡ accept (s .filter) → planned σ es (s .selection) r (now (hits .exit)) ≡ answer σ (map entryOf es) n (Request.search s)) ⌝ }
 {
     let Found::At(b) = base else {
         return absent(4, missing);
     };
+    let mut rows: [u64; 1596] = [0; 1596];
+    let lines = assertion::lines::note(schema, w, q, filter, &mut rows);
     let count = found(
         schema,
         w,
@@ -225,7 +234,8 @@ pub fn search(
         b,
         subset,
         q,
-        filter,
+        &rows,
+        lines,
         list,
         types,
         places,

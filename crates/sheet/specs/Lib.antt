@@ -1,4 +1,1 @@
-pub mod Kinds
-pub mod Columns
-pub mod Put
 pub mod Laws

@@ -1,11 +1,7 @@
-// One line of a sheet: read at the front of the sheet's rest and shown as parts of the sheet, judged by its kind and
-// columns, and written into a lent buffer. The width of a column is a parameter of every function.
-mod bounds;
+// One line of a sheet: read at the front of the sheet's rest, or at a position, and shown as parts of the sheet. The width of a
+// column is a parameter of every function.
 mod column;
-pub mod columns;
-pub mod kind;
 pub mod reader;
-pub mod write;
 
 use column::column_at;
 use reader::Reader;

@@ -1,5 +1,5 @@
 // A number that equal values share and few others do, so that bytes are compared only where the numbers agree.
-use crate::compare::small;
+use collation::small;
 ghost use mathlib.Core.Path.{_≡_};
 ghost use Rattle.value.specs.Digest as Digest;
 

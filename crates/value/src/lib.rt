@@ -1,10 +1,10 @@
 // A value by its syntax: what the syntax allows, equality, order and substrings (document 01, "Values").
-mod compare;
 pub mod digest;
-mod numeral;
-mod pieces;
 mod text;
 
+use collation::INTEGER;
+use collation::OCTETS;
+use collation::TEXT;
 use rules::Found;
 use rules::Integer;
 use rules::Order;
@@ -12,26 +12,6 @@ ghost use mathlib.Core.Path.{_≡_};
 ghost use Prim.Native.Nat.{_≤_};
 ghost use lib.ListN.{length, drop};
 ghost use Rattle.rules.specs.Value as Value;
-
-// The syntaxes, by their numbers in K 1.
-pub const OCTETS: u64 = 0;
-
-pub const TEXT: u64 = 1;
-
-pub const INTEGER: u64 = 2;
-
-// The integer that a value writes.
-pub fn integer(v: &[u8]) -> Integer
-    ensures { λ r. ⌜ r ≡ Value.integerOf (now (v .entry)) ⌝ }
-{
-    if v.len() == 0 {
-        return Integer::NotAnInteger;
-    }
-    if v[0] == 45 {
-        return numeral::negative(numeral::number(v, 1));
-    }
-    numeral::positive(numeral::number(v, 0))
-}
 
 // Whether the syntax allows the value.
 pub fn fits(syntax: u64, v: &[u8]) -> bool
@@ -44,7 +24,7 @@ pub fn fits(syntax: u64, v: &[u8]) -> bool
     if syntax == TEXT {
         return sized & text::printable(v);
     }
-    let Integer::Value(_) = integer(v) else {
+    let Integer::Value(_) = numeral::integer(v) else {
         return false;
     };
     true
@@ -57,7 +37,7 @@ pub fn same(syntax: u64, v: &[u8], w: &[u8]) -> bool
     if v.len() != w.len() {
         return false;
     }
-    compare::common(syntax, v, w) == v.len()
+    collation::common(syntax, v, w) == v.len()
 }
 
 // Whether the syntax has an ordering rule.
@@ -72,9 +52,9 @@ pub fn order(syntax: u64, v: &[u8], w: &[u8]) -> Order
     ensures { λ r. ⌜ r ≡ Value.order syntax (now (v .entry)) (now (w .entry)) ⌝ }
 {
     if syntax == INTEGER {
-        return numeral::order_integers(integer(v), integer(w));
+        return numeral::order_integers(numeral::integer(v), numeral::integer(w));
     }
-    compare::order_bytes(syntax, v, w)
+    collation::order_bytes(syntax, v, w)
 }
 
 // Whether the syntax has a substrings rule.
@@ -91,18 +71,18 @@ pub fn piece_end(v: &[u8], from: usize, place: u64, p: &[u8]) -> Found
     ensures { λ r. ⌜ r ≡ Value.used place (Value.normal Value.text (now (p .entry))) (drop from (Value.normal Value.text (now (v .entry)))) ⌝ }
 {
     if place == 0 {
-        if pieces::stands(v, from, p) {
+        if substring::stands(v, from, p) {
             return Found::At(p.len());
         }
         return Found::Nothing;
     }
     if place == 1 {
-        return pieces::any(v, from, p);
+        return substring::any(v, from, p);
     }
     if v.len() - from < p.len() {
         return Found::Nothing;
     }
-    if pieces::stands(v, v.len() - p.len(), p) {
+    if substring::stands(v, v.len() - p.len(), p) {
         return Found::At(v.len() - from);
     }
     Found::Nothing

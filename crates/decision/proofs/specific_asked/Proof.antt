@@ -1,4 +1,4 @@
-use Rattle.decision.specs.Grants.{specificAsked}
+use Rattle.decision.specs.Grants.{askedOfType}
 use borrow.Author.Needs.{needs}
 use Rattle.decision.proofs.specific_asked.Statement.{statement}
 use Rattle.decision.proofs.specific_asked.Tie as tie
@@ -34,12 +34,12 @@ permitted-requires : tie.Need-permitted-requires
 permitted-requires c κs = search needs
 
 returns : tie.Need-returns
-unfolding specificAsked
+unfolding askedOfType
 returns c =
     rw (c .before .before .if1 .taken) (c .permitted .ensures)
 
 returns-2 : tie.Need-returns-2
-unfolding specificAsked
+unfolding askedOfType
 returns-2 c =
     rw (c .if1 .left)
 

@@ -63,7 +63,7 @@ slice-aggregate-entry-line-3 c = let st = c .before .before .before .before .bef
 
 -- src/lib.rt:97:13
 entry-line-requires : tie.Need-entry-line-requires Inv-loop μ-loop
-entry-line-requires c κs = let st = c .before .before .before .before .before .before .loop .inv .3 in let f = taken-fits _ (now (c .before .before .before .before .before .before .before .before .before .args .s)) (c .before .before .before .before .before .before .loop .i) (sym (st .stands) ∙ (c .before .before .before .before .front .given .1)) in (record { all = c .before .before .before .before .before .before .loop .inv .2; ready = st .ready; within = record { size = f .0; line = f .1 } }, st .counted .most, st .sized .levels)
+entry-line-requires c κs = let st = c .before .before .before .before .before .before .loop .inv .3 in let f = taken-fits _ (now (c .before .before .before .before .before .before .before .before .before .args .s)) (c .before .before .before .before .before .before .loop .i) (sym (st .stands) ∙ (c .before .before .before .before .front .given .1)) in (record { all = c .before .before .before .before .before .before .loop .inv .2; ready = st .ready; within = record { key = omega arith; size = f .0; line = f .1 } }, st .counted .most, st .sized .levels)
 
 -- src/lib.rt:114:13
 refused-requires-2 : tie.Need-refused-requires-2 Inv-loop μ-loop

@@ -116,7 +116,7 @@ returns-3 c = let a = c .before .before .before .before .before .before .before 
 
 -- src/lib.rt:114:5
 search-requires : tie.Need-search-requires
-search-requires c κs = let a = c .before .before .before .before .before .before .before .before .before .before .before .before .before .before .before .before .before .before .before .before .before .before .before .before .before .before .args in let P = c .before .before .before .before .before .before .before .before .before .before .before .before .before .before .before .before .before .before .before .before .before .before .before .before .before .before .pre in let e = P .0 .parents-noted in (P .0, numbered-by (a .base) (a .missing) e (P .1), omega (arith, e, P .2))
+search-requires c κs = let a = c .before .before .before .before .before .before .before .before .before .before .before .before .before .before .before .before .before .before .before .before .before .before .before .before .before .before .args in let P = c .before .before .before .before .before .before .before .before .before .before .before .before .before .before .before .before .before .before .before .before .before .before .before .before .before .before .pre in let e = P .0 .parents-noted in (P .0, numbered-by (a .base) (a .missing) e (P .1), omega (arith, e, P .2), omega (arith, P .0 .narrow, P .3 .1 .short))
 
 -- src/lib.rt:35:1
 same-length-11 : tie.Need-same-length-11

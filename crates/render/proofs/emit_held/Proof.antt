@@ -21,7 +21,7 @@ use Rattle.render.proofs.emit_held.Tie as tie
 use Rattle.render.proofs.emit_held.Reads as reads
 use Rattle.render.proofs.emit_held.Lts as lts
 use Rattle.access.proofs.reach.select.Reads as select-reads
-use Rattle.answer.proofs.information.emit_information.Reads as emit-information-reads
+use Rattle.information.proofs.emit_information.Reads as emit-information-reads
 use Rattle.plan.proofs.opened.values.Reads as values-reads
 
 -- src/lib.rt:83:9
@@ -96,7 +96,7 @@ part-emit-information-end-4 c = search (needs, c .before .before .before .before
 emit-information-requires : tie.Need-emit-information-requires
 emit-information-requires c κs = let L = c .before .before .before .before .before .before .before .before .before .before .before .before .before .before .before .before .before .before .before .before .before .before .before .before .before .before .before .before .before .before .before .before .before .before .before .before .before .before .pre .0 in
     let v = c .before .before .before .before .before .before .before .before .before .before .before .before .before .before .before .values in (
-      L .narrow,
+      omega (arith, L .narrow),
       L .wide,
       c .before .before .before .before .before .before .before .before .before .before .before .before .before .before .before .before .before .before .before .before .before .before .before .before .before .before .before .before .before .before .before .before .before .before .before .before .before .before .pre .1,
       L .small,

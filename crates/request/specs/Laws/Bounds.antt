@@ -7,7 +7,7 @@ use lib.Dec.{leb}
 use borrow.Author.Tests.{leb-true, eqb-true}
 use Rattle.rules.specs.Columns.{Form, form, between, exactly, unnamed, free, parts, inRange, requestForms}
 use Rattle.rules.specs.Laws.Tests.{and-left, and-right}
-use Rattle.sheet.specs.Columns.{fits, inFormOf}
+use Rattle.form.specs.Columns.{fits, inFormOf}
 
 -- one of two tests passed
 either : {P : Type 0} (x y : Bool) → (x ≡ true → P) → (y ≡ true → P) → (x || y) ≡ true → P

@@ -17,8 +17,8 @@ use Rattle.rules.specs.Places.{linesAt, partsOf, typesOf}
 use Rattle.rules.specs.Laws.Sheet.{lines-taken, lines-broken, lines-end, taken-fits}
 use Rattle.rules.specs.declared.Front.{Front}
 use Rattle.rules.specs.declared.Front.the-variants.{Taken, NotInForm, End}
-use Rattle.sheet.specs.Columns.{inFormOf}
-use Rattle.sheet.specs.Laws.Columns.{taken-in-form}
+use Rattle.form.specs.Columns.{inFormOf}
+use Rattle.form.specs.Laws.Columns.{taken-in-form}
 use Rattle.request.specs.declared.line.Seen.{Seen}
 use Rattle.request.specs.declared.line.Seen.the-variants as Seen
 use Rattle.request.specs.declared.line.Seen.the-variants.{NotAllowed, Missing}

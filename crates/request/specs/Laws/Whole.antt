@@ -6,7 +6,7 @@ use mathlib.Core.List.{List, [], _∷_}
 use native.Mathlib.Omega.{arith}
 use lib.Dec.{ltb, eqb}
 use lib.ListN.{length}
-use borrow.Author.Tests.{eqb-true, eqb-false}
+use borrow.Author.Tests.{eqb-true, eqb-false, ltb-false}
 use Rattle.rules.specs.Sheet.{Bytes, Line, Sheet}
 use Rattle.rules.specs.Judge.{Verdict, accept, refuse, refusalOf, refuseIf, misplaced, atEnd, due, dueLines, nameOf}
 use Rattle.rules.specs.Laws.Judge.{refused-not, accepted-is}
@@ -95,7 +95,7 @@ module _ (w : ℕ) (q : Bytes) where
   ending : Operation → Sheet → Verdict Request
   ending o s = atEnd (requestWith o) s (misplaced requestGrammar s)
 
-  module _ (zero-requester : requester .refusal ≡ 0) (zero-base : base .refusal ≡ 0) where
+  module _ (short : length q ≤ 8192) (zero-requester : requester .refusal ≡ 0) (zero-base : base .refusal ≡ 0) where
     -- the operation's lines and the end
     body-meets : Meets w q (operation (headAt w q (requester .next) 11) (linesAt w q (base .next)) ending) (withBody w q requester base body)
     unfolding ending requestWith
@@ -124,6 +124,7 @@ module _ (w : ℕ) (q : Bytes) where
               requester = name-noted 0 10 zero-requester (requester-columns _ _ _ _ (g₁ .allowed));
               base = name-noted (requester .next) 11 zero-base (columns .0);
               operation = f .1 requester base (sym (g₂ .a)) (sym (g₂ .c)) (columns .3);
+              short = short;
             }))
         by false e l = rw (l .refused (eqb-false _ 0 e) Request ending, e) (meets-refused (body .refusal) (eqb-false _ 0 e))
 
@@ -137,14 +138,14 @@ module _ (w : ℕ) (q : Bytes) where
       atEnd (record { requester = record { level = headAt w q 0 10 .a; name = nameOf (followers w q requester) }; base = nameOf base; operation = o }) s (misplaced requestGrammar s)))
 
   -- a sheet that is not too long
-  request-meets : Meets w q (request (linesAt w q 0)) (withRequester w q requester)
-  request-meets = rw request-is (meets-unless (requester .refusal) (λ z. meets-unless (base .refusal) (λ y. body-meets z y)))
+  request-meets : length q ≤ 8192 → Meets w q (request (linesAt w q 0)) (withRequester w q requester)
+  request-meets short = rw request-is (meets-unless (requester .refusal) (λ z. meets-unless (base .refusal) (λ y. body-meets short z y)))
 
-  asked-by : (t : Bool) → Meets w q (refuseIf t 21 (request (linesAt w q 0))) (cond t (refused 21) (withRequester w q requester))
-  asked-by true = meets-refused 21 (λ z. omega arith)
-  asked-by false = request-meets
+  asked-by : (t : Bool) → ltb 8192 (length q) ≡ t → Meets w q (refuseIf t 21 (request (linesAt w q 0))) (cond t (refused 21) (withRequester w q requester))
+  asked-by true e = meets-refused 21 (λ z. omega arith)
+  asked-by false e = request-meets (ltb-false 8192 (length q) e)
 
   -- what the code does is what `judge` promises
   pub asked-judged : Judged w q (askedOf w q)
   unfolding askedOf requestOf
-  asked-judged = let m = asked-by (ltb 8192 (length q)) in record { refusal = m .refusal; noted = m .noted; accepted = m .accepted; nothing = m .nothing }
+  asked-judged = let m = asked-by (ltb 8192 (length q)) refl in record { refusal = m .refusal; noted = m .noted; accepted = m .accepted; nothing = m .nothing }

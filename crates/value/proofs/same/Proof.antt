@@ -1,7 +1,7 @@
 -- Values of one length are equal where the beginning that they share is all of them.
 use mathlib.Core.Path.{sym}
 use denote.Ref.{now}
-use Rattle.value.specs.Compare.{same-common, same-never}
+use Rattle.collation.specs.Compare.{same-common, same-never}
 use borrow.Author.Needs.{needs}
 use Rattle.value.proofs.same.Statement.{statement}
 use Rattle.value.proofs.same.Tie as tie

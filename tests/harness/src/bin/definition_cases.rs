@@ -139,7 +139,11 @@ fn bytes(sheet: &[u8]) -> String {
     text + "\")"
 }
 
-fn write_crate(folder: &Path, opened: &[(String, Vec<String>)], theorems: &[String]) -> io::Result<()> {
+fn write_crate(
+    folder: &Path,
+    opened: &[(String, Vec<String>)],
+    theorems: &[String],
+) -> io::Result<()> {
     fs::create_dir_all(folder.join("specs"))?;
     fs::create_dir_all(folder.join("src"))?;
     fs::write(folder.join("src/lib.rt"), "// Cases as theorems.\n")?;

@@ -41,7 +41,7 @@ value-at-requires c κs = let s = c .before .before .before .before .before .bef
 -- src/names.rt:33:5
 emit-requires : tie.Need-emit-requires
 emit-requires c κs = let s = c .before .before .before .before .before .before .before .before .before .before .before in
-    (s .pre .0 .narrow, s .pre .0 .wide, omega (arith, s .pre .1, naming-short (s .args .w) (now (s .args .d)) (now (s .args .positions)) (now (s .args .parents)) (now (s .args .naming)) (now (s .args .lengths)) (s .pre .0) (s .args .k) (s .pre .2) _ (c .value-at .ensures)))
+    (omega (arith, s .pre .0 .narrow), s .pre .0 .wide, omega (arith, s .pre .1, naming-short (s .args .w) (now (s .args .d)) (now (s .args .positions)) (now (s .args .parents)) (now (s .args .naming)) (now (s .args .lengths)) (s .pre .0) (s .args .k) (s .pre .2) _ (c .value-at .ensures)))
 
 -- src/names.rt:18:1
 same-length : tie.Need-same-length

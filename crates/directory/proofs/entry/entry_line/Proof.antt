@@ -15,7 +15,7 @@ use Rattle.directory.proofs.entry.misplaced.Reads as misplaced-reads
 use Rattle.directory.proofs.entry.refusing.Reads as refusing-reads
 use Rattle.directory.proofs.entry.ruled.Reads as ruled-reads
 use Rattle.directory.proofs.schema.rank.Reads as rank-reads
-use Rattle.sheet.proofs.columns.directory_columns.Reads as directory-columns-reads
+use Rattle.form.proofs.columns.directory_columns.Reads as directory-columns-reads
 
 -- src/entry.rt:92:9
 directory-columns-requires : tie.Need-directory-columns-requires

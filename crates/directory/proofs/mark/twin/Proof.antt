@@ -1,12 +1,11 @@
 -- Of the marks newer than number `k` in the bucket none is a twin.
 use borrow.Author.Tests.{eq-eqb, ne-eqb, le-leb, lt-leb, lt-ltb, le-ltb, not-true, not-false}
-use Rattle.directory.specs.Mark as Mark
 use Rattle.directory.specs.Mark.{Mark, Walk, Left, start, index, here, gone, found, onward, readable, older}
 use lib.ListN.{length, getD, drop}
 use mathlib.Core.List.{List}
 use mathlib.Core.Path.{_≡_, refl, sym, ap, ap₂, _∙_}
 use native.Mathlib.Omega.{arith}
-use Prim.Native.Nat.{_+_, _*_, _/_, _%_, _-_, _≤_, _<_}
+use Prim.Native.Nat.{ℕ, _+_, _*_, _/_, _%_, _-_, _≤_, _<_}
 use denote.Ref.{now}
 use borrow.Author.Needs.{needs}
 use Rattle.directory.proofs.mark.twin.Statement.{statement}
@@ -16,14 +15,14 @@ use Rattle.directory.proofs.mark.twin.Lts as lts
 use Rattle.directory.proofs.mark.bears.Reads as bears-reads
 
 abbrev Inv-loop : tie.InvT-loop
-Inv-loop s w marks head key syntax v k₀ k = (all : List Mark) → Walk w s marks head (Mark.bucketAt key v) all → (rest : List Mark) × Left w s marks syntax key v k all rest
+Inv-loop s w marks head label syntax v k₀ k = (key : ℕ) (all : List Mark) → Walk w s marks head label key v all → (rest : List Mark) × Left w s marks syntax key v k all rest
 
 abbrev μ-loop : tie.MeasureT-loop
-μ-loop s w marks head key syntax v k₀ k = k
+μ-loop s w marks head label syntax v k₀ k = k
 
 -- src/mark.rt:39:5
 loop-holds : tie.Need-loop-holds Inv-loop μ-loop
-loop-holds c = λ all walk. start walk
+loop-holds c = λ key all walk. start walk
 
 -- src/mark.rt:40:23
 sub-m : tie.Need-sub-m Inv-loop μ-loop
@@ -31,31 +30,31 @@ sub-m c = search needs
 
 -- src/mark.rt:40:17
 mul-m : tie.Need-mul-m Inv-loop μ-loop
-mul-m c = let q = c .before .loop .inv (c .before .before .before .before .before .pre .0) (c .before .before .before .before .before .pre .1) in omega (arith, index (c .before .before .before .before .before .pre .1) (q .0) (q .1) (c .loop-test .taken))
+mul-m c = let q = c .before .loop .inv (c .before .before .before .before .before .pre .0) (c .before .before .before .before .before .pre .1) (c .before .before .before .before .before .pre .2) in omega (arith, index (c .before .before .before .before .before .pre .2) (q .0) (q .1) (c .loop-test .taken))
 
 -- src/mark.rt:40:17
 shared-slice-read-m : tie.Need-shared-slice-read-m Inv-loop μ-loop
-shared-slice-read-m c = let q = c .before .before .loop .inv (c .before .before .before .before .before .before .pre .0) (c .before .before .before .before .before .before .pre .1) in omega (arith, index (c .before .before .before .before .before .before .pre .1) (q .0) (q .1) (c .before .loop-test .taken))
+shared-slice-read-m c = let q = c .before .before .loop .inv (c .before .before .before .before .before .before .pre .0) (c .before .before .before .before .before .before .pre .1) (c .before .before .before .before .before .before .pre .2) in omega (arith, index (c .before .before .before .before .before .before .pre .2) (q .0) (q .1) (c .before .loop-test .taken))
 
 -- src/mark.rt:41:12
 bears-requires : tie.Need-bears-requires Inv-loop μ-loop
-bears-requires c κs = let q = c .before .before .loop .inv (c .before .before .before .before .before .before .pre .0) (c .before .before .before .before .before .before .pre .1) in let h = here (c .before .before .before .before .before .before .pre .1) (q .0) (q .1) (c .before .loop-test .taken) in readable (c .before .before .before .before .before .before .pre .1) (h .2)
+bears-requires c κs = let q = c .before .before .loop .inv (c .before .before .before .before .before .before .pre .0) (c .before .before .before .before .before .before .pre .1) (c .before .before .before .before .before .before .pre .2) in let h = here (c .before .before .before .before .before .before .pre .2) (q .0) (q .1) (c .before .loop-test .taken) in readable (c .before .before .before .before .before .before .pre .2) (h .2)
 
 -- src/mark.rt:42:13
 returns : tie.Need-returns Inv-loop μ-loop
-returns c = λ all walk. let q = c .before .before .before .before .loop .inv all walk in let h = here walk (q .0) (q .1) (c .before .before .before .loop-test .taken) in found walk (h .2) (sym (c .before .bears .ensures) ∙ c .if1 .taken)
+returns c = λ key all walk. let q = c .before .before .before .before .loop .inv key all walk in let h = here walk (q .0) (q .1) (c .before .before .before .loop-test .taken) in found walk (h .2) (sym (c .before .bears .ensures) ∙ c .if1 .taken)
 
 -- src/mark.rt:39:5
 loop-less : tie.Need-loop-less Inv-loop μ-loop
-loop-less c = let q = c .before .before .before .before .loop .inv (c .before .before .before .before .before .before .before .before .pre .0) (c .before .before .before .before .before .before .before .before .pre .1) in let h = here (c .before .before .before .before .before .before .before .before .pre .1) (q .0) (q .1) (c .before .before .before .loop-test .taken) in older (c .before .before .before .before .before .before .before .before .pre .1) (h .2)
+loop-less c = let q = c .before .before .before .before .loop .inv (c .before .before .before .before .before .before .before .before .pre .0) (c .before .before .before .before .before .before .before .before .pre .1) (c .before .before .before .before .before .before .before .before .pre .2) in let h = here (c .before .before .before .before .before .before .before .before .pre .2) (q .0) (q .1) (c .before .before .before .loop-test .taken) in older (c .before .before .before .before .before .before .before .before .pre .2) (h .2)
 
 -- src/mark.rt:39:5
 loop-again : tie.Need-loop-again Inv-loop μ-loop
-loop-again c = λ all walk. let q = c .before .before .before .before .loop .inv all walk in let h = here walk (q .0) (q .1) (c .before .before .before .loop-test .taken) in onward walk (h .2) (sym (c .before .bears .ensures) ∙ c .if1 .left)
+loop-again c = λ key all walk. let q = c .before .before .before .before .loop .inv key all walk in let h = here walk (q .0) (q .1) (c .before .before .before .loop-test .taken) in onward walk (h .2) (sym (c .before .bears .ensures) ∙ c .if1 .left)
 
 -- src/mark.rt:34:1
 returns-2 : tie.Need-returns-2 Inv-loop μ-loop
-returns-2 c = λ all walk. let q = c .before .loop .inv all walk in gone walk (q .0) (q .1) (c .loop-test .left)
+returns-2 c = λ key all walk. let q = c .before .loop .inv key all walk in gone walk (q .0) (q .1) (c .loop-test .left)
 
 pub twin-spec : {M : Type 1} → statement M
 twin-spec =

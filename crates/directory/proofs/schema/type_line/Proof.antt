@@ -6,7 +6,7 @@ use Rattle.directory.proofs.schema.type_line.Statement.{statement}
 use Rattle.directory.proofs.schema.type_line.Tie as tie
 use Rattle.directory.proofs.schema.type_line.Reads as reads
 use Rattle.directory.proofs.schema.type_line.Lts as lts
-use Rattle.sheet.proofs.columns.directory_columns.Reads as directory-columns-reads
+use Rattle.form.proofs.columns.directory_columns.Reads as directory-columns-reads
 
 -- src/schema.rt:54:9
 directory-columns-requires : tie.Need-directory-columns-requires

@@ -82,7 +82,7 @@ returns-2 c = λ complete d ms b. let g = c .before .before .before .before .bef
 
 -- src/values.rt:102:13
 value-line-requires : tie.Need-value-line-requires Inv-loop μ-loop
-value-line-requires c κs = let g = c .before .before .before .before .before .before .before .loop .inv .2 (c .before .before .before .before .before .before .before .before .before .before .before .before .before .before .pre .complete) (c .before .before .before .before .before .before .before .before .before .before .before .before .before .before .pre .entry) (c .before .before .before .before .before .before .before .before .before .before .before .before .before .before .pre .all) (c .before .before .before .before .before .before .before .before .before .before .before .before .before .before .pre .begun) in let f = taken-fits _ (now (c .before .before .before .before .before .before .before .before .before .before .before .before .before .before .args .s)) (c .before .before .before .before .before .before .before .loop .i) (of-kind 3 (sym (c .before .before .before .before .before .before .line-at .ensures) ∙ c .before .before .before .before .front .given .1) (c .before .before .if1 .left)) in (record { all = g .1; ready = g .2 .ready; within = record { size = f .0; line = f .1 } }, c .before .before .before .before .before .before .before .before .before .before .before .before .before .before .pre .begun .most, g .2 .low)
+value-line-requires c κs = let g = c .before .before .before .before .before .before .before .loop .inv .2 (c .before .before .before .before .before .before .before .before .before .before .before .before .before .before .pre .complete) (c .before .before .before .before .before .before .before .before .before .before .before .before .before .before .pre .entry) (c .before .before .before .before .before .before .before .before .before .before .before .before .before .before .pre .all) (c .before .before .before .before .before .before .before .before .before .before .before .before .before .before .pre .begun) in let f = taken-fits _ (now (c .before .before .before .before .before .before .before .before .before .before .before .before .before .before .args .s)) (c .before .before .before .before .before .before .before .loop .i) (of-kind 3 (sym (c .before .before .before .before .before .before .line-at .ensures) ∙ c .before .before .before .before .front .given .1) (c .before .before .if1 .left)) in (record { all = g .1; ready = g .2 .ready; within = record { key = omega arith; size = f .0; line = f .1 } }, c .before .before .before .before .before .before .before .before .before .before .before .before .before .before .pre .begun .most, g .2 .low)
 
 -- src/values.rt:104:13
 same-length-5 : tie.Need-same-length-5 Inv-loop μ-loop

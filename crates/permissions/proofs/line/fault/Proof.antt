@@ -2,7 +2,7 @@
 use mathlib.Core.Path.{sym, _∙_}
 use borrow.Author.Tests.{eq-eqb, ne-eqb, not-true, not-false}
 use borrow.Author.Needs.{needs}
-use Rattle.sheet.proofs.columns.permission_columns.Reads as permission-columns-reads
+use Rattle.form.proofs.columns.permission_columns.Reads as permission-columns-reads
 use Rattle.permissions.specs.Steps.{faultOf}
 use Rattle.permissions.proofs.line.fault.Statement.{statement}
 use Rattle.permissions.proofs.line.fault.Tie as tie

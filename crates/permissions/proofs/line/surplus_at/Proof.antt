@@ -1,7 +1,7 @@
 -- What stands at the position decides.
 use mathlib.Core.Path.{sym, _∙_}
 use borrow.Author.Needs.{needs}
-use Rattle.sheet.proofs.columns.permission_columns.Reads as permission-columns-reads
+use Rattle.form.proofs.columns.permission_columns.Reads as permission-columns-reads
 use Rattle.sheet.proofs.line_at.Reads as line-at-reads
 use Rattle.permissions.specs.Steps.{surplusOf}
 use Rattle.permissions.proofs.line.surplus_at.Statement.{statement}

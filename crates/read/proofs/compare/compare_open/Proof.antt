@@ -12,7 +12,7 @@ use Rattle.read.proofs.compare.compare_open.Statement.{statement}
 use Rattle.read.proofs.compare.compare_open.Tie as tie
 use Rattle.read.proofs.compare.compare_open.Reads as reads
 use Rattle.read.proofs.compare.compare_open.Lts as lts
-use Rattle.filter.proofs.values.held_equal.Reads as held-equal-reads
+use Rattle.assertion.proofs.values.held_equal.Reads as held-equal-reads
 use Rattle.read.proofs.compare.compared.Reads as compared-reads
 use Rattle.read.proofs.compare.outcome_of.Reads as outcome-of-reads
 use Rattle.plan.proofs.outcome.refused.Reads as refused-reads

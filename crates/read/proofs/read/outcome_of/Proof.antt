@@ -6,7 +6,7 @@ use Rattle.read.proofs.read.outcome_of.Statement.{statement}
 use Rattle.read.proofs.read.outcome_of.Tie as tie
 use Rattle.read.proofs.read.outcome_of.Reads as reads
 use Rattle.read.proofs.read.outcome_of.Lts as lts
-use Rattle.answer.proofs.information.discloses.Reads as discloses-reads
+use Rattle.information.proofs.discloses.Reads as discloses-reads
 use Rattle.read.proofs.read.asks_nothing.Reads as asks-nothing-reads
 use Rattle.read.proofs.read.readable_any.Reads as readable-any-reads
 

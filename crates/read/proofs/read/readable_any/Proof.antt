@@ -1,5 +1,5 @@
 use Rattle.read.specs.Read.{readable, readable-here, readable-on, readable-end}
-use Rattle.filter.specs.Seen.{Seen}
+use Rattle.assertion.specs.Seen.{Seen}
 use Rattle.rules.specs.Lists.{any}
 use Rattle.rules.specs.Name.{Part, Name}
 use Rattle.rules.specs.Decision.{Setting}

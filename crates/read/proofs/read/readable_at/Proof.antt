@@ -11,7 +11,7 @@ use Rattle.read.proofs.read.readable_at.Reads as reads
 use Rattle.read.proofs.read.readable_at.Lts as lts
 use Rattle.decision.proofs.granted_type.Reads as granted-type-reads
 use Rattle.decision.proofs.granted_value.Reads as granted-value-reads
-use Rattle.answer.proofs.information.selected.Reads as selected-reads
+use Rattle.information.proofs.selected.Reads as selected-reads
 use Rattle.entry.proofs.bytes_at.Reads as bytes-at-reads
 
 -- src/read.rt:53:8

@@ -9,7 +9,7 @@ use Rattle.request.proofs.line.seen_at.Statement.{statement}
 use Rattle.request.proofs.line.seen_at.Tie as tie
 use Rattle.request.proofs.line.seen_at.Reads as reads
 use Rattle.request.proofs.line.seen_at.Lts as lts
-use Rattle.sheet.proofs.columns.request_columns.Reads as request-columns-reads
+use Rattle.form.proofs.columns.request_columns.Reads as request-columns-reads
 use Rattle.sheet.proofs.line_at.Reads as line-at-reads
 
 -- src/line.rt:53:11

@@ -1,3 +1,4 @@
+use Rattle.assertion.specs.Lines.{positionAt}
 use Rattle.plan.specs.Lent.{lent-again}
 use Rattle.search.specs.Passing.{Indices, passing, no-indices, index-in, index-out, pass-in, pass-out}
 use Rattle.search.specs.Hits.{foundAt}
@@ -23,11 +24,11 @@ use Rattle.search.proofs.search.found.Lts as lts
 use Rattle.search.proofs.search.found_at.Reads as found-at-reads
 
 abbrev Inv-loop : tie.InvT-loop
-Inv-loop schema w d at parents lengths p rights reach b subset q filter list₀ types₀ places₀ sizes₀ hits₀ n₀ k₀ list types places sizes hits n k = (k ≤ length parents) × (length list ≡ length list₀) × (length types ≡ length types₀) × (length places ≡ length places₀) × (length sizes ≡ length sizes₀) × (length hits ≡ length hits₀) × Indices k n hits
-    × ((σ : Setting) (es : List Stored) (naming scopes : List ℕ) (f : Filter) → World σ es schema w d at parents naming lengths p rights scopes reach → Request.filter 16 128 (linesAt w q filter) (λ f left rest. accept f) ≡ accept f → take n hits ≡ passing (foundAt σ es b subset f) k)
+Inv-loop schema w d at parents lengths p rights reach b subset q rows lines list₀ types₀ places₀ sizes₀ hits₀ n₀ k₀ list types places sizes hits n k = (k ≤ length parents) × (length list ≡ length list₀) × (length types ≡ length types₀) × (length places ≡ length places₀) × (length sizes ≡ length sizes₀) × (length hits ≡ length hits₀) × Indices k n hits
+    × ((σ : Setting) (es : List Stored) (naming scopes : List ℕ) (f : Filter) → World σ es schema w d at parents naming lengths p rights scopes reach → Request.filter 16 128 (linesAt w q (positionAt rows 0)) (λ f left rest. accept f) ≡ accept f → take n hits ≡ passing (foundAt σ es b subset f) k)
 
 abbrev μ-loop : tie.MeasureT-loop
-μ-loop schema w d at parents lengths p rights reach b subset q filter list₀ types₀ places₀ sizes₀ hits₀ n₀ k₀ list types places sizes hits n k = length parents - k
+μ-loop schema w d at parents lengths p rights reach b subset q rows lines list₀ types₀ places₀ sizes₀ hits₀ n₀ k₀ list types places sizes hits n k = length parents - k
 
 -- src/search.rt:157:5
 loop-holds : tie.Need-loop-holds Inv-loop μ-loop
@@ -36,11 +37,11 @@ loop-holds c = (search needs, refl, refl, refl, refl, refl, no-indices 0 _, λ �
 -- src/search.rt:158:12
 found-at-requires : tie.Need-found-at-requires Inv-loop μ-loop
 found-at-requires c κs = let L = c .before .before .before .before .before .loop in
-    (lent-again (L .list) (L .types) (L .places) (L .sizes) (L .inv .1) (L .inv .2) (L .inv .3) (L .inv .4) (c .before .before .before .before .before .before .before .before .before .before .before .before .before .before .before .before .before .before .before .before .pre .0), c .before .before .before .before .loop-test .taken)
+    (lent-again (L .list) (L .types) (L .places) (L .sizes) (L .inv .1) (L .inv .2) (L .inv .3) (L .inv .4) (c .before .before .before .before .before .before .before .before .before .before .before .before .before .before .before .before .before .before .before .before .before .pre .0), c .before .before .before .before .loop-test .taken, c .before .before .before .before .before .before .before .before .before .before .before .before .before .before .before .before .before .before .before .before .before .pre .2, c .before .before .before .before .before .before .before .before .before .before .before .before .before .before .before .before .before .before .before .before .before .pre .3)
 
 -- src/search.rt:178:13
 mul-hits : tie.Need-mul-hits Inv-loop μ-loop
-mul-hits c = omega (arith, c .before .before .before .before .before .before .before .before .before .before .before .before .before .before .loop-test .taken, c .before .before .before .before .before .before .before .before .before .before .before .before .before .before .before .loop .inv .6 .few, c .before .before .before .before .before .before .before .before .before .before .before .before .before .before .before .before .before .before .before .before .before .before .before .before .before .before .before .before .before .before .pre .0 .parents-noted, c .before .before .before .before .before .before .before .before .before .before .before .before .before .before .before .before .before .before .before .before .before .before .before .before .before .before .before .before .before .before .pre .0 .few)
+mul-hits c = omega (arith, c .before .before .before .before .before .before .before .before .before .before .before .before .before .before .loop-test .taken, c .before .before .before .before .before .before .before .before .before .before .before .before .before .before .before .loop .inv .6 .few, c .before .before .before .before .before .before .before .before .before .before .before .before .before .before .before .before .before .before .before .before .before .before .before .before .before .before .before .before .before .before .before .pre .0 .parents-noted, c .before .before .before .before .before .before .before .before .before .before .before .before .before .before .before .before .before .before .before .before .before .before .before .before .before .before .before .before .before .before .before .pre .0 .few)
 
 -- src/search.rt:178:13
 slice-write-hits : tie.Need-slice-write-hits Inv-loop μ-loop
@@ -48,25 +49,25 @@ slice-write-hits c = search needs
 
 -- src/search.rt:179:13
 add-n : tie.Need-add-n Inv-loop μ-loop
-add-n c = omega (arith, c .before .before .before .before .before .before .before .before .before .before .before .before .before .before .loop-test .taken, c .before .before .before .before .before .before .before .before .before .before .before .before .before .before .before .loop .inv .6 .few, c .before .before .before .before .before .before .before .before .before .before .before .before .before .before .before .before .before .before .before .before .before .before .before .before .before .before .before .before .before .before .pre .0 .parents-noted, c .before .before .before .before .before .before .before .before .before .before .before .before .before .before .before .before .before .before .before .before .before .before .before .before .before .before .before .before .before .before .pre .0 .few)
+add-n c = omega (arith, c .before .before .before .before .before .before .before .before .before .before .before .before .before .before .loop-test .taken, c .before .before .before .before .before .before .before .before .before .before .before .before .before .before .before .loop .inv .6 .few, c .before .before .before .before .before .before .before .before .before .before .before .before .before .before .before .before .before .before .before .before .before .before .before .before .before .before .before .before .before .before .before .pre .0 .parents-noted, c .before .before .before .before .before .before .before .before .before .before .before .before .before .before .before .before .before .before .before .before .before .before .before .before .before .before .before .before .before .before .before .pre .0 .few)
 
 -- src/search.rt:181:9
 add-k : tie.Need-add-k Inv-loop μ-loop
-add-k c = omega (arith, c .before .before .before .before .before .before .before .before .before .before .before .before .before .before .loop-test .taken, c .before .before .before .before .before .before .before .before .before .before .before .before .before .before .before .loop .inv .6 .few, c .before .before .before .before .before .before .before .before .before .before .before .before .before .before .before .before .before .before .before .before .before .before .before .before .before .before .before .before .before .before .pre .0 .parents-noted, c .before .before .before .before .before .before .before .before .before .before .before .before .before .before .before .before .before .before .before .before .before .before .before .before .before .before .before .before .before .before .pre .0 .few)
+add-k c = omega (arith, c .before .before .before .before .before .before .before .before .before .before .before .before .before .before .loop-test .taken, c .before .before .before .before .before .before .before .before .before .before .before .before .before .before .before .loop .inv .6 .few, c .before .before .before .before .before .before .before .before .before .before .before .before .before .before .before .before .before .before .before .before .before .before .before .before .before .before .before .before .before .before .before .pre .0 .parents-noted, c .before .before .before .before .before .before .before .before .before .before .before .before .before .before .before .before .before .before .before .before .before .before .before .before .before .before .before .before .before .before .before .pre .0 .few)
 
 -- src/search.rt:157:5
 loop-less : tie.Need-loop-less Inv-loop μ-loop
 loop-less c = search needs
 
 -- the hits after a turn
-turned : (c : tie.Joined1 Inv-loop μ-loop) → (length (c .if1 .hits) ≡ length (now (c .before .before .before .before .before .before .before .before .before .before .before .before .before .before .before .before .before .before .before .before .before .before .before .before .before .before .before .before .before .before .args .hits))) × Indices (c .before .before .before .before .before .before .before .before .before .before .before .before .before .before .before .loop .k + 1) (c .if1 .n) (c .if1 .hits)
-    × ((σ : Setting) (es : List Stored) (naming scopes : List ℕ) (f : Filter) → World σ es (now (c .before .before .before .before .before .before .before .before .before .before .before .before .before .before .before .before .before .before .before .before .before .before .before .before .before .before .before .before .before .before .args .schema)) (c .before .before .before .before .before .before .before .before .before .before .before .before .before .before .before .before .before .before .before .before .before .before .before .before .before .before .before .before .before .before .args .w) (now (c .before .before .before .before .before .before .before .before .before .before .before .before .before .before .before .before .before .before .before .before .before .before .before .before .before .before .before .before .before .before .args .d)) (now (c .before .before .before .before .before .before .before .before .before .before .before .before .before .before .before .before .before .before .before .before .before .before .before .before .before .before .before .before .before .before .args .at)) (now (c .before .before .before .before .before .before .before .before .before .before .before .before .before .before .before .before .before .before .before .before .before .before .before .before .before .before .before .before .before .before .args .parents)) naming (now (c .before .before .before .before .before .before .before .before .before .before .before .before .before .before .before .before .before .before .before .before .before .before .before .before .before .before .before .before .before .before .args .lengths)) (now (c .before .before .before .before .before .before .before .before .before .before .before .before .before .before .before .before .before .before .before .before .before .before .before .before .before .before .before .before .before .before .args .p)) (now (c .before .before .before .before .before .before .before .before .before .before .before .before .before .before .before .before .before .before .before .before .before .before .before .before .before .before .before .before .before .before .args .rights)) scopes (now (c .before .before .before .before .before .before .before .before .before .before .before .before .before .before .before .before .before .before .before .before .before .before .before .before .before .before .before .before .before .before .args .reach)) → Request.filter 16 128 (linesAt (c .before .before .before .before .before .before .before .before .before .before .before .before .before .before .before .before .before .before .before .before .before .before .before .before .before .before .before .before .before .before .args .w) (now (c .before .before .before .before .before .before .before .before .before .before .before .before .before .before .before .before .before .before .before .before .before .before .before .before .before .before .before .before .before .before .args .q)) (c .before .before .before .before .before .before .before .before .before .before .before .before .before .before .before .before .before .before .before .before .before .before .before .before .before .before .before .before .before .before .args .filter)) (λ f left rest. accept f) ≡ accept f → take (c .if1 .n) (c .if1 .hits) ≡ passing (foundAt σ es (c .before .before .before .before .before .before .before .before .before .before .before .before .before .before .before .before .before .before .before .before .before .before .before .before .before .before .before .before .before .before .args .b) (c .before .before .before .before .before .before .before .before .before .before .before .before .before .before .before .before .before .before .before .before .before .before .before .before .before .before .before .before .before .before .args .subset) f) (c .before .before .before .before .before .before .before .before .before .before .before .before .before .before .before .loop .k + 1))
+turned : (c : tie.Joined1 Inv-loop μ-loop) → (length (c .if1 .hits) ≡ length (now (c .before .before .before .before .before .before .before .before .before .before .before .before .before .before .before .before .before .before .before .before .before .before .before .before .before .before .before .before .before .before .before .args .hits))) × Indices (c .before .before .before .before .before .before .before .before .before .before .before .before .before .before .before .loop .k + 1) (c .if1 .n) (c .if1 .hits)
+    × ((σ : Setting) (es : List Stored) (naming scopes : List ℕ) (f : Filter) → World σ es (now (c .before .before .before .before .before .before .before .before .before .before .before .before .before .before .before .before .before .before .before .before .before .before .before .before .before .before .before .before .before .before .before .args .schema)) (c .before .before .before .before .before .before .before .before .before .before .before .before .before .before .before .before .before .before .before .before .before .before .before .before .before .before .before .before .before .before .before .args .w) (now (c .before .before .before .before .before .before .before .before .before .before .before .before .before .before .before .before .before .before .before .before .before .before .before .before .before .before .before .before .before .before .before .args .d)) (now (c .before .before .before .before .before .before .before .before .before .before .before .before .before .before .before .before .before .before .before .before .before .before .before .before .before .before .before .before .before .before .before .args .at)) (now (c .before .before .before .before .before .before .before .before .before .before .before .before .before .before .before .before .before .before .before .before .before .before .before .before .before .before .before .before .before .before .before .args .parents)) naming (now (c .before .before .before .before .before .before .before .before .before .before .before .before .before .before .before .before .before .before .before .before .before .before .before .before .before .before .before .before .before .before .before .args .lengths)) (now (c .before .before .before .before .before .before .before .before .before .before .before .before .before .before .before .before .before .before .before .before .before .before .before .before .before .before .before .before .before .before .before .args .p)) (now (c .before .before .before .before .before .before .before .before .before .before .before .before .before .before .before .before .before .before .before .before .before .before .before .before .before .before .before .before .before .before .before .args .rights)) scopes (now (c .before .before .before .before .before .before .before .before .before .before .before .before .before .before .before .before .before .before .before .before .before .before .before .before .before .before .before .before .before .before .before .args .reach)) → Request.filter 16 128 (linesAt (c .before .before .before .before .before .before .before .before .before .before .before .before .before .before .before .before .before .before .before .before .before .before .before .before .before .before .before .before .before .before .before .args .w) (now (c .before .before .before .before .before .before .before .before .before .before .before .before .before .before .before .before .before .before .before .before .before .before .before .before .before .before .before .before .before .before .before .args .q)) (positionAt (now (c .before .before .before .before .before .before .before .before .before .before .before .before .before .before .before .before .before .before .before .before .before .before .before .before .before .before .before .before .before .before .before .args .rows)) 0)) (λ f left rest. accept f) ≡ accept f → take (c .if1 .n) (c .if1 .hits) ≡ passing (foundAt σ es (c .before .before .before .before .before .before .before .before .before .before .before .before .before .before .before .before .before .before .before .before .before .before .before .before .before .before .before .before .before .before .before .args .b) (c .before .before .before .before .before .before .before .before .before .before .before .before .before .before .before .before .before .before .before .before .before .before .before .before .before .before .before .before .before .before .before .args .subset) f) (c .before .before .before .before .before .before .before .before .before .before .before .before .before .before .before .loop .k + 1))
 turned c =
-    let a = c .before .before .before .before .before .before .before .before .before .before .before .before .before .before .before .before .before .before .before .before .before .before .before .before .before .before .before .before .before .before .args in
+    let a = c .before .before .before .before .before .before .before .before .before .before .before .before .before .before .before .before .before .before .before .before .before .before .before .before .before .before .before .before .before .before .before .args in
     let L = c .before .before .before .before .before .before .before .before .before .before .before .before .before .before .before .loop in
     let l = c .before .before .before .before .before .before .before .before .before .before .before .before .before .before .loop-test .taken in
-    let free : L .n < length (L .hits) = omega (arith, L .inv .6 .few, l, L .inv .5, c .before .before .before .before .before .before .before .before .before .before .before .before .before .before .before .before .before .before .before .before .before .before .before .before .before .before .before .before .before .before .pre .1) in
-    let was : ((σ : Setting) (es : List Stored) (naming scopes : List ℕ) (f : Filter) → World σ es (now (c .before .before .before .before .before .before .before .before .before .before .before .before .before .before .before .before .before .before .before .before .before .before .before .before .before .before .before .before .before .before .args .schema)) (c .before .before .before .before .before .before .before .before .before .before .before .before .before .before .before .before .before .before .before .before .before .before .before .before .before .before .before .before .before .before .args .w) (now (c .before .before .before .before .before .before .before .before .before .before .before .before .before .before .before .before .before .before .before .before .before .before .before .before .before .before .before .before .before .before .args .d)) (now (c .before .before .before .before .before .before .before .before .before .before .before .before .before .before .before .before .before .before .before .before .before .before .before .before .before .before .before .before .before .before .args .at)) (now (c .before .before .before .before .before .before .before .before .before .before .before .before .before .before .before .before .before .before .before .before .before .before .before .before .before .before .before .before .before .before .args .parents)) naming (now (c .before .before .before .before .before .before .before .before .before .before .before .before .before .before .before .before .before .before .before .before .before .before .before .before .before .before .before .before .before .before .args .lengths)) (now (c .before .before .before .before .before .before .before .before .before .before .before .before .before .before .before .before .before .before .before .before .before .before .before .before .before .before .before .before .before .before .args .p)) (now (c .before .before .before .before .before .before .before .before .before .before .before .before .before .before .before .before .before .before .before .before .before .before .before .before .before .before .before .before .before .before .args .rights)) scopes (now (c .before .before .before .before .before .before .before .before .before .before .before .before .before .before .before .before .before .before .before .before .before .before .before .before .before .before .before .before .before .before .args .reach)) → Request.filter 16 128 (linesAt (c .before .before .before .before .before .before .before .before .before .before .before .before .before .before .before .before .before .before .before .before .before .before .before .before .before .before .before .before .before .before .args .w) (now (c .before .before .before .before .before .before .before .before .before .before .before .before .before .before .before .before .before .before .before .before .before .before .before .before .before .before .before .before .before .before .args .q)) (c .before .before .before .before .before .before .before .before .before .before .before .before .before .before .before .before .before .before .before .before .before .before .before .before .before .before .before .before .before .before .args .filter)) (λ f left rest. accept f) ≡ accept f → c .before .before .before .before .before .before .before .before .before .found-at .result ≡ foundAt σ es (c .before .before .before .before .before .before .before .before .before .before .before .before .before .before .before .before .before .before .before .before .before .before .before .before .before .before .before .before .before .before .args .b) (c .before .before .before .before .before .before .before .before .before .before .before .before .before .before .before .before .before .before .before .before .before .before .before .before .before .before .before .before .before .before .args .subset) f (c .before .before .before .before .before .before .before .before .before .before .before .before .before .before .before .loop .k)) = c .before .before .before .before .before .before .before .before .before .found-at .ensures in
+    let free : L .n < length (L .hits) = omega (arith, L .inv .6 .few, l, L .inv .5, c .before .before .before .before .before .before .before .before .before .before .before .before .before .before .before .before .before .before .before .before .before .before .before .before .before .before .before .before .before .before .before .pre .1) in
+    let was : ((σ : Setting) (es : List Stored) (naming scopes : List ℕ) (f : Filter) → World σ es (now (c .before .before .before .before .before .before .before .before .before .before .before .before .before .before .before .before .before .before .before .before .before .before .before .before .before .before .before .before .before .before .before .args .schema)) (c .before .before .before .before .before .before .before .before .before .before .before .before .before .before .before .before .before .before .before .before .before .before .before .before .before .before .before .before .before .before .before .args .w) (now (c .before .before .before .before .before .before .before .before .before .before .before .before .before .before .before .before .before .before .before .before .before .before .before .before .before .before .before .before .before .before .before .args .d)) (now (c .before .before .before .before .before .before .before .before .before .before .before .before .before .before .before .before .before .before .before .before .before .before .before .before .before .before .before .before .before .before .before .args .at)) (now (c .before .before .before .before .before .before .before .before .before .before .before .before .before .before .before .before .before .before .before .before .before .before .before .before .before .before .before .before .before .before .before .args .parents)) naming (now (c .before .before .before .before .before .before .before .before .before .before .before .before .before .before .before .before .before .before .before .before .before .before .before .before .before .before .before .before .before .before .before .args .lengths)) (now (c .before .before .before .before .before .before .before .before .before .before .before .before .before .before .before .before .before .before .before .before .before .before .before .before .before .before .before .before .before .before .before .args .p)) (now (c .before .before .before .before .before .before .before .before .before .before .before .before .before .before .before .before .before .before .before .before .before .before .before .before .before .before .before .before .before .before .before .args .rights)) scopes (now (c .before .before .before .before .before .before .before .before .before .before .before .before .before .before .before .before .before .before .before .before .before .before .before .before .before .before .before .before .before .before .before .args .reach)) → Request.filter 16 128 (linesAt (c .before .before .before .before .before .before .before .before .before .before .before .before .before .before .before .before .before .before .before .before .before .before .before .before .before .before .before .before .before .before .before .args .w) (now (c .before .before .before .before .before .before .before .before .before .before .before .before .before .before .before .before .before .before .before .before .before .before .before .before .before .before .before .before .before .before .before .args .q)) (positionAt (now (c .before .before .before .before .before .before .before .before .before .before .before .before .before .before .before .before .before .before .before .before .before .before .before .before .before .before .before .before .before .before .before .args .rows)) 0)) (λ f left rest. accept f) ≡ accept f → c .before .before .before .before .before .before .before .before .before .found-at .result ≡ foundAt σ es (c .before .before .before .before .before .before .before .before .before .before .before .before .before .before .before .before .before .before .before .before .before .before .before .before .before .before .before .before .before .before .before .args .b) (c .before .before .before .before .before .before .before .before .before .before .before .before .before .before .before .before .before .before .before .before .before .before .before .before .before .before .before .before .before .before .before .args .subset) f (c .before .before .before .before .before .before .before .before .before .before .before .before .before .before .before .loop .k)) = c .before .before .before .before .before .before .before .before .before .found-at .ensures in
     ⊎-elim
     (λ v. (
       ap length (v .1) ∙ length-set (L .hits) (L .n) (L .k) ∙ L .inv .5,
@@ -107,7 +108,7 @@ same-length-5 c = search needs
 
 -- src/search.rt:132:1
 returns : tie.Need-returns Inv-loop μ-loop
-returns c = let a = c .before .before .before .before .before .before .before .before .before .before .before .before .before .before .before .before .args in
+returns c = let a = c .before .before .before .before .before .before .before .before .before .before .before .before .before .before .before .before .before .args in
     let L = c .before .loop in
     let all : L .k ≡ length (now (a .parents)) = omega (arith, L .inv .0, c .loop-test .left) in
     (subst (λ (m : ℕ). Indices m (L .n) (L .hits)) all (L .inv .6), λ σ es naming scopes f h asked. L .inv .7 σ es naming scopes f h asked ∙ ap (passing (foundAt σ es (a .b) (a .subset) f)) (all ∙ h .entries .parents-noted))

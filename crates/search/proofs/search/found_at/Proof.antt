@@ -58,9 +58,9 @@ same-length c = search needs
 
 -- src/search.rt:111:9
 returns-2 : tie.Need-returns-2
-returns-2 c = let a = c .before .before .before .before .before .before .before .before .before .before .before .before .before .before .before .before .before .before .before .before .before .before .before .args in
+returns-2 c = let a = c .before .before .before .before .before .before .before .before .before .before .before .before .before .before .before .before .before .before .before .before .before .before .before .before .args in
     λ σ es naming scopes f h asked.
-    let chosen = chosen-front h (a .k) (c .before .before .before .before .before .before .before .before .before .before .before .before .before .before .before .before .before .before .before .before .before .before .before .pre .1) _ _ _ (c .before .before .before .before .before .before .select .ensures) in
+    let chosen = chosen-front h (a .k) (c .before .before .before .before .before .before .before .before .before .before .before .before .before .before .before .before .before .before .before .before .before .before .before .before .pre .1) _ _ _ (c .before .before .before .before .before .before .select .ensures) in
     found-withheld σ es (a .b) (a .subset) f (a .k) (sym (c .before .before .before .before .before .before .before .before .before .within .ensures es (parents-are h)) ∙ not-false _ (c .before .before .before .before .before .before .before .before .if1 .left))
     (sym (c .before .returnable .ensures σ (getD es (a .k) blank .name) (a .w) (now (a .p)) scopes (h .rows) chosen) ∙ not-true _ (c .if2 .taken))
 
@@ -78,10 +78,10 @@ part-matching-end c = search needs
 
 -- src/search.rt:113:5
 matching-requires : tie.Need-matching-requires
-matching-requires c κs = let lent = c .before .before .before .before .before .before .before .before .before .before .before .before .before .before .before .before .before .before .before .before .before .before .before .before .before .before .before .before .pre .0 in
-    let a = c .before .before .before .before .before .before .before .before .before .before .before .before .before .before .before .before .before .before .before .before .before .before .before .before .before .before .before .before .args in
-    let k : a .k < length (now (a .at)) = omega (arith, c .before .before .before .before .before .before .before .before .before .before .before .before .before .before .before .before .before .before .before .before .before .before .before .before .before .before .before .before .pre .1, lent .parents-noted) in
-    (lent .wide, lent .small, k, lent .lengths-noted, lent .within (a .k) k, lent .places-noted, lent .sizes-noted, lent .values)
+matching-requires c κs = let lent = c .before .before .before .before .before .before .before .before .before .before .before .before .before .before .before .before .before .before .before .before .before .before .before .before .before .before .before .before .before .pre .0 in
+    let a = c .before .before .before .before .before .before .before .before .before .before .before .before .before .before .before .before .before .before .before .before .before .before .before .before .before .before .before .before .before .args in
+    let k : a .k < length (now (a .at)) = omega (arith, c .before .before .before .before .before .before .before .before .before .before .before .before .before .before .before .before .before .before .before .before .before .before .before .before .before .before .before .before .before .pre .1, lent .parents-noted) in
+    (c .before .before .before .before .before .before .before .before .before .before .before .before .before .before .before .before .before .before .before .before .before .before .before .before .before .before .before .before .before .pre .2, c .before .before .before .before .before .before .before .before .before .before .before .before .before .before .before .before .before .before .before .before .before .before .before .before .before .before .before .before .before .pre .3, lent .wide, lent .small, k, lent .lengths-noted, lent .within (a .k) k, lent .places-noted, lent .sizes-noted, lent .values)
 
 -- src/search.rt:83:1
 same-length-2 : tie.Need-same-length-2
@@ -101,9 +101,9 @@ same-length-5 c = search needs
 
 -- src/search.rt:83:1
 returns-3 : tie.Need-returns-3
-returns-3 c = let a = c .before .before .before .before .before .before .before .before .before .before .before .before .before .before .before .before .before .before .before .before .before .before .before .before .before .before .before .before .before .before .before .before .before .before .before .args in
+returns-3 c = let a = c .before .before .before .before .before .before .before .before .before .before .before .before .before .before .before .before .before .before .before .before .before .before .before .before .before .before .before .before .before .before .before .before .before .before .before .before .args in
     λ σ es naming scopes f h asked.
-    let chosen = chosen-front h (a .k) (c .before .before .before .before .before .before .before .before .before .before .before .before .before .before .before .before .before .before .before .before .before .before .before .before .before .before .before .before .before .before .before .before .before .before .before .pre .1) _ _ _ (c .before .before .before .before .before .before .before .before .before .before .before .before .before .before .before .before .before .before .select .ensures) in
+    let chosen = chosen-front h (a .k) (c .before .before .before .before .before .before .before .before .before .before .before .before .before .before .before .before .before .before .before .before .before .before .before .before .before .before .before .before .before .before .before .before .before .before .before .before .pre .1) _ _ _ (c .before .before .before .before .before .before .before .before .before .before .before .before .before .before .before .before .before .before .select .ensures) in
     c .before .before .before .before .before .before .matching .ensures σ es (now (a .parents)) naming scopes (now (a .reach)) f h chosen asked
     ∙ found-asked σ es (a .b) (a .subset) f (a .k) (sym (c .before .before .before .before .before .before .before .before .before .before .before .before .before .before .before .before .before .before .before .before .before .within .ensures es (parents-are h)) ∙ not-false _ (c .before .before .before .before .before .before .before .before .before .before .before .before .before .before .before .before .before .before .before .before .if1 .left))
     (sym (c .before .before .before .before .before .before .before .before .before .before .before .before .before .returnable .ensures σ (getD es (a .k) blank .name) (a .w) (now (a .p)) scopes (h .rows) chosen) ∙ not-false _ (c .before .before .before .before .before .before .before .before .before .before .before .before .if2 .left))

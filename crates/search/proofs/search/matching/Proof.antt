@@ -53,7 +53,7 @@ part-matches-end-3 c = search needs
 
 -- src/search.rt:67:5
 matches-requires : tie.Need-matches-requires
-matches-requires c κs = search needs
+matches-requires c κs = (c .before .before .before .before .before .before .before .before .before .before .before .before .before .before .before .before .before .before .before .before .before .before .before .before .before .before .before .before .pre .2, c .before .before .before .before .before .before .before .before .before .before .before .before .before .before .before .before .before .before .before .before .before .before .before .before .before .before .before .before .pre .0, c .before .before .before .before .before .before .before .before .before .before .before .before .before .before .before .before .before .before .before .before .before .before .before .before .before .before .before .before .pre .1, search needs, search needs)
 
 -- src/search.rt:47:1
 same-length : tie.Need-same-length
@@ -69,7 +69,7 @@ same-length-3 c = search needs
 
 -- src/search.rt:47:1
 returns : tie.Need-returns
-returns c = let a = c .before .before .before .before .before .before .before .before .before .before .before .before .before .before .before .before .before .before .before .before .before .before .before .before .before .before .before .before .args in
+returns c = let a = c .before .before .before .before .before .before .before .before .before .before .before .before .before .before .before .before .before .before .before .before .before .before .before .before .before .before .before .before .before .args in
     let v = c .before .before .before .before .before .before .before .before .before .before .before .before .before .values in
     λ σ es parents naming scopes reach f h chosen asked.
     c .matches .ensures σ (getD es (a .k) blank .name) scopes (getD es (a .k) blank .values) (h .schema-is) (h .rows) chosen

@@ -1,5 +1,6 @@
 //! Worlds, and six requests over each.
 
+use std::collections::HashMap;
 use std::sync::OnceLock;
 
 use harness::limits::open;
@@ -35,6 +36,7 @@ pub fn worlds() -> Vec<World> {
         withheld(),
         typed(),
         register("crowded", 256, 1_800, KEY, crowded),
+        register("twins", 256, 1_024, KEY, twin),
     ]
 }
 
@@ -147,10 +149,50 @@ fn crowded(number: u32) -> Vec<u8> {
     values[number as usize].to_vec()
 }
 
+/// Thirty octets, others for each number below 1,024, all with one digest: ten times a choice between
+/// two blocks that lead from one digest to the next.
+fn twin(number: u32) -> Vec<u8> {
+    static PAIRS: OnceLock<Vec<[[u8; 3]; 2]>> = OnceLock::new();
+    let pairs = PAIRS.get_or_init(|| {
+        let mut sum = seed();
+        let mut pairs = Vec::new();
+        while pairs.len() < 10 {
+            let pair = colliding_blocks(sum);
+            sum = digest_from(sum, &pair[0]);
+            pairs.push(pair);
+        }
+        pairs
+    });
+    pairs
+        .iter()
+        .enumerate()
+        .flat_map(|(place, pair)| pair[(number >> place & 1) as usize])
+        .collect()
+}
+
+/// Two blocks of three octets that lead from `sum` to one digest.
+fn colliding_blocks(sum: u64) -> [[u8; 3]; 2] {
+    let mut met = HashMap::new();
+    for number in 0..1_u32 << 21 {
+        let block = [14, 7, 0].map(|bits| (number >> bits) as u8 | 128);
+        if let Some(other) = met.insert(digest_from(sum, &block), block) {
+            return [other, block];
+        }
+    }
+    panic!("two million blocks have no common digest");
+}
+
 /// The library's digest (crate `value`) of a value of the type KEY that the first entry holds.
 fn digest(value: &[u8]) -> u64 {
-    let seed = 258 * 64 + u64::from(KEY) - 1;
-    let mixed = value.iter().fold(seed, |sum, byte| {
+    digest_from(seed(), value)
+}
+
+fn seed() -> u64 {
+    258 * 64 + u64::from(KEY) - 1
+}
+
+fn digest_from(sum: u64, value: &[u8]) -> u64 {
+    let mixed = value.iter().fold(sum, |sum, byte| {
         let product = sum % (1 << 32) * 16_777_619 + u64::from(byte.to_ascii_lowercase());
         product + product / (1 << 20)
     });

@@ -1,0 +1,6 @@
+pub mod Lines
+pub mod Seen
+pub mod Asked
+pub mod Pieces
+pub mod Values
+pub mod Items

@@ -1,0 +1,49 @@
+-- The last digit, then the bytes before it.
+use Prim.Native.Nat.{_+_, _-_, _%_}
+use mathlib.Core.Path.{_∙_}
+use native.Mathlib.Omega.{arith}
+use lib.ListN.{length-set}
+use denote.Ref.{now}
+use Rattle.write.specs.Laws.Put.{column-last}
+use borrow.Author.Needs.{needs}
+use Rattle.write.proofs.put_column.Statement.{statement}
+use Rattle.write.proofs.put_column.Tie as tie
+
+sub-i : tie.Need-sub-i
+sub-i c = search needs
+
+cast-out : tie.Need-cast-out
+cast-out c = search needs
+
+add-out : tie.Need-add-out
+add-out c = search needs
+
+add-out-2 : tie.Need-add-out-2
+add-out-2 c = search needs
+
+slice-write-out : tie.Need-slice-write-out
+slice-write-out c = search needs
+
+put-leading-requires : tie.Need-put-leading-requires
+put-leading-requires c κs = simp length-set (omega arith)
+
+same-length : tie.Need-same-length
+same-length c = let A = c .before .before .before .before .before .args in omega (arith, length-set (now (A .out)) (A .at + (A .w - 1)) (48 + A .n % 10))
+
+returns : tie.Need-returns
+returns c =
+    let A = c .before .before .before .before .before .args in
+    c .before .before .put-leading .ensures ∙ column-last (now (A .out)) (A .at) (A .w) (A .n) (omega arith) (omega arith)
+
+pub put-column-spec : {M : Type 1} → statement M
+put-column-spec =
+    tie.close
+    (tie.spec
+    sub-i
+    cast-out
+    add-out
+    add-out-2
+    slice-write-out
+    put-leading-requires
+    same-length
+    returns)

@@ -1,0 +1,47 @@
+-- The columns, the bytes after them, and byte 10 after those.
+use Prim.Native.Nat.{_+_}
+use native.Mathlib.Omega.{arith}
+use lib.ListN.{length, length-set}
+use denote.Ref.{now}
+use Rattle.rules.specs.Sheet.{line}
+use Rattle.write.specs.Laws.Put.{put-line}
+use borrow.Author.Needs.{needs}
+use Rattle.write.proofs.put_line.Statement.{statement}
+use Rattle.write.proofs.put_line.Tie as tie
+
+put-numbers-requires : tie.Need-put-numbers-requires
+put-numbers-requires c κs = search needs
+
+put-requires : tie.Need-put-requires
+put-requires c κs = search needs
+
+add-end : tie.Need-add-end
+add-end c = search needs
+
+slice-write-out : tie.Need-slice-write-out
+slice-write-out c = search needs
+
+add-result : tie.Need-add-result
+add-result c = search needs
+
+same-length : tie.Need-same-length
+same-length c = omega (arith, length-set (c .before .before .put .last .0) (c .before .before .before .before .before .before .put-numbers .result + length (now (c .before .before .before .before .before .before .before .before .before .before .args .bytes))) 10)
+
+returns : tie.Need-returns
+returns c =
+    let A = c .before .before .before .before .before .before .before .before .before .before .args in
+    let from = c .before .before .before .before .before .before .put-numbers .result in
+    let r = c .before .before .before .before .before .before .put-numbers .ensures in
+    (omega (arith, r .0), put-line (now (A .out)) (A .at) (A .w) (line (A .kind) (A .a) (A .b) (A .c) (now (A .bytes))) (c .before .before .before .before .before .before .before .before .before .before .pre .1) from (r .0) (r .1) (c .before .before .put .ensures) (omega arith))
+
+pub put-line-spec : {M : Type 1} → statement M
+put-line-spec =
+    tie.close
+    (tie.spec
+    put-numbers-requires
+    put-requires
+    add-end
+    slice-write-out
+    add-result
+    same-length
+    returns)
