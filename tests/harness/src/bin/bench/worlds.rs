@@ -4,6 +4,7 @@ use std::collections::HashMap;
 use std::sync::OnceLock;
 
 use harness::limits::open;
+use harness::random::Random;
 use peer::builder::{
     DirectorySheet, EntryLines, FilterLines, ItemLines, Name, OperationLines, PermissionSheet,
     RequestSheet, Selected, Thing, User,
@@ -36,7 +37,7 @@ pub fn worlds() -> Vec<World> {
         withheld(),
         typed(),
         register("crowded", 256, 1_800, KEY, crowded),
-        register("twins", 256, 1_024, KEY, twin),
+        register("twins", 256, 800, KEY, twin),
     ]
 }
 
@@ -149,10 +150,10 @@ fn crowded(number: u32) -> Vec<u8> {
     values[number as usize].to_vec()
 }
 
-/// Thirty octets, others for each number below 1,024, all with one digest: ten times a choice between
+/// Fifty octets, others for each number below 1,024, all with one digest: ten times a choice between
 /// two blocks that lead from one digest to the next.
 fn twin(number: u32) -> Vec<u8> {
-    static PAIRS: OnceLock<Vec<[[u8; 3]; 2]>> = OnceLock::new();
+    static PAIRS: OnceLock<Vec<[[u8; 5]; 2]>> = OnceLock::new();
     let pairs = PAIRS.get_or_init(|| {
         let mut sum = seed();
         let mut pairs = Vec::new();
@@ -170,16 +171,17 @@ fn twin(number: u32) -> Vec<u8> {
         .collect()
 }
 
-/// Two blocks of three octets that lead from `sum` to one digest.
-fn colliding_blocks(sum: u64) -> [[u8; 3]; 2] {
+/// Two blocks of five octets that lead from `sum` to one digest.
+fn colliding_blocks(sum: u64) -> [[u8; 5]; 2] {
+    let mut random = Random::new(sum);
     let mut met = HashMap::new();
-    for number in 0..1_u32 << 21 {
-        let block = [14, 7, 0].map(|bits| (number >> bits) as u8 | 128);
-        if let Some(other) = met.insert(digest_from(sum, &block), block) {
-            return [other, block];
+    loop {
+        let block = [0; 5].map(|_| 128 + random.below(128) as u8);
+        match met.insert(digest_from(sum, &block), block) {
+            Some(other) if other != block => return [other, block],
+            _ => {}
         }
     }
-    panic!("two million blocks have no common digest");
 }
 
 /// The library's digest (crate `value`) of a value of the type KEY that the first entry holds.
