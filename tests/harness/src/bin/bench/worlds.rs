@@ -37,7 +37,7 @@ pub fn worlds() -> Vec<World> {
         withheld(),
         typed(),
         register("crowded", 256, 1_800, KEY, crowded),
-        register("twins", 256, 800, KEY, twin),
+        register("twins", 200, 800, KEY, twin),
     ]
 }
 
