@@ -4,3 +4,4 @@ pub mod Asked
 pub mod Pieces
 pub mod Values
 pub mod Items
+pub mod Sifted

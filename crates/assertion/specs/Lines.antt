@@ -57,6 +57,7 @@ pub record Row (w : ℕ) (q : Bytes) (rows : List ℕ) (k : ℕ) : Type 0 where
 -- the first `count` rows are lines, and no line follows
 pub record Lines (w : ℕ) (q : Bytes) (rows : List ℕ) (count : ℕ) : Type 0 where
   pub room : count * 6 + 6 ≤ length rows
+  pub few : count ≤ 265
   pub line : (k : ℕ) → k < count → Row w q rows k
   pub broken : Bool
   pub ends : frontOf w (drop (positionAt rows count) q) ≡ cond broken NotInForm End
@@ -247,10 +248,11 @@ module _ (schema : List ℕ) (w : ℕ) (q : Bytes) (rows : List ℕ) (at n j : �
         each P before last k h (no m) = let z : n ≡ k = omega (arith, h, m) in subst P z last
 
 -- no line follows
-pub lines-noted : (schema : List ℕ) (w : ℕ) (q : Bytes) (rows : List ℕ) (at n j : ℕ) → Noting schema w q rows at n j → n * 6 + 6 ≤ length rows
+pub lines-noted : (schema : List ℕ) (w : ℕ) (q : Bytes) (rows : List ℕ) (at n j : ℕ) → Noting schema w q rows at n j → n * 6 + 6 ≤ length rows → n ≤ 265
     → (broken : Bool) → frontOf w (drop j q) ≡ cond broken NotInForm End → Lines w q rows n
-lines-noted schema w q rows at n j o room broken e = record {
+lines-noted schema w q rows at n j o room few broken e = record {
   room = room;
+  few = few;
   line = o .line;
   broken = broken;
   ends = ap (λ (i : ℕ). frontOf w (drop i q)) (o .last) ∙ e;

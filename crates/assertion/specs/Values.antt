@@ -36,6 +36,13 @@ module _ (σ : Setting) (n : Name) (t q : ℕ) (test : Bytes → Bool) (of : ℕ
         go true false = refl
         go false b = refl
 
+    pub counts-refused : granted σ n (ofValue of u) q ≡ false → countsBy σ n t q test (part of x) ≡ false
+    counts-refused h = rw (← same, h) (go (eqb of t))
+      where
+        go : (a : Bool) → (a && false) ≡ false
+        go true = refl
+        go false = refl
+
     pub counts-granted : of ≡ t → test u ≡ true → countsBy σ n t q test (part of x) ≡ granted σ n (ofValue of u) q
     counts-granted e h = rw (← same, eq-eqb of t e, h) (go (granted σ n (ofValue of u) q))
       where

@@ -18,7 +18,7 @@ pub const AT_MOST: u64 = 25;
 pub const PRESENT: u64 = 26;
 
 // The permission FilterMatch.
-pub(crate) const FILTER_MATCH: u64 = 32;
+pub const FILTER_MATCH: u64 = 32;
 
 // What a table has for a value: nothing yet, or FilterMatch refused or granted.
 pub(crate) const NOT_ASKED: u8 = 0;

@@ -1,17 +1,19 @@
 // The values that an entry holds, each noted by its type, the position of its bytes on the directory and their number, tested one by one.
-// Numbers are compared before bytes, and bytes before the permission is asked.
+// Numbers are compared before bytes, and bytes before the permission is asked, unless it is known to be refused.
 use super::granted::value_granted;
 use super::pieces::substrings;
 use super::truth::not_below;
 use crate::AT_LEAST;
 use crate::AT_MOST;
 use crate::EQUALITY;
+use crate::REFUSED;
 use crate::lines::LINE;
 use crate::lines::SECOND;
 use rules::Found;
 ghost use mathlib.Core.Path.{_≡_};
 ghost use Prim.Native.Nat.{ℕ, _+_, _≤_};
 ghost use mathlib.Core.List.{List};
+ghost use lib.Dec.{eqb};
 ghost use lib.ListN.{length, getD, take, drop};
 ghost use Rattle.rules.specs.Name.{Name, Part, part, equal};
 ghost use Rattle.rules.specs.Directory.{heldOf};
@@ -53,6 +55,16 @@ fn passes(
     substrings(w, q, rows, lines, k + 1, rows[k * LINE + SECOND], u)
 }
 
+// Does the table tell that the permission is refused on the value with number `i`?
+fn refused(known: &[u8], i: usize) -> bool
+    ensures { λ r. ⌜ r ≡ eqb (getD (now (known .entry)) i 0) 1 ⌝ }
+{
+    if i < known.len() {
+        return known[i] == REFUSED;
+    }
+    false
+}
+
 // Does the value with number `i`, noted by `place` and `size`, of the type `t`, pass the item's test, and is the permission granted on it? `known` is a
 // table of what was asked ahead.
 fn counts(
@@ -79,6 +91,9 @@ fn counts(
     requires { ⌜ (w ≤ 18) × (1 ≤ permission) × Pieced kind w (now q) (now rows) lines k ⌝ }
     ensures { λ r. ⌜ ((σ : Setting) (n : Name) → Ruled σ n (now (schema .entry)) w (now (p .entry)) (now (rights .entry)) (now (list .entry)) → place + size ≤ length (now (d .entry)) → Tells (granted σ n (ofValue t (bytesAt (now (d .entry)) place size)) permission) (getD (now (known .entry)) i 0) → r ≡ countsBy σ n t permission (passesBy s kind (piecesAt w (now (q .entry)) (now (rows .entry)) k) (now (v .entry))) (part t (take size (drop place (now (d .entry)))))) ⌝ }
 {
+    if refused(known, i) {
+        return false;
+    }
     let u = entry::bytes_at(d, place, size);
     if passes(s, kind, v, w, q, rows, lines, k, u) {
         return value_granted(schema, w, p, rights, list, known, i, t, u, permission);

@@ -217,7 +217,7 @@ fn after_value(
 }
 
 // The greatest score of the items of `list` about `what`.
-pub fn score_of(rights: &[u64], list: &[usize], what: u64, q: u64) -> u64
+fn score_of(rights: &[u64], list: &[usize], what: u64, q: u64) -> u64
     requires { ⌜ 1 ≤ q ⌝ }
     ensures { λ r. ⌜ r ≡ passBy (askedOf what (now (rights .entry)) q) (now (rights .entry)) 1 (now (list .entry)) ⌝ }
 {
@@ -253,7 +253,7 @@ pub fn general_score(rights: &[u64], list: &[usize], q: u64) -> u64
 }
 
 // Is the permission `q` granted on the type `t` of that entry, given the greatest score of the items about all types?
-pub fn granted_type_beside(rights: &[u64], list: &[usize], general: u64, t: u64, q: u64) -> bool
+fn granted_type_beside(rights: &[u64], list: &[usize], general: u64, t: u64, q: u64) -> bool
     requires { ⌜ 1 ≤ q ⌝ }
     ensures { λ r. ⌜ ((σ : Setting) (n : Name) (w : ℕ) (p : Bytes) (scopes : List ℕ) → Rows w p (σ .items) (now (rights .entry)) scopes → Chosen σ n (now (list .entry)) → general ≡ passBy (generalAsked (now (rights .entry)) q) (now (rights .entry)) 1 (now (list .entry)) → r ≡ granted σ n (ofType t) q) ⌝ }
 {

@@ -23,18 +23,20 @@ use Rattle.rules.specs.Laws.Judge.{refused-not, accepted-is}
 use Rattle.rules.specs.declared.Front.{Front}
 use Rattle.rules.specs.declared.Front.the-variants.{Taken, NotInForm, End}
 use Rattle.directory.specs.Judged.{EntryNoted, Noted, Judged}
-use Rattle.directory.specs.Lines.{judgedFrom, lineHere, taken-wide, judged-refused, judged-on, judged-broken, judged-end, entry-columns}
-use Rattle.directory.specs.Mark.{Mark, mark, Within, bucketAt, bucket-bound, lastIn}
-use Rattle.directory.specs.Schema.{Rising}
-use Rattle.directory.specs.Types.{typed, TypesStopped}
-use Rattle.directory.specs.Twins.{keyOf, key-bound, any-snoc, Named, named-start, named-entry, valued-none}
-use Rattle.directory.specs.Rulings.{Ready, ready-more, reading, filled, Refused, Elsewhere, Counted, EntryTaken, EntryOutcome, entryRuling, entry-outcome}
-use Rattle.directory.specs.Values.{after, Begun, ValuesStopped, ValuesJudged}
+use Rattle.schema.specs.Lines.{judgedFrom, lineHere, taken-wide, judged-refused, judged-on, judged-broken, judged-end, entry-columns}
+use Rattle.ruling.specs.Mark.{Mark, mark, Within, bucketAt, bucket-bound, slotAt, slot-bound, lastIn}
+use Rattle.schema.specs.Schema.{Rising}
+use Rattle.schema.specs.Types.{typed, TypesStopped}
+use Rattle.ruling.specs.Twins.{keyOf, key-bound, any-snoc, Named, named-start, named-entry, valued-none}
+use Rattle.ruling.specs.Rulings.{Ready, ready-more, reading, Refused}
+use Rattle.hierarchy.specs.EntryLine.{Elsewhere, Counted, EntryTaken, EntryOutcome, entryRuling, entry-outcome}
+use Rattle.attribute.specs.ValueLine.{filled}
+use Rattle.attribute.specs.Values.{after, Begun, ValuesStopped, ValuesJudged}
 use Rattle.directory.specs.declared.Notes.{Notes}
-use Rattle.directory.specs.declared.entry.Ruling.{Ruling}
-use Rattle.directory.specs.declared.schema.TypeLines.{TypeLines}
-use Rattle.directory.specs.declared.values.Current.{Current}
-use Rattle.directory.specs.declared.values.ValueLines.{ValueLines}
+use Rattle.ruling.specs.declared.Ruling.{Ruling}
+use Rattle.schema.specs.declared.TypeLines.{TypeLines}
+use Rattle.attribute.specs.declared.Current.{Current}
+use Rattle.attribute.specs.declared.ValueLines.{ValueLines}
 
 -- the entries are noted, each with its values
 abbrev pub AllNoted : ℕ → Bytes → Notes → List Stored → Type 0
@@ -53,9 +55,9 @@ pub record Sized (ks : List ℕ) (notes : Notes) (depths : List ℕ) : Type 0 wh
   pub levels : length depths ≡ 257
 
 -- all lines before position `i` have been taken
-pub record Standing (w : ℕ) (s : Bytes) (ks : List ℕ) (notes : Notes) (depths marks heads : List ℕ) (n : ℕ) (lacks : Bool) (i : ℕ) (front : Front)
+pub record Standing (w : ℕ) (s : Bytes) (ks : List ℕ) (notes : Notes) (depths marks heads slots : List ℕ) (n : ℕ) (lacks : Bool) (i : ℕ) (front : Front)
     (complete : List Stored) (current : Option Stored) (ms : List Mark) : Type 0 where
-  pub ready : Ready w s ks marks heads ms
+  pub ready : Ready w s ks marks heads slots ms
   pub sized : Sized ks notes depths
   pub marked : length ms ≡ n
   pub space : 6 * n ≤ i
@@ -128,8 +130,8 @@ module _ (ks : List ℕ) (es : List Stored) (d : Stored) (vs : List Part) where
   unfolding nameAt
   name-last = rw (add-one) (ap (λ (x : Stored). x .name) (getD-at es (filled d vs) [] blank (length es) refl))
 
-module _ {w : ℕ} {s : Bytes} {ks : List ℕ} {notes : Notes} {depths marks heads : List ℕ} {n : ℕ} {lacks : Bool} {i : ℕ} {front : Front}
-    {complete : List Stored} {current : Option Stored} {ms : List Mark} (st : Standing w s ks notes depths marks heads n lacks i front complete current ms)
+module _ {w : ℕ} {s : Bytes} {ks : List ℕ} {notes : Notes} {depths marks heads slots : List ℕ} {n : ℕ} {lacks : Bool} {i : ℕ} {front : Front}
+    {complete : List Stored} {current : Option Stored} {ms : List Mark} (st : Standing w s ks notes depths marks heads slots n lacks i front complete current ms)
     {k a b c l : ℕ} (is : front ≡ Taken k a b c l) {r : Ruling} (ruled : r ≡ entryRuling w s ks depths heads (notes .count) lacks i k a b c l ms) where
   abbrev es : List Stored
   es = entriesOf (reading ks complete current)
@@ -174,14 +176,15 @@ module _ {w : ℕ} {s : Bytes} {ks : List ℕ} {notes : Notes} {depths marks hea
     fits-here = (taken-fits w s i here .0, taken-fits w s i here .1, taken-wide w (drop i s) here)
 
     -- the entry and its mark have their places
-    pub standing-room : (notes .count < 256) × (a ≤ notes .count) × (getD depths a 0 < 8) × (n < 10923) × (r .bucket < 2048) × (i + (5 * w + 1 + l) ≤ length s)
+    pub standing-room : (notes .count < 256) × (a ≤ notes .count) × (getD depths a 0 < 8) × (n < 10923) × (r .bucket < 2048) × (r .slot < 16384) × (i + (5 * w + 1 + l) ≤ length s)
     standing-room =
         let t = taking .0 in
         let bucket : r .bucket ≡ bucketAt (keyOf ks a b) (valueOf w l (drop i s)) = ap (λ (y : Ruling). y .bucket) (t .ruling) in
-        (t .room, t .parent, t .level, omega (arith, st .marked, st .ready .room), rw bucket (bucket-bound _ _), fits-here .1)
+        let slot : r .slot ≡ slotAt (keyOf ks a b) (valueOf w l (drop i s)) = ap (λ (y : Ruling). y .slot) (t .ruling) in
+        (t .room, t .parent, t .level, omega (arith, st .marked, st .ready .room), rw bucket (bucket-bound _ _), rw slot (slot-bound _ _), fits-here .1)
 
     -- its value lines follow
-    pub standing-begun : Begun w s ks (set marks n (r .mark)) (set heads (r .bucket) (n + 1)) (n + 1) e es d (m ∷ ms)
+    pub standing-begun : Begun w s ks (set marks n (r .mark)) (set heads (r .bucket) (n + 1)) (set slots (r .slot) 1) (n + 1) e es d (m ∷ ms)
     standing-begun =
         let t = taking .0 in
         let h = fits-here in
@@ -190,7 +193,7 @@ module _ {w : ℕ} {s : Bytes} {ks : List ℕ} {notes : Notes} {depths marks hea
         let low : a ≤ 256 = omega (arith, t .parent, t .room) in
         let number : notes .count + 1 ≡ length (es ++ (d ∷ [])) = ap (λ (q : ℕ). q + 1) (st .counted .number) ∙ sym (length-append es (d ∷ [])) in
         record {
-          ready = ready-more (st .ready) m (record { key = key-bound ks a b few (omega arith); size = h .0; line = h .1 }) n (r .bucket) (r .mark) (st .marked) (ap (λ (y : Ruling). y .bucket) (t .ruling)) (ap (λ (y : Ruling). y .mark) (t .ruling)) (omega (arith, st .space, h, st .ready .sheet));
+          ready = ready-more (st .ready) m (record { key = key-bound ks a b few (omega arith); size = h .0; line = h .1 }) n (r .bucket) (r .slot) (r .mark) (st .marked) (ap (λ (y : Ruling). y .bucket) (t .ruling)) (ap (λ (y : Ruling). y .slot) (t .ruling)) (ap (λ (y : Ruling). y .mark) (t .ruling)) (omega (arith, st .space, h, st .ready .sheet));
           count = omega (arith, st .marked);
           number = number;
           most = omega (arith, t .room);
@@ -203,11 +206,11 @@ module _ {w : ℕ} {s : Bytes} {ks : List ℕ} {notes : Notes} {depths marks hea
           valued = rw number (valued-none ks rising few w s m a b (valueOf w l (drop i s)) refl refl (t .fit) (st .counted .named) low d refl refl);
         }
 
-    pub standing-lost : {marks′ heads′ : List ℕ} {run : ValueLines} → ValuesJudged w s ks marks′ heads′ e es d run → (run .refusal ≡ 0 → ⊥)
+    pub standing-lost : {marks′ heads′ slots′ : List ℕ} {run : ValueLines} → ValuesJudged w s ks marks′ heads′ slots′ e es d run → (run .refusal ≡ 0 → ⊥)
         → fold step finish 2 nothing (lines w s) ≡ refuse (run .refusal)
     standing-lost v q = st .judged ∙ judged-on w s i here (reading ks complete current) (reading ks es (some d)) (taking .1) ∙ v .refused q
 
-    module _ {marks′ heads′ : List ℕ} {run : ValueLines} {ms′ : List Mark} (v : ValuesStopped w s ks marks′ heads′ e es d run ms′) where
+    module _ {marks′ heads′ slots′ : List ℕ} {run : ValueLines} {ms′ : List Mark} (v : ValuesStopped w s ks marks′ heads′ slots′ e es d run ms′) where
       abbrev vs : List Part
       vs = valuesOf (linesAt w s (after w e))
 
@@ -247,7 +250,7 @@ module _ {w : ℕ} {s : Bytes} {ks : List ℕ} {notes : Notes} {depths marks hea
               (st .noted j (omega arith))
 
       -- the next line that is no value line
-      pub standing-on : Standing w s ks (noting notes i a b l) (set depths (notes .count + 1) (getD depths a 0 + 1)) marks′ heads′ (run .marks) (not (run .held)) (run .at) (run .front)
+      pub standing-on : Standing w s ks (noting notes i a b l) (set depths (notes .count + 1) (getD depths a 0 + 1)) marks′ heads′ slots′ (run .marks) (not (run .held)) (run .at) (run .front)
           es (some (filled d vs)) ms′
       unfolding entriesOf lacksNaming
       standing-on = record {
@@ -299,8 +302,8 @@ refusedWith notes n = record {
   lengths = notes .lengths;
 }
 
-module _ {w : ℕ} {s : Bytes} {ks : List ℕ} {notes : Notes} {depths marks heads : List ℕ} {n : ℕ} {lacks : Bool} {i : ℕ} {front : Front}
-    {complete : List Stored} {current : Option Stored} {ms : List Mark} (st : Standing w s ks notes depths marks heads n lacks i front complete current ms) where
+module _ {w : ℕ} {s : Bytes} {ks : List ℕ} {notes : Notes} {depths marks heads slots : List ℕ} {n : ℕ} {lacks : Bool} {i : ℕ} {front : Front}
+    {complete : List Stored} {current : Option Stored} {ms : List Mark} (st : Standing w s ks notes depths marks heads slots n lacks i front complete current ms) where
   ends : front ≡ End → fold step finish 2 nothing (lines w s) ≡ refuseIf lacks 6 (accept (record { schema = schemaOf ks; entries = entriesOf (reading ks complete current) }))
   unfolding finish
   ends is = st .judged ∙ judged-end w s i _ (sym (st .stands) ∙ is) ∙ rw (← st .counted .lacking)
@@ -356,7 +359,7 @@ pub record Opened (w : ℕ) (s : Bytes) (ks : List ℕ) (notes : Notes) (i : ℕ
   pub judged : fold step finish 2 nothing (lines w s) ≡ judgedFrom w s (typed ks) i
 
 module _ {w : ℕ} {s : Bytes} {ks : List ℕ} {notes : Notes} {i : ℕ} {front : Front} (o : Opened w s ks notes i front) where
-  pub standing-start : Standing w s ks notes (replicate 257 0) (replicate 10923 0) (replicate 2048 0) 0 false i front [] none []
+  pub standing-start : Standing w s ks notes (replicate 257 0) (replicate 10923 0) (replicate 2048 0) (replicate 16384 0) 0 false i front [] none []
   unfolding entriesOf lacksNaming lastIn nameAt
   standing-start = record {
     ready = record {
@@ -369,6 +372,8 @@ module _ {w : ℕ} {s : Bytes} {ks : List ℕ} {notes : Notes} {i : ℕ} {front 
         buckets = length-replicate {A = ℕ} 2048 0;
         chained = tt;
         newest = λ b h. getD-replicate 2048 b 0 0 h;
+        table = length-replicate {A = ℕ} 16384 0;
+        slotted = tt;
       };
       room = omega arith;
     };

@@ -1,9 +1,2 @@
 pub mod Judged
-pub mod Mark
-pub mod Lines
-pub mod Schema
-pub mod Types
-pub mod Twins
-pub mod Rulings
-pub mod Values
 pub mod Entries

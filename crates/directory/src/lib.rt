@@ -1,10 +1,5 @@
 // The directory sheet judged line by line: the refusal that the rules give, or 0 with what later steps need of the sheet,
 // noted on the way: the schema as numbers, and each entry line's position, parent, naming type and length.
-mod entry;
-mod mark;
-mod schema;
-mod values;
-
 use rules::Front;
 ghost use mathlib.Core.Path.{_≡_};
 ghost use Prim.Native.Nat.{_≤_};
@@ -78,6 +73,7 @@ fn entries(s: &[u8], w: usize, schema: &[u64], begun: Notes, from: usize, first:
     let mut depths: [usize; 257] = [0; 257];
     let mut marks: [usize; 10923] = [0; 10923];
     let mut heads: [usize; 2048] = [0; 2048];
+    let mut slots: [u8; 16384] = [0; 16384];
     let mut n: usize = 0;
     let mut lacks = false;
     let mut i = from;
@@ -94,13 +90,14 @@ fn entries(s: &[u8], w: usize, schema: &[u64], begun: Notes, from: usize, first:
             return refused(notes, ended(front, lacks));
         };
         let count = notes.count;
-        let x = entry::entry_line(
+        let x = hierarchy::entry_line(
             s,
             w,
             schema,
             &depths,
             &marks,
             &heads,
+            &slots,
             count,
             lacks,
             i,
@@ -114,15 +111,17 @@ fn entries(s: &[u8], w: usize, schema: &[u64], begun: Notes, from: usize, first:
             return refused(notes, x.refusal);
         }
         let bucket = x.bucket;
+        let slot = x.slot;
         marks[n] = x.mark;
         heads[bucket] = n + 1;
-        let e = values::Current {
+        slots[slot] = 1;
+        let e = attribute::Current {
             number: count + 1,
             naming: b,
             at: i,
             length,
         };
-        let run = values::values(s, w, schema, e, n + 1, &mut marks, &mut heads);
+        let run = attribute::values(s, w, schema, e, n + 1, &mut marks, &mut heads, &mut slots);
         if run.refusal != 0 {
             return refused(notes, run.refusal);
         }

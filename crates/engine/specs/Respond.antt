@@ -26,9 +26,9 @@ use Rattle.request.specs.declared.Asked.{Asked}
 -- ---- what planning is lent
 
 pub lent-of : (w : ℕ) (d : Bytes) (at parents naming lengths reach chosen types places sizes : List ℕ) → Numbers w d at parents naming lengths
-    → length places ≡ length types → length sizes ≡ length types → 65536 ≤ (5 * w + 1) * length types → length types ≤ 65536 → length reach ≤ length chosen
+    → length places ≡ length types → length sizes ≡ length types → 65536 ≤ (5 * w + 1) * length types → length types ≤ 65536 → length reach ≤ length chosen → length reach ≤ 256
     → Lent w d at parents lengths reach chosen types places sizes
-lent-of w d at parents naming lengths reach chosen types places sizes n a b c e f = record {
+lent-of w d at parents naming lengths reach chosen types places sizes n a b c e f g = record {
   narrow = n .narrow;
   wide = n .wide;
   small = n .small;
@@ -37,6 +37,7 @@ lent-of w d at parents naming lengths reach chosen types places sizes n a b c e 
   lengths-noted = n .lengths-noted;
   within = n .within;
   items = f;
+  few-items = g;
   places-noted = a;
   sizes-noted = b;
   values = let z : length d ≤ 65536 = n .small in omega (arith, z, c);

@@ -16,7 +16,7 @@ use Rattle.rules.specs.Sheet.{Bytes, frontOf}
 use Rattle.rules.specs.Name.{Part, part}
 use Rattle.rules.specs.Places.{linesAt, valuesOf, ValuesAt}
 use Rattle.rules.specs.Laws.Sheet.{lines-taken, lines-broken, lines-end, taken-fits}
-use Rattle.sheet.specs.Laws.Read.{part-of}
+use Rattle.rules.specs.Laws.Sheet.{part-of}
 use Rattle.rules.specs.declared.Front.the-variants.{Taken, NotInForm, End}
 
 -- the `len` bytes at `place`; none where the sheet ends before

@@ -2,15 +2,15 @@
 -- the other.
 use Prim.Native.Nat.{ℕ, zero, suc, _+_, _-_, _*_, _≤_, _<_}
 use mathlib.Core.Path.{_≡_, refl, sym, ap, ap₂, _∙_, subst}
-use mathlib.Core.Bool.{Bool, true, false, _&&_, _||_, true≢false}
+use mathlib.Core.Bool.{Bool, true, false, _&&_, _||_, cond}
 use mathlib.Core.List.{List, [], _∷_, _++_, map, append-assoc, append-nil}
 use native.Mathlib.Numerals.{add-one}
 use native.Mathlib.Omega.{arith}
 use native.Mathlib.Decide.{decLt}
-use lib.Dec.{eqb, leb}
-use lib.ListN.{length, getD, drop, length-append, length-drop, drop-of-length-le}
+use lib.Dec.{eqb}
+use lib.ListN.{length, getD, take, drop, length-append, length-drop, drop-of-length-le}
 use lib.Seq.{drop-cons, length-take-le}
-use borrow.Author.Tests.{eq-eqb, ne-eqb, leb-true}
+use borrow.Author.Tests.{eq-eqb, ne-eqb}
 use Rattle.rules.specs.Lists.{given, gather, any, keep}
 use Rattle.rules.specs.Sheet.{Bytes, Line, line}
 use Rattle.rules.specs.Name.{Part, part, Name}
@@ -23,11 +23,14 @@ use Rattle.rules.specs.Places.{schemaOf, ValuesAt}
 use Rattle.rules.specs.Laws.Held.{valuesAhead, afterType, held-first, any-type}
 use Rattle.rules.specs.Laws.Loops.{gather-append}
 use Rattle.decision.specs.Chosen.{Rows, Chosen}
-use Rattle.scores.specs.Scores.{Scored, typeScore}
-use Rattle.scores.specs.Values.{valueScore, Singles, singles-all}
+use Rattle.decision.specs.Grants.{passBy, grantedBy, askedOf, askedOfType, generalAsked, specificAsked, type-decided}
+use Rattle.scores.specs.Items.{itemsAbout, Sorts, pass-of-type}
+use Rattle.scores.specs.Slots.{slotsOf}
+use Rattle.scores.specs.Values.{valueScore, Singles, singles-of}
 use Rattle.entry.specs.Values.{bytesAt, bytes-within, bytes-beyond}
 use Rattle.answer.specs.Emit.{emitLines, Emits}
 use Rattle.answer.specs.Laws.{emits-none, emits-append, emits-before}
+use Rattle.scores.specs.declared.items.Sorted.{Sorted}
 use Rattle.information.specs.declared.values.Written.{Written}
 
 -- the values from index `i` to `end`, whatever they are: all are noted
@@ -40,35 +43,75 @@ pub record Range (w : ℕ) (d : Bytes) (places sizes : List ℕ) (i end : ℕ) :
   pub places-noted : end ≤ length places
   pub sizes-noted : end ≤ length sizes
 
--- what the decisions about the entry with the full name `n` rest on
+-- what the decisions about the entry with the full name `n` rest on: the items that concern it
 pub record Grounds (σ : Setting) (n : Name) (schema : List ℕ) (w : ℕ) (p : Bytes) (rights list : List ℕ) : Type 0 where
   pub scopes : List ℕ
   pub schema-is : σ .schema ≡ schemaOf schema
   pub rows : Rows w p (σ .items) rights scopes
   pub chosen : Chosen σ n list
 
--- the items about the values of the type `t`: a greatest score, if it is not 0, and those about one value
-pub record Weighed (rights list singles : List ℕ) (score t : ℕ) : Type 0 where
-  pub scored : (score ≡ 0 → ⊥) → score ≡ valueScore rights list Read t
+-- the items about the values of the type `t`: the greatest score of those about all of them, and those about one value with their slots
+pub record Weighed (σ : Setting) (n : Name) (schema : List ℕ) (w : ℕ) (p : Bytes) (rights singles slots : List ℕ) (score t : ℕ) : Type 0 where
+  pub list : List ℕ
+  pub grounds : Grounds σ n schema w p rights list
+  pub scored : score ≡ valueScore rights list Read t
   pub picked : Singles rights Read list singles
+  pub slots-noted : slots ≡ slotsOf rights singles
 
--- what was asked ahead about the types `keys`
-pub record Tables (rights list keys typed valued singles : List ℕ) : Type 0 where
-  pub of-types : Scored (typeScore rights list Read) keys typed
-  pub of-values : Scored (valueScore rights list Read) keys valued
-  pub picked : Singles rights Read list singles
+-- the items sorted; those about one value are needed only if values are wanted
+pub record Asked (σ : Setting) (n : Name) (schema : List ℕ) (w : ℕ) (p : Bytes) (rights : List ℕ) (general all : ℕ) (typed valued singles slots : List ℕ) (values : Bool) : Type 0 where
+  pub list : List ℕ
+  pub grounds : Grounds σ n schema w p rights list
+  pub general-is : general ≡ passBy (generalAsked rights Read) rights 1 list
+  pub all-is : all ≡ passBy (askedOf 2 rights Read) rights 1 list
+  pub typed-kept : typed ≡ itemsAbout rights 3 Read list
+  pub valued-kept : valued ≡ itemsAbout rights 4 Read list
+  pub singles-kept : values ≡ true → singles ≡ itemsAbout rights 5 Read list
+  pub slots-noted : slots ≡ slotsOf rights singles
 
-pub few-items : (wanted : Bool) (m : ℕ) → (wanted && leb m 256) ≡ true → m ≤ 256
-few-items true m e = leb-true m 256 e
-few-items false m e = absurd (true≢false (sym e))
+-- the greatest score of the items about the type `t` decides
+abbrev pub DecidedBy : Setting → Name → List ℕ → ℕ → List ℕ → ℕ → ℕ → Type 0
+DecidedBy σ n rights general items t q = grantedBy (passBy (specificAsked rights t q) rights general items) ≡ granted σ n (ofType t) q
 
--- nothing was asked about values
-pub tables-of-types : (rights list keys typed none : List ℕ) → Scored (typeScore rights list Read) keys typed → length none ≡ 0 → Tables rights list keys typed none list
-tables-of-types rights list keys typed none h e = record {
-  of-types = h;
-  of-values = λ i l k. absurd (omega (arith, e, k));
-  picked = singles-all rights Read list;
+module _ {σ : Setting} {n : Name} {schema : List ℕ} {w : ℕ} {p : Bytes} {rights : List ℕ} {general all : ℕ} {typed valued singles slots : List ℕ} {values : Bool}
+    (h : Asked σ n schema w p rights general all typed valued singles slots values) (t : ℕ)
+  where
+    pub asked-type : DecidedBy σ n rights general typed t Read
+    asked-type =
+        ap grantedBy
+        (pass-of-type rights 3 Read t (h .list) typed (h .typed-kept) general ∙ ap (λ (b : ℕ). passBy (specificAsked rights t Read) rights b (h .list)) (h .general-is))
+        ∙ type-decided σ Read w p rights (h .grounds .scopes) (h .grounds .rows) n (h .list) (h .grounds .chosen) t
+
+    pub asked-values : values ≡ true → (score : ℕ) → score ≡ passBy (askedOfType 4 rights t Read) rights all valued → Weighed σ n schema w p rights singles slots score t
+    asked-values e score f = record {
+      list = h .list;
+      grounds = h .grounds;
+      scored = f ∙ pass-of-type rights 4 Read t (h .list) valued (h .valued-kept) all ∙ ap (λ (b : ℕ). passBy (askedOfType 4 rights t Read) rights b (h .list)) (h .all-is);
+      picked = singles-of rights Read (h .list) singles (h .singles-kept e);
+      slots-noted = h .slots-noted;
+    }
+
+-- the items of the list, sorted
+pub asked-sorted : {σ : Setting} {n : Name} {schema : List ℕ} {w : ℕ} {p : Bytes} {rights list : List ℕ} → Grounds σ n schema w p rights list
+    → (s : Sorted) (typed valued singles : List ℕ) → Sorts rights Read list s typed valued singles → (values : Bool) (ones : ℕ) → ones ≡ cond values (s .single) 0
+    → (slots : List ℕ) → slots ≡ slotsOf rights (take (ones - 0) singles)
+    → Asked σ n schema w p rights (s .general) (s .all) (take (s .typed - 0) typed) (take (s .valued - 0) valued) (take (ones - 0) singles) slots values
+asked-sorted {list = list} G s typed valued singles h values ones e slots f = record {
+  list = list;
+  grounds = G;
+  general-is = h .general;
+  all-is = h .all;
+  typed-kept = let z : s .typed - 0 ≡ s .typed = omega arith in rw z (h .typed-kept);
+  valued-kept = let z : s .valued - 0 ≡ s .valued = omega arith in rw z (h .valued-kept);
+  singles-kept = λ g. let z : ones - 0 ≡ s .single = omega (arith, e ∙ ap (λ (b : Bool). cond b (s .single) 0) g) in rw z (h .singles-kept);
+  slots-noted = f;
 }
+
+-- .. or not sorted
+pub type-decided-from : (σ : Setting) (q w : ℕ) (p : Bytes) (rights scopes : List ℕ) → Rows w p (σ .items) rights scopes → (n : Name) (list : List ℕ) → Chosen σ n list
+    → (t general : ℕ) → general ≡ passBy (generalAsked rights q) rights 1 list → DecidedBy σ n rights general list t q
+type-decided-from σ q w p rights scopes rows n list c t general e =
+    ap (λ (b : ℕ). grantedBy (passBy (specificAsked rights t q) rights b list)) e ∙ type-decided σ q w p rights scopes rows n list c t
 
 -- ---- values by their numbers
 

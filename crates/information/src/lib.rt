@@ -1,14 +1,14 @@
-// What is returned of an entry. The items are asked ahead about its types and their values, in a few passes.
+// What is returned of an entry. The items that concern it are sorted once by what they are about; a type then asks only those about one type, and a value
+// only those about one value whose digest has the same slot.
 pub mod types;
 pub mod values;
 
-use scores::types::scores_of_types;
-use scores::values::single_items;
-use scores::values::value_scores;
+use scores::items::score_about;
+use scores::items::sort_items;
+use scores::slots::note_digests;
 use types::emit_types;
-use types::keys_of;
 ghost use mathlib.Core.Path.{_≡_};
-ghost use mathlib.Core.Bool.{_&&_};
+ghost use mathlib.Core.Bool.{_&&_, cond};
 ghost use Prim.Native.Nat.{ℕ, _+_, _≤_, _^_};
 ghost use mathlib.Core.List.{List};
 ghost use lib.ListN.{length};
@@ -16,21 +16,22 @@ ghost use Rattle.rules.specs.Lists.{any};
 ghost use Rattle.rules.specs.Sheet.{Bytes};
 ghost use Rattle.rules.specs.Name.{Part, Name};
 ghost use Rattle.rules.specs.Directory.{heldOf};
-ghost use Rattle.rules.specs.Permission.{Read, DiscloseOnError};
+ghost use Rattle.rules.specs.Permission.{DiscloseOnError};
 ghost use Rattle.rules.specs.Decision.{Setting, ofType, granted};
 ghost use Rattle.rules.specs.Request.{Selection};
 ghost use Rattle.rules.specs.Answer as Answer;
 ghost use Rattle.rules.specs.Places.{schemaOf, ValuesAt};
 ghost use Rattle.decision.specs.Chosen.{Rows, Chosen};
-ghost use Rattle.decision.specs.Grants.{passBy, generalAsked};
-ghost use Rattle.scores.specs.Scores.{Scored, typeScore};
 ghost use Rattle.answer.specs.Emit.{Emits};
-ghost use Rattle.information.specs.Information.{selectedWith};
+ghost use Rattle.information.specs.Information.{DecidedBy, selectedWith};
 
 // The permissions by their numbers.
 pub(crate) const READ: u64 = 1;
 
 const DISCLOSE_ON_ERROR: u64 = 8;
+
+// What an item is about: one type.
+const ONE_TYPE: u64 = 3;
 
 // Is the type selected: all are, or it is among those wanted?
 pub fn selected(listed: bool, wanted: &[u64], t: u64) -> bool
@@ -49,10 +50,11 @@ pub fn selected(listed: bool, wanted: &[u64], t: u64) -> bool
     true
 }
 
-// Is the type selected, and the permission `q` granted on it? `general` is the greatest score of the items about all types.
-fn selected_with(
+// Is the type selected, and the permission `q` granted on it? `general` is the greatest score of the items about all types, and `items` has those about
+// one type.
+pub(crate) fn selected_with(
     rights: &[u64],
-    list: &[usize],
+    items: &[usize],
     general: u64,
     listed: bool,
     wanted: &[u64],
@@ -60,10 +62,11 @@ fn selected_with(
     q: u64,
 ) -> bool
     requires { ⌜ 1 ≤ q ⌝ }
-    ensures { λ r. ⌜ ((σ : Setting) (n : Name) (w : ℕ) (p : Bytes) (scopes : List ℕ) (s : Selection) → Rows w p (σ .items) (now (rights .entry)) scopes → Chosen σ n (now (list .entry)) → s .listed ≡ listed → s .types ≡ now (wanted .entry) → general ≡ passBy (generalAsked (now (rights .entry)) q) (now (rights .entry)) 1 (now (list .entry)) → r ≡ selectedWith σ s n q t) ⌝ }
+    ensures { λ r. ⌜ ((σ : Setting) (n : Name) (s : Selection) → DecidedBy σ n (now (rights .entry)) general (now (items .entry)) t q → s .listed ≡ listed → s .types ≡ now (wanted .entry) → r ≡ selectedWith σ s n q t) ⌝ }
 {
     if selected(listed, wanted, t) {
-        return decision::granted_type_beside(rights, list, general, t, q);
+        let score = score_about(rights, items, ONE_TYPE, general, t, q);
+        return score % 2 == 0;
     }
     false
 }
@@ -97,119 +100,17 @@ pub fn discloses(
     false
 }
 
-// All that is returned of an entry, where the items about values are still to be asked: 256 at most.
-fn emit_with_values(
-    out: &mut [u8],
-    at: usize,
-    w: usize,
-    schema: &[u64],
-    d: &[u8],
-    p: &[u8],
-    rights: &[u64],
-    list: &[usize],
-    keys: &[u64],
-    typed: &[u64],
-    types: &[u64],
-    places: &[usize],
-    sizes: &[usize],
-    listed: bool,
-    wanted: &[u64],
-    values: bool,
-) -> usize
-    requires { ⌜ (1 ≤ w) × (w ≤ 18) × (at ≤ 2 ^ 50) × (length (now d) ≤ 65536) × (length (now places) ≡ length (now types)) × (length (now sizes) ≡ length (now types)) × (length (now types) ≤ 65536) × (length (now list) ≤ 256) ⌝ }
-    ensures { λ r. ⌜ (r ≤ at + 2 ^ 40) × ((σ : Setting) (n : Name) (scopes : List ℕ) (ps : List Part) (s : Selection) → σ .schema ≡ schemaOf (now (schema .entry)) → Rows w (now (p .entry)) (σ .items) (now (rights .entry)) scopes → Chosen σ n (now (list .entry)) → ValuesAt (now (d .entry)) ps (now (types .entry)) (now (places .entry)) (now (sizes .entry)) → s .listed ≡ listed → s .types ≡ now (wanted .entry) → s .values ≡ values → Scored (typeScore (now (rights .entry)) (now (list .entry)) Read) (now (keys .entry)) (now (typed .entry)) → Emits w (now (out .entry)) at (Answer.information σ s (record { name = n; held = heldOf ps })) (now (out .exit)) r) ⌝ }
+// So many if values are `wanted`, else none.
+fn if_wanted(wanted: bool, n: usize) -> usize
+    ensures { λ r. ⌜ (r ≤ n) × (r ≡ cond wanted n 0) ⌝ }
 {
-    let valued = value_scores(keys, rights, list, READ);
-    let mut singles: [usize; 256] = [0; 256];
-    let n = single_items(rights, list, READ, &mut singles);
-    emit_types(
-        out,
-        at,
-        w,
-        schema,
-        d,
-        p,
-        rights,
-        list,
-        keys,
-        typed,
-        &valued,
-        &singles[0..n],
-        types,
-        places,
-        sizes,
-        listed,
-        wanted,
-        values,
-    )
-}
-
-// The same where nothing was asked. If no values are wanted, nothing is asked about them ahead; there are 256 items at most.
-fn emit_keyed(
-    out: &mut [u8],
-    at: usize,
-    w: usize,
-    schema: &[u64],
-    d: &[u8],
-    p: &[u8],
-    rights: &[u64],
-    list: &[usize],
-    keys: &[u64],
-    types: &[u64],
-    places: &[usize],
-    sizes: &[usize],
-    listed: bool,
-    wanted: &[u64],
-    values: bool,
-) -> usize
-    requires { ⌜ (1 ≤ w) × (w ≤ 18) × (at ≤ 2 ^ 50) × (length (now d) ≤ 65536) × (length (now places) ≡ length (now types)) × (length (now sizes) ≡ length (now types)) × (length (now types) ≤ 65536) ⌝ }
-    ensures { λ r. ⌜ (r ≤ at + 2 ^ 40) × ((σ : Setting) (n : Name) (scopes : List ℕ) (ps : List Part) (s : Selection) → σ .schema ≡ schemaOf (now (schema .entry)) → Rows w (now (p .entry)) (σ .items) (now (rights .entry)) scopes → Chosen σ n (now (list .entry)) → ValuesAt (now (d .entry)) ps (now (types .entry)) (now (places .entry)) (now (sizes .entry)) → s .listed ≡ listed → s .types ≡ now (wanted .entry) → s .values ≡ values → Emits w (now (out .entry)) at (Answer.information σ s (record { name = n; held = heldOf ps })) (now (out .exit)) r) ⌝ }
-{
-    let typed = scores_of_types(keys, rights, list, READ);
-    if values & (list.len() <= 256) {
-        return emit_with_values(
-            out,
-            at,
-            w,
-            schema,
-            d,
-            p,
-            rights,
-            list,
-            keys,
-            &typed,
-            types,
-            places,
-            sizes,
-            listed,
-            wanted,
-            values,
-        );
+    if wanted {
+        return n;
     }
-    let none: [u64; 1] = [0; 1];
-    emit_types(
-        out,
-        at,
-        w,
-        schema,
-        d,
-        p,
-        rights,
-        list,
-        keys,
-        &typed,
-        &none[0..0],
-        list,
-        types,
-        places,
-        sizes,
-        listed,
-        wanted,
-        values,
-    )
+    0
 }
 
-// All that is returned of an entry: each selected type that may be read and, if values are wanted, its values that may be read.
+// All that is returned of an entry: each selected type that may be read and, if values are wanted, its values that may be read. At most 256 items concern it.
 pub fn emit_information(
     out: &mut [u8],
     at: usize,
@@ -226,12 +127,18 @@ pub fn emit_information(
     wanted: &[u64],
     values: bool,
 ) -> usize
-    requires { ⌜ (1 ≤ w) × (w ≤ 18) × (at ≤ 2 ^ 50) × (length (now d) ≤ 65536) × (length (now places) ≡ length (now types)) × (length (now sizes) ≡ length (now types)) × (length (now types) ≤ 65536) ⌝ }
+    requires { ⌜ (1 ≤ w) × (w ≤ 18) × (at ≤ 2 ^ 50) × (length (now d) ≤ 65536) × (length (now places) ≡ length (now types)) × (length (now sizes) ≡ length (now types)) × (length (now types) ≤ 65536) × (length (now list) ≤ 256) ⌝ }
     ensures { λ r. ⌜ (r ≤ at + 2 ^ 40) × ((σ : Setting) (n : Name) (scopes : List ℕ) (ps : List Part) (s : Selection) → σ .schema ≡ schemaOf (now (schema .entry)) → Rows w (now (p .entry)) (σ .items) (now (rights .entry)) scopes → Chosen σ n (now (list .entry)) → ValuesAt (now (d .entry)) ps (now (types .entry)) (now (places .entry)) (now (sizes .entry)) → s .listed ≡ listed → s .types ≡ now (wanted .entry) → s .values ≡ values → Emits w (now (out .entry)) at (Answer.information σ s (record { name = n; held = heldOf ps })) (now (out .exit)) r) ⌝ }
 {
-    let mut keys: [u64; 64] = [0; 64];
-    let n = keys_of(types, &mut keys);
-    emit_keyed(
+    let mut typed: [usize; 256] = [0; 256];
+    let mut valued: [usize; 256] = [0; 256];
+    let mut singles: [usize; 256] = [0; 256];
+    let s = sort_items(rights, list, READ, &mut typed, &mut valued, &mut singles);
+    let of_types = s.typed;
+    let of_values = s.valued;
+    let ones = if_wanted(values, s.single);
+    let slots = note_digests(rights, &singles[0..ones]);
+    emit_types(
         out,
         at,
         w,
@@ -239,8 +146,12 @@ pub fn emit_information(
         d,
         p,
         rights,
-        list,
-        &keys[0..n],
+        s.general,
+        s.all,
+        &typed[0..of_types],
+        &valued[0..of_values],
+        &singles[0..ones],
+        &slots,
         types,
         places,
         sizes,

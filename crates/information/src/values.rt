@@ -2,7 +2,7 @@
 // and how many they are.
 use super::READ;
 use answer::line::emit;
-use scores::values::granted_value_told;
+use scores::values::granted_value_among;
 ghost use Prim.Native.Nat.{_+_, _-_, _*_, _≤_, _^_};
 ghost use mathlib.Core.List.{[], _∷_};
 ghost use lib.ListN.{length};
@@ -11,7 +11,7 @@ ghost use Rattle.rules.specs.Decision.{Setting};
 ghost use Rattle.rules.specs.Answer as Answer;
 ghost use Rattle.entry.specs.Values.{bytesAt};
 ghost use Rattle.answer.specs.Emit.{Emits};
-ghost use Rattle.information.specs.Information.{Range, Grounds, Weighed, noted, readable, Counted};
+ghost use Rattle.information.specs.Information.{Range, Weighed, noted, readable, Counted};
 
 // The place after the values written so far, and how many they are.
 pub struct Written {
@@ -28,18 +28,18 @@ fn emit_value(
     d: &[u8],
     p: &[u8],
     rights: &[u64],
-    list: &[usize],
     singles: &[usize],
+    slots: &[u8],
     score: u64,
     t: u64,
     place: usize,
     size: usize,
 ) -> Written
     requires { ⌜ (1 ≤ w) × (w ≤ 18) × (length (now d) ≤ 65536) × (st .next ≤ 2 ^ 53) × (st .count ≤ 65536) ⌝ }
-    ensures { λ r. ⌜ (r .next ≤ st .next + 2 ^ 17) × (r .count ≤ st .count + 1) × ((σ : Setting) (n : Name) → Grounds σ n (now (schema .entry)) w (now (p .entry)) (now (rights .entry)) (now (list .entry)) → Weighed (now (rights .entry)) (now (list .entry)) (now (singles .entry)) score t → Counted w (now (out .entry)) st (readable σ n t (bytesAt (now (d .entry)) place size ∷ [])) (now (out .exit)) r) ⌝ }
+    ensures { λ r. ⌜ (r .next ≤ st .next + 2 ^ 17) × (r .count ≤ st .count + 1) × ((σ : Setting) (n : Name) → Weighed σ n (now (schema .entry)) w (now (p .entry)) (now (rights .entry)) (now (singles .entry)) (now (slots .entry)) score t → Counted w (now (out .entry)) st (readable σ n t (bytesAt (now (d .entry)) place size ∷ [])) (now (out .exit)) r) ⌝ }
 {
     let v = entry::bytes_at(d, place, size);
-    if granted_value_told(schema, w, p, rights, list, singles, score, t, v, READ) {
+    if granted_value_among(schema, w, p, rights, singles, slots, score, t, v, READ) {
         return Written {
             next: emit(out, st.next, w, 35, 0, 0, 0, v),
             count: st.count + 1,
@@ -57,8 +57,8 @@ fn emit_values(
     d: &[u8],
     p: &[u8],
     rights: &[u64],
-    list: &[usize],
     singles: &[usize],
+    slots: &[u8],
     score: u64,
     places: &[usize],
     sizes: &[usize],
@@ -67,7 +67,7 @@ fn emit_values(
     end: usize,
 ) -> Written
     requires { ⌜ Range w (now d) (now places) (now sizes) i end × (at ≤ 2 ^ 52) ⌝ }
-    ensures { λ r. ⌜ (r .next ≤ at + (end - i) * 2 ^ 17) × ((σ : Setting) (n : Name) → Grounds σ n (now (schema .entry)) w (now (p .entry)) (now (rights .entry)) (now (list .entry)) → Weighed (now (rights .entry)) (now (list .entry)) (now (singles .entry)) score t → Counted w (now (out .entry)) (record { next = at; count = 0 }) (readable σ n t (noted (now (d .entry)) (now (places .entry)) (now (sizes .entry)) i (end - i))) (now (out .exit)) r) ⌝ }
+    ensures { λ r. ⌜ (r .next ≤ at + (end - i) * 2 ^ 17) × ((σ : Setting) (n : Name) → Weighed σ n (now (schema .entry)) w (now (p .entry)) (now (rights .entry)) (now (singles .entry)) (now (slots .entry)) score t → Counted w (now (out .entry)) (record { next = at; count = 0 }) (readable σ n t (noted (now (d .entry)) (now (places .entry)) (now (sizes .entry)) i (end - i))) (now (out .exit)) r) ⌝ }
 {
     let mut st = Written { next: at, count: 0 };
     let mut j = i;
@@ -80,8 +80,8 @@ fn emit_values(
             d,
             p,
             rights,
-            list,
             singles,
+            slots,
             score,
             t,
             places[j],
@@ -102,8 +102,8 @@ pub(crate) fn emit_readable(
     d: &[u8],
     p: &[u8],
     rights: &[u64],
-    list: &[usize],
     singles: &[usize],
+    slots: &[u8],
     score: u64,
     places: &[usize],
     sizes: &[usize],
@@ -112,7 +112,7 @@ pub(crate) fn emit_readable(
     end: usize,
 ) -> usize
     requires { ⌜ Range w (now d) (now places) (now sizes) i end × (at ≤ 2 ^ 51) ⌝ }
-    ensures { λ r. ⌜ (r ≤ at + (end - i + 1) * 2 ^ 17) × ((σ : Setting) (n : Name) → Grounds σ n (now (schema .entry)) w (now (p .entry)) (now (rights .entry)) (now (list .entry)) → Weighed (now (rights .entry)) (now (list .entry)) (now (singles .entry)) score t → Emits w (now (out .entry)) at (Answer.valueLines t (readable σ n t (noted (now (d .entry)) (now (places .entry)) (now (sizes .entry)) i (end - i)))) (now (out .exit)) r) ⌝ }
+    ensures { λ r. ⌜ (r ≤ at + (end - i + 1) * 2 ^ 17) × ((σ : Setting) (n : Name) → Weighed σ n (now (schema .entry)) w (now (p .entry)) (now (rights .entry)) (now (singles .entry)) (now (slots .entry)) score t → Emits w (now (out .entry)) at (Answer.valueLines t (readable σ n t (noted (now (d .entry)) (now (places .entry)) (now (sizes .entry)) i (end - i)))) (now (out .exit)) r) ⌝ }
 {
     let st = emit_values(
         out,
@@ -122,8 +122,8 @@ pub(crate) fn emit_readable(
         d,
         p,
         rights,
-        list,
         singles,
+        slots,
         score,
         places,
         sizes,

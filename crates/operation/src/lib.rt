@@ -1,10 +1,10 @@
 // The plan of the answer, by the operation that is asked for.
+use compare::compare;
 use plan::Plan;
-use read::compare::compare;
-use read::read::read;
+use read::read;
 use request::Asked;
 use rules::Found;
-use search::search::search;
+use search::search;
 ghost use mathlib.Core.Path.{_≡_};
 ghost use Prim.Native.Nat.{ℕ, _≤_};
 ghost use mathlib.Core.List.{List, map};
@@ -88,7 +88,7 @@ pub fn plan_of(
         );
     }
     if asked.operation == 3 {
-        return search::list::list(
+        return list::list(
             parents,
             rights,
             reach,

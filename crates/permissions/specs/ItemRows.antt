@@ -4,16 +4,17 @@ use mathlib.Core.Path.{_≡_, refl, sym, ap, _∙_}
 use mathlib.Core.Bool.{Bool, true, false, _||_, cond}
 use native.Mathlib.Omega.{arith}
 use native.Mathlib.Nat.{not-suc-le-zero, le-of-suc-le-suc}
-use lib.Dec.{eqb, leb}
+use lib.Dec.{eqb}
 use lib.ListN.{length, getD, length-take}
-use borrow.Author.Tests.{leb-false}
 use Rattle.rules.specs.Sheet.{Bytes}
 use Rattle.rules.specs.Decision.{rank, explicit}
 use Rattle.rules.specs.Laws.Decision.{weight}
 use Rattle.permissions.specs.Noted.{Bounded, Row, score, bit}
-use Rattle.permissions.specs.Steps.{rankOf, explicitOf, weightOf, scoreOf, rightsRow, scopesRow}
-use Rattle.permissions.specs.Item.{itemOf, TookItem}
-use Rattle.permissions.specs.declared.item.Lines.{Lines}
+use Rattle.precedence.specs.Weight.{rankOf, explicitOf, weightOf, scoreOf}
+use Rattle.permissions.specs.Steps.{rightsRow, scopesRow}
+use Rattle.precedence.specs.Laws.{weight-small}
+use Rattle.item.specs.Item.{itemOf, TookItem}
+use Rattle.item.specs.declared.Lines.{Lines}
 
 -- ---- the weight of an item from its numbers
 
@@ -28,27 +29,6 @@ weight-is w p i = rw (explicit-by (eqb (i .target .a) 3) (eqb (i .target .a) 5))
 score-is : (w : ℕ) (p : Bytes) (i : Lines) → score (itemOf w p i) ≡ scoreOf (weightOf (i .head .a) (i .user .a) (i .target .a)) (i .head .c)
 unfolding score scoreOf itemOf
 score-is w p i = ap (λ (m : ℕ). cond (eqb (i .head .c) 1) (m * 2 + 2) (m * 2 + 3)) (weight-is w p i)
-
-pub rank-small : (who : ℕ) → rankOf who ≤ 2
-unfolding rankOf
-rank-small who = go (leb 2 who) refl
-  where
-    go : (t : Bool) → leb 2 who ≡ t → cond t 2 who ≤ 2
-    go true e = omega arith
-    go false e = omega (arith, leb-false 2 who e)
-
-pub explicit-small : (what : ℕ) → explicitOf what ≤ 1
-unfolding explicitOf
-explicit-small what = go (eqb what 3) (eqb what 5)
-  where
-    go : (a b : Bool) → cond a 1 (cond b 1 0) ≤ 1
-    go true b = omega arith
-    go false true = omega arith
-    go false false = omega arith
-
-pub weight-small : (precedence who what : ℕ) → precedence ≤ 255 → weightOf precedence who what ≤ 1535
-unfolding weightOf
-weight-small precedence who what h = omega (arith, rank-small who, explicit-small what)
 
 -- ---- the rows
 

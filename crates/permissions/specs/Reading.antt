@@ -15,12 +15,14 @@ use Rattle.rules.specs.Permission.{Item, item, items, permissionsOf}
 use Rattle.rules.specs.Places.{linesAt, partsOf, schemaOf}
 use Rattle.rules.specs.Laws.Judge.{refused-not, accepted-is}
 use Rattle.permissions.specs.Noted.{Judged, Noted, Row, blank, refused}
-use Rattle.permissions.specs.Steps.{noLine, surplusOf, itemLines, rightsRow, scopesRow, putAt}
-use Rattle.permissions.specs.Line.{after, surplus-is, surplus-some, not-at-end, at-end}
-use Rattle.permissions.specs.Item.{itemOf, item-is, TookItem, took-item, item-further, item-within}
+use Rattle.component.specs.Steps.{noLine, surplusOf}
+use Rattle.item.specs.Steps.{itemLines}
+use Rattle.permissions.specs.Steps.{rightsRow, scopesRow, putAt}
+use Rattle.component.specs.Laws.{after, surplus-is, surplus-some, not-at-end, at-end}
+use Rattle.item.specs.Item.{itemOf, item-is, TookItem, took-item, item-further, item-within}
 use Rattle.permissions.specs.Rows.{filled, filled-none, filled-length, filled-rest, filled-more, filled-at}
 use Rattle.permissions.specs.ItemRows.{rights-long, scopes-long, row-is}
-use Rattle.permissions.specs.declared.item.Lines.{Lines}
+use Rattle.item.specs.declared.Lines.{Lines}
 use Rattle.permissions.specs.declared.Items.{Items}
 
 abbrev rightsOf : ℕ → Bytes → List Lines → List ℕ

@@ -1,7 +1,5 @@
 // The permission sheet, judged in one pass: its refusal number, or its items as rows of numbers. Names and values are noted by their
 // positions on the sheet, a value by its digest too, so that a question about a permission reads numbers and seldom bytes.
-mod item;
-mod line;
 mod row;
 
 ghost use mathlib.Core.Path.{_≡_};
@@ -79,7 +77,7 @@ pub fn judge(p: &[u8], w: usize, schema: &[u64]) -> Items
     let mut at: usize = 0;
     while at < p.len() {
         if 256 <= count {
-            return refused(line::surplus_at(p, at, w));
+            return refused(component::surplus_at(p, at, w));
         }
         let lines = item::item_at(p, at, w, schema);
         if lines.mask.refusal != 0 {

@@ -1,51 +1,11 @@
 // The rows of an item's numbers, and their places in the arrays of all rows.
-use super::item::Lines;
+use item::Lines;
+use precedence::score;
+use precedence::weight;
 ghost use mathlib.Core.Path.{_≡_};
 ghost use Prim.Native.Nat.{_+_, _*_, _≤_, _<_};
 ghost use lib.ListN.{length};
-ghost use Rattle.permissions.specs.Steps.{rankOf, explicitOf, weightOf, scoreOf, rightsRow, scopesRow, putAt};
-
-// "Named or the entry itself, then at or below a name, then all users".
-fn rank(who: u64) -> u64
-    ensures { λ r. ⌜ r ≡ rankOf who ⌝ }
-{
-    if 2 <= who {
-        return 2;
-    }
-    who
-}
-
-// "Names the type (3) or the value (5) explicitly".
-fn explicit(what: u64) -> u64
-    ensures { λ r. ⌜ r ≡ explicitOf what ⌝ }
-{
-    if what == 3 {
-        return 1;
-    }
-    if what == 5 {
-        return 1;
-    }
-    0
-}
-
-// Precedence, then rank, then explicitness as one number.
-fn weight(precedence: u64, who: u64, what: u64) -> u64
-    requires { ⌜ precedence ≤ 255 ⌝ }
-    ensures { λ r. ⌜ r ≡ weightOf precedence who what ⌝ }
-{
-    (precedence * 3 + rank(who)) * 2 + explicit(what)
-}
-
-// The weight, and within a weight a denial before a grant: the greatest score decides, and an even one grants.
-fn score(weight: u64, grants: u64) -> u64
-    requires { ⌜ weight ≤ 65535 ⌝ }
-    ensures { λ r. ⌜ r ≡ scoreOf weight grants ⌝ }
-{
-    if grants == 1 {
-        return weight * 2 + 2;
-    }
-    weight * 2 + 3
-}
+ghost use Rattle.permissions.specs.Steps.{rightsRow, scopesRow, putAt};
 
 // What a question about a permission touches. The digest of the value spares a look at its bytes.
 fn rights_row(p: &[u8], w: usize, lines: Lines) -> [u64; 8]

@@ -13,7 +13,7 @@ use Rattle.rules.specs.declared.Found.{Found}
 use Rattle.rules.specs.declared.Found.the-variants.{At}
 use Rattle.plan.specs.declared.Plan.{Plan}
 
--- the entries' numbers lie within the sheet, and there is room: in `list` for the items of an entry, in `types`, `places` and `sizes` for its values
+-- the entries' numbers lie within the sheet, there are 256 items at most, and there is room: in `list` for the items of an entry, in `types`, `places` and `sizes` for its values
 pub record Lent (w : ℕ) (d : Bytes) (at parents lengths reach list types places sizes : List ℕ) : Type 0 where
   pub narrow : 6 ≤ w
   pub wide : w ≤ 18
@@ -23,6 +23,7 @@ pub record Lent (w : ℕ) (d : Bytes) (at parents lengths reach list types place
   pub lengths-noted : length lengths ≡ length at
   pub within : (k : ℕ) → k < length at → getD at k 0 + (5 * w + 1 + getD lengths k 0) ≤ length d
   pub items : length reach ≤ length list
+  pub few-items : length reach ≤ 256
   pub places-noted : length places ≡ length types
   pub sizes-noted : length sizes ≡ length types
   pub values : length d ≤ (5 * w + 1) * length types
@@ -58,6 +59,7 @@ lent-again {w} {d} {reach = reach} list′ types′ places′ sizes′ a b c e h
   lengths-noted = h .lengths-noted;
   within = h .within;
   items = subst (λ (n : ℕ). length reach ≤ n) (sym a) (h .items);
+  few-items = h .few-items;
   places-noted = c ∙ h .places-noted ∙ sym b;
   sizes-noted = e ∙ h .sizes-noted ∙ sym b;
   values = subst (λ (n : ℕ). length d ≤ (5 * w + 1) * n) (sym b) (h .values);

@@ -70,6 +70,11 @@ front n xs = let e : n - 0 ≡ n = omega arith in rw e
 pub fronts : (n : ℕ) (xs ys : List ℕ) → length xs ≡ length ys → length (take (n - 0) xs) ≡ length (take (n - 0) ys)
 fronts n xs ys e = rw (length-take (n - 0) xs, length-take (n - 0) ys, e)
 
+-- the values that were noted, as the fronts of the three lists
+pub values-front : (d : Bytes) (ps : List Part) (n : ℕ) (types places sizes : List ℕ) → ValuesAt d ps (take n types) (take n places) (take n sizes)
+    → ValuesAt d ps (take (n - 0) types) (take (n - 0) places) (take (n - 0) sizes)
+values-front d ps n types places sizes v = rw (front n types, front n places, front n sizes) v
+
 -- the items that concern the entry of index `k`, from what the numbers stand for
 module _ (σ : Setting) (es : List Stored) (schema : List ℕ) (w : ℕ) (d : Bytes) (at parents naming lengths : List ℕ) (p : Bytes) (rights scopes reach : List ℕ)
     (world : World σ es schema w d at parents naming lengths p rights scopes reach) (k : ℕ) where

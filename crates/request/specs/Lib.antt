@@ -1,6 +1,3 @@
 pub mod Noted
-pub mod Lines
-pub mod Filters
-pub mod Operations
 pub mod Whole
 pub mod Laws

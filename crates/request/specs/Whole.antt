@@ -5,14 +5,38 @@ use lib.Dec.{ltb, eqb}
 use lib.ListN.{length}
 use Rattle.rules.specs.Sheet.{Bytes}
 use Rattle.request.specs.Noted.{refused}
-use Rattle.request.specs.Lines.{seenAt, groupAt}
-use Rattle.request.specs.Operations.{bodyAt, asked}
+use Rattle.line.specs.Lines.{seenAt}
+use Rattle.group.specs.Groups.{groupAt}
+use Rattle.argument.specs.Operations.{bodyAt}
 use Rattle.request.specs.declared.Asked.{Asked}
-use Rattle.request.specs.declared.line.Seen.{Seen}
-use Rattle.request.specs.declared.line.Seen.the-variants as Seen
-use Rattle.request.specs.declared.line.Seen.the-variants.{NotAllowed, Missing}
-use Rattle.request.specs.declared.line.Group.{Group}
-use Rattle.request.specs.declared.operation.Body.{Body}
+use Rattle.line.specs.declared.Seen.{Seen}
+use Rattle.line.specs.declared.Seen.the-variants as Seen
+use Rattle.line.specs.declared.Seen.the-variants.{NotAllowed, Missing}
+use Rattle.group.specs.declared.Group.{Group}
+use Rattle.argument.specs.declared.Body.{Body}
+
+-- all that was found: requester, base, and the lines after it
+abbrev pub asked : Group → Group → Body → Asked
+asked requester base b =
+    record {
+      refusal = 0;
+      level = requester .a;
+      requester = requester .first;
+      «requester_parts» = requester .count;
+      operation = base .a;
+      base = base .first;
+      «base_parts» = base .count;
+      limit = base .c;
+      listed = b .listed;
+      types = b .types;
+      «types_listed» = b .«types_listed»;
+      values = b .values;
+      attribute = b .attribute;
+      value = b .value;
+      length = b .length;
+      subset = b .subset;
+      filter = b .filter;
+    }
 
 -- after the last line: the sheet's end, or a surplus line
 abbrev pub endBy : Group → Group → Body → Seen → Asked

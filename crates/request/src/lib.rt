@@ -1,20 +1,15 @@
 // A request sheet judged: the refusal number that the rules give, or 0 with the positions and numbers that answering needs.
 // Nothing is copied: names, types, the value and the filter stay in the sheet, noted by position.
-mod filter;
-mod line;
-mod operation;
-
-use line::Group;
+use argument::Body;
+use argument::body_at;
+use group::Group;
+use group::group_at;
 use line::Seen;
-use line::group_at;
 use line::seen_at;
-use operation::Body;
-use operation::body_at;
 ghost use mathlib.Core.Path.{_≡_};
 ghost use Prim.Native.Nat.{_≤_};
 ghost use Rattle.request.specs.Noted.{refused, Judged};
-ghost use Rattle.request.specs.Operations.{asked};
-ghost use Rattle.request.specs.Whole.{endBy, endAt, askedOf};
+ghost use Rattle.request.specs.Whole.{asked, endBy, endAt, askedOf};
 
 // What a request asks. Of a refused one, all but the refusal is 0; of an accepted one, what its operation does not have is 0.
 pub struct Asked {

@@ -1,2 +1,4 @@
+pub mod Items
 pub mod Scores
+pub mod Slots
 pub mod Values

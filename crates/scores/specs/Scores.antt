@@ -14,10 +14,6 @@ use Rattle.decision.specs.Grants.{afterBy, passBy, permits, askedOf, askedOfTyp
 abbrev pub Scored : (ℕ → ℕ) → List ℕ → List ℕ → Type 0
 Scored f keys table = (i : ℕ) → i < length keys → i < length table → getD table i 0 ≡ f (getD keys i 0)
 
--- the greatest score of the items that answer a question about the type `t`
-abbrev pub typeScore : List ℕ → List ℕ → ℕ → ℕ → ℕ
-typeScore rights list q t = passBy (specificAsked rights t q) rights (passBy (generalAsked rights q) rights 1 list) list
-
 -- ---- an item about one type
 
 -- the score `x` of the type `u` with an item about the type `t`
@@ -181,8 +177,3 @@ pub keyed-all : (f : ℕ → ℕ) (schema keys table : List ℕ) → length keys
     → ((i : ℕ) → i < length schema → i < 64 → getD keys i 0 ≡ getD schema i 0 / 4) → Scored f keys table
     → (i : ℕ) → i < length schema → i < 64 → getD table i 0 ≡ f (getD schema i 0 / 4)
 keyed-all f schema keys table a b named h i l k = h i (omega (arith, a, k)) (omega (arith, b, k)) ∙ ap f (named i l k)
-
--- ---- what the scores tell
-
-pub told-at : (f : ℕ → ℕ) (keys table : List ℕ) → Scored f keys table → (place t : ℕ) → place < length keys → place < length table → getD keys place 0 ≡ t → getD table place 0 ≡ f t
-told-at f keys table h place t l k e = h place l k ∙ ap f e

@@ -1,5 +1,8 @@
-// The greatest scores for several types at once, found in one pass over the items: an item about a type raises the scores at that type's places
-// among the `keys`, which are the types' numbers.
+// Questions about many types and values of one entry. The items that concern it are sorted by what they are about (`items`), and those about one value
+// are found by slots of their digests (`slots`). The greatest scores for all types of the schema (`types`) are found in one pass: an item about a type
+// raises the scores at that type's places among the `keys`, which are the types' numbers.
+pub mod items;
+pub mod slots;
 pub mod types;
 pub mod values;
 
@@ -11,9 +14,6 @@ ghost use Prim.Native.Nat.{ℕ, _+_, _*_, _≤_, _<_};
 ghost use lib.ListN.{length, getD};
 ghost use Rattle.decision.specs.Grants.{afterBy, passBy, askedOfType};
 ghost use Rattle.scores.specs.Scores.{raisedAt, Scored};
-
-// What is told of a type that is not among the keys. A greatest score is 1 at least.
-pub const NO_SCORE: u64 = 0;
 
 // The score `x` of the type `u` with an item about the type `t` that scores `score`.
 fn raised(t: u64, u: u64, score: u64, x: u64) -> u64
@@ -84,20 +84,4 @@ pub(crate) fn scores_from(
         j += 1;
     }
     scores
-}
-
-// What the scores of the keys tell of the type `t`, which may be the key at `place`.
-pub fn told(keys: &[u64], scores: &[u64], place: usize, t: u64) -> u64
-    ensures { λ r. ⌜ ((f : ℕ → ℕ) → Scored f (now (keys .entry)) (now (scores .entry)) → (r ≡ 0 → ⊥) → r ≡ f t) ⌝ }
-{
-    if keys.len() <= place {
-        return NO_SCORE;
-    }
-    if scores.len() <= place {
-        return NO_SCORE;
-    }
-    if keys[place] != t {
-        return NO_SCORE;
-    }
-    scores[place]
 }

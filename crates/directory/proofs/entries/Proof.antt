@@ -1,12 +1,12 @@
 -- The entries before position `i` are noted, with their values; the line there is `front`.
-use Rattle.directory.proofs.Fronts.{not-taken}
+use Rattle.schema.proofs.Fronts.{not-taken}
 use Rattle.directory.specs.Entries.{Standing, refusedWith, answer-refused, standing-start, standing-refused, standing-room, standing-begun, standing-lost, standing-on, standing-ended}
-use Rattle.directory.specs.Mark.{Mark}
+use Rattle.ruling.specs.Mark.{Mark}
 use Rattle.directory.specs.Judged.{Judged}
 use Rattle.directory.specs.declared.Notes.{Notes}
 use Rattle.rules.specs.Laws.Sheet.{taken-fits}
 use Rattle.rules.specs.Directory.{Stored}
-use lib.ListN.{length, drop}
+use lib.ListN.{length, getD, drop}
 use mathlib.Core.Option.{Option, none, some}
 use mathlib.Core.List.{List, []}
 use mathlib.Core.Path.{_≡_, refl, sym, ap, _∙_, subst}
@@ -19,15 +19,15 @@ use Rattle.directory.proofs.entries.Tie as tie
 use Rattle.directory.proofs.entries.Reads as reads
 use Rattle.directory.proofs.entries.Lts as lts
 use Rattle.directory.proofs.ended.Reads as ended-reads
-use Rattle.directory.proofs.entry.entry_line.Reads as entry-line-reads
+use Rattle.hierarchy.proofs.entry_line.Reads as entry-line-reads
 use Rattle.directory.proofs.refused.Reads as refused-reads
-use Rattle.directory.proofs.values.values.Reads as values-reads
+use Rattle.attribute.proofs.values.Reads as values-reads
 
 abbrev Inv-loop : tie.InvT-loop
-Inv-loop s w schema from notes₀ depths₀ marks₀ heads₀ n₀ lacks₀ i₀ front₀ notes depths marks heads n lacks i front = (complete : List Stored) × (current : Option Stored) × (ms : List Mark) × Standing w s schema notes depths marks heads n lacks i front complete current ms
+Inv-loop s w schema from notes₀ depths₀ marks₀ heads₀ slots₀ n₀ lacks₀ i₀ front₀ notes depths marks heads slots n lacks i front = (complete : List Stored) × (current : Option Stored) × (ms : List Mark) × Standing w s schema notes depths marks heads slots n lacks i front complete current ms
 
 abbrev μ-loop : tie.MeasureT-loop
-μ-loop s w schema from notes₀ depths₀ marks₀ heads₀ n₀ lacks₀ i₀ front₀ notes depths marks heads n lacks i front = length s - i
+μ-loop s w schema from notes₀ depths₀ marks₀ heads₀ slots₀ n₀ lacks₀ i₀ front₀ notes depths marks heads slots n lacks i front = length s - i
 
 -- src/lib.rt:85:5
 loop-holds : tie.Need-loop-holds Inv-loop μ-loop
@@ -61,9 +61,13 @@ slice-aggregate-entry-line-2 c = let st = c .before .before .before .before .bef
 slice-aggregate-entry-line-3 : tie.Need-slice-aggregate-entry-line-3 Inv-loop μ-loop
 slice-aggregate-entry-line-3 c = let st = c .before .before .before .before .before .before .loop .inv .3 in omega (arith, st .sized, st .ready .chain .marked, st .ready .chain .buckets)
 
+-- src/lib.rt:103:13
+slice-aggregate-entry-line-4 : tie.Need-slice-aggregate-entry-line-4 Inv-loop μ-loop
+slice-aggregate-entry-line-4 c = omega (arith, c .before .before .before .before .before .before .before .loop .inv .3 .ready .chain .table)
+
 -- src/lib.rt:97:13
 entry-line-requires : tie.Need-entry-line-requires Inv-loop μ-loop
-entry-line-requires c κs = let st = c .before .before .before .before .before .before .loop .inv .3 in let f = taken-fits _ (now (c .before .before .before .before .before .before .before .before .before .args .s)) (c .before .before .before .before .before .before .loop .i) (sym (st .stands) ∙ (c .before .before .before .before .front .given .1)) in (record { all = c .before .before .before .before .before .before .loop .inv .2; ready = st .ready; within = record { key = omega arith; size = f .0; line = f .1 } }, st .counted .most, st .sized .levels)
+entry-line-requires c κs = let st = c .before .before .before .before .before .before .before .loop .inv .3 in let f = taken-fits _ (now (c .before .before .before .before .before .before .before .before .before .before .args .s)) (c .before .before .before .before .before .before .before .loop .i) (sym (st .stands) ∙ (c .before .before .before .before .before .front .given .1)) in (record { all = c .before .before .before .before .before .before .before .loop .inv .2; ready = st .ready; within = record { key = omega arith; size = f .0; line = f .1 } }, st .counted .most, st .sized .levels)
 
 -- src/lib.rt:114:13
 refused-requires-2 : tie.Need-refused-requires-2 Inv-loop μ-loop
@@ -71,47 +75,64 @@ refused-requires-2 c κs = search needs
 
 -- src/lib.rt:114:13
 returns-2 : tie.Need-returns-2 Inv-loop μ-loop
-returns-2 c = let st = c .before .before .before .before .before .before .before .before .before .before .loop .inv .3 in answer-refused _ _ (st .ready .sheet) _ _ (ap (λ (r : Notes). r .refusal) (c .refused2 .ensures)) (standing-refused st (c .before .before .before .before .before .before .before .before .front .given .1) (c .before .before .before .entry-line .ensures (c .before .before .before .before .before .before .before .before .before .before .loop .inv .2) (st .ready)) (c .before .if1 .taken))
+returns-2 c = let st = c .before .before .before .before .before .before .before .before .before .before .before .loop .inv .3 in answer-refused _ _ (st .ready .sheet) _ _ (ap (λ (r : Notes). r .refusal) (c .refused2 .ensures)) (standing-refused st (c .before .before .before .before .before .before .before .before .before .front .given .1) (c .before .before .before .entry-line .ensures (c .before .before .before .before .before .before .before .before .before .before .before .loop .inv .2) (st .ready)) (c .before .if1 .taken))
+
+-- where the entry line was taken: room for the entry and for its mark
+room : (c : tie.Else1 Inv-loop μ-loop) → let L = c .before .before .before .before .before .before .before .before .before .before .loop in let a = c .before .before .before .before .before .before .before .before .front .given .0 .1 .0 in
+    (L .notes .count < 256) × (a ≤ L .notes .count) × (getD (L .depths) a 0 < 8) × (L .n < 10923) × (c .before .before .entry-line .result .bucket < 2048) × (c .before .before .entry-line .result .slot < 16384)
+room c =
+    let L = c .before .before .before .before .before .before .before .before .before .before .loop in
+    let st = L .inv .3 in
+    let r = standing-room st (c .before .before .before .before .before .before .before .before .front .given .1) (c .before .before .entry-line .ensures (L .inv .2) (st .ready)) (c .if1 .left) in
+    (r .0, r .1, r .2, r .3, r .4, r .5)
 
 -- src/lib.rt:117:9
 mul-marks : tie.Need-mul-marks Inv-loop μ-loop
-mul-marks c = let st = c .before .before .before .before .before .before .before .before .before .loop .inv .3 in omega (arith, standing-room st (c .before .before .before .before .before .before .before .front .given .1) (c .before .before .entry-line .ensures (c .before .before .before .before .before .before .before .before .before .loop .inv .2) (st .ready)) (c .if1 .left), st .sized, st .ready .chain .marked, st .ready .chain .buckets)
+mul-marks c = omega (arith, room c .3)
 
 -- src/lib.rt:117:9
 array-write-marks : tie.Need-array-write-marks Inv-loop μ-loop
-array-write-marks c = let st = c .before .before .before .before .before .before .before .before .before .loop .inv .3 in omega (arith, standing-room st (c .before .before .before .before .before .before .before .front .given .1) (c .before .before .entry-line .ensures (c .before .before .before .before .before .before .before .before .before .loop .inv .2) (st .ready)) (c .if1 .left), st .sized, st .ready .chain .marked, st .ready .chain .buckets)
+array-write-marks c = omega (arith, room c .3, c .before .before .before .before .before .before .before .before .before .before .loop .inv .3 .ready .chain .marked)
 
 -- src/lib.rt:118:25
 add-heads : tie.Need-add-heads Inv-loop μ-loop
-add-heads c = let st = c .before .before .before .before .before .before .before .before .before .loop .inv .3 in omega (arith, standing-room st (c .before .before .before .before .before .before .before .front .given .1) (c .before .before .entry-line .ensures (c .before .before .before .before .before .before .before .before .before .loop .inv .2) (st .ready)) (c .if1 .left), st .sized, st .ready .chain .marked, st .ready .chain .buckets)
+add-heads c = omega (arith, room c .3)
 
 -- src/lib.rt:118:9
 mul-heads : tie.Need-mul-heads Inv-loop μ-loop
-mul-heads c = let st = c .before .before .before .before .before .before .before .before .before .loop .inv .3 in omega (arith, standing-room st (c .before .before .before .before .before .before .before .front .given .1) (c .before .before .entry-line .ensures (c .before .before .before .before .before .before .before .before .before .loop .inv .2) (st .ready)) (c .if1 .left), st .sized, st .ready .chain .marked, st .ready .chain .buckets)
+mul-heads c = omega (arith, room c .4)
 
 -- src/lib.rt:118:9
 array-write-heads : tie.Need-array-write-heads Inv-loop μ-loop
-array-write-heads c = let st = c .before .before .before .before .before .before .before .before .before .loop .inv .3 in omega (arith, standing-room st (c .before .before .before .before .before .before .before .front .given .1) (c .before .before .entry-line .ensures (c .before .before .before .before .before .before .before .before .before .loop .inv .2) (st .ready)) (c .if1 .left), st .sized, st .ready .chain .marked, st .ready .chain .buckets)
+array-write-heads c = omega (arith, room c .4, c .before .before .before .before .before .before .before .before .before .before .loop .inv .3 .ready .chain .buckets)
+
+-- src/lib.rt:118:9
+array-write-slots : tie.Need-array-write-slots Inv-loop μ-loop
+array-write-slots c = omega (arith, room c .5, c .before .before .before .before .before .before .before .before .before .before .loop .inv .3 .ready .chain .table)
 
 -- src/lib.rt:120:21
 add-notes : tie.Need-add-notes Inv-loop μ-loop
-add-notes c = let st = c .before .before .before .before .before .before .before .before .before .loop .inv .3 in omega (arith, standing-room st (c .before .before .before .before .before .before .before .front .given .1) (c .before .before .entry-line .ensures (c .before .before .before .before .before .before .before .before .before .loop .inv .2) (st .ready)) (c .if1 .left), st .sized)
+add-notes c = omega (arith, room c .0)
 
 -- src/lib.rt:125:51
 add-values : tie.Need-add-values Inv-loop μ-loop
-add-values c = let st = c .before .before .before .before .before .before .before .before .before .loop .inv .3 in omega (arith, standing-room st (c .before .before .before .before .before .before .before .front .given .1) (c .before .before .entry-line .ensures (c .before .before .before .before .before .before .before .before .before .loop .inv .2) (st .ready)) (c .if1 .left), st .sized, st .ready .chain .marked, st .ready .chain .buckets)
+add-values c = omega (arith, room c .3)
 
 -- src/lib.rt:125:58
 slice-aggregate-values : tie.Need-slice-aggregate-values Inv-loop μ-loop
-slice-aggregate-values c = let st = c .before .before .before .before .before .before .before .before .before .before .loop .inv .3 in omega (arith, (standing-begun st (c .before .before .before .before .before .before .before .before .front .given .1) (c .before .before .before .entry-line .ensures (c .before .before .before .before .before .before .before .before .before .before .loop .inv .2) (st .ready)) (c .before .if1 .left)) .ready .chain .marked)
+slice-aggregate-values c = let st = c .before .before .before .before .before .before .before .before .before .before .before .loop .inv .3 in omega (arith, (standing-begun st (c .before .before .before .before .before .before .before .before .before .front .given .1) (c .before .before .before .entry-line .ensures (c .before .before .before .before .before .before .before .before .before .before .before .loop .inv .2) (st .ready)) (c .before .if1 .left)) .ready .chain .marked)
 
 -- src/lib.rt:125:70
 slice-aggregate-values-2 : tie.Need-slice-aggregate-values-2 Inv-loop μ-loop
-slice-aggregate-values-2 c = let st = c .before .before .before .before .before .before .before .before .before .before .before .loop .inv .3 in omega (arith, (standing-begun st (c .before .before .before .before .before .before .before .before .before .front .given .1) (c .before .before .before .before .entry-line .ensures (c .before .before .before .before .before .before .before .before .before .before .before .loop .inv .2) (st .ready)) (c .before .before .if1 .left)) .ready .chain .buckets)
+slice-aggregate-values-2 c = let st = c .before .before .before .before .before .before .before .before .before .before .before .before .loop .inv .3 in omega (arith, (standing-begun st (c .before .before .before .before .before .before .before .before .before .before .front .given .1) (c .before .before .before .before .entry-line .ensures (c .before .before .before .before .before .before .before .before .before .before .before .before .loop .inv .2) (st .ready)) (c .before .before .if1 .left)) .ready .chain .buckets)
+
+-- src/lib.rt:125:70
+slice-aggregate-values-3 : tie.Need-slice-aggregate-values-3 Inv-loop μ-loop
+slice-aggregate-values-3 c = let st = c .before .before .before .before .before .before .before .before .before .before .before .before .before .loop .inv .3 in omega (arith, (standing-begun st (c .before .before .before .before .before .before .before .before .before .before .before .front .given .1) (c .before .before .before .before .before .entry-line .ensures (c .before .before .before .before .before .before .before .before .before .before .before .before .before .loop .inv .2) (st .ready)) (c .before .before .before .if1 .left)) .ready .chain .table)
 
 -- src/lib.rt:125:13
 values-requires : tie.Need-values-requires Inv-loop μ-loop
-values-requires c κs = let st = c .before .before .before .before .before .before .before .before .before .before .before .loop .inv .3 in record { complete = _; entry = _; all = _; width = c .before .before .before .before .before .before .before .before .before .before .before .before .before .before .pre .width; begun = standing-begun st (c .before .before .before .before .before .before .before .before .before .front .given .1) (c .before .before .before .before .entry-line .ensures (c .before .before .before .before .before .before .before .before .before .before .before .loop .inv .2) (st .ready)) (c .before .before .if1 .left) }
+values-requires c κs = let st = c .before .before .before .before .before .before .before .before .before .before .before .before .before .loop .inv .3 in record { complete = _; entry = _; all = _; width = c .before .before .before .before .before .before .before .before .before .before .before .before .before .before .before .before .pre .width; begun = standing-begun st (c .before .before .before .before .before .before .before .before .before .before .before .front .given .1) (c .before .before .before .before .before .entry-line .ensures (c .before .before .before .before .before .before .before .before .before .before .before .before .before .loop .inv .2) (st .ready)) (c .before .before .before .if1 .left) }
 
 -- src/lib.rt:127:13
 refused-requires-3 : tie.Need-refused-requires-3 Inv-loop μ-loop
@@ -119,75 +140,75 @@ refused-requires-3 c κs = search needs
 
 -- src/lib.rt:127:13
 returns-3 : tie.Need-returns-3 Inv-loop μ-loop
-returns-3 c = let st = c .before .before .before .before .before .before .before .before .before .before .before .before .before .before .before .before .before .loop .inv .3 in answer-refused _ _ (st .ready .sheet) _ _ (ap (λ (r : Notes). r .refusal) (c .refused3 .ensures)) (standing-lost st (c .before .before .before .before .before .before .before .before .before .before .before .before .before .before .before .front .given .1) (c .before .before .before .before .before .before .before .before .before .before .entry-line .ensures (c .before .before .before .before .before .before .before .before .before .before .before .before .before .before .before .before .before .loop .inv .2) (st .ready)) (c .before .before .before .before .before .before .before .before .if1 .left) (c .before .before .before .before .before .values .ensures _ _ _ (standing-begun st (c .before .before .before .before .before .before .before .before .before .before .before .before .before .before .before .front .given .1) (c .before .before .before .before .before .before .before .before .before .before .entry-line .ensures (c .before .before .before .before .before .before .before .before .before .before .before .before .before .before .before .before .before .loop .inv .2) (st .ready)) (c .before .before .before .before .before .before .before .before .if1 .left))) (c .before .if2 .taken))
+returns-3 c = let st = c .before .before .before .before .before .before .before .before .before .before .before .before .before .before .before .before .before .before .before .before .loop .inv .3 in answer-refused _ _ (st .ready .sheet) _ _ (ap (λ (r : Notes). r .refusal) (c .refused3 .ensures)) (standing-lost st (c .before .before .before .before .before .before .before .before .before .before .before .before .before .before .before .before .before .before .front .given .1) (c .before .before .before .before .before .before .before .before .before .before .before .before .entry-line .ensures (c .before .before .before .before .before .before .before .before .before .before .before .before .before .before .before .before .before .before .before .before .loop .inv .2) (st .ready)) (c .before .before .before .before .before .before .before .before .before .before .if1 .left) (c .before .before .before .before .before .before .values .ensures _ _ _ (standing-begun st (c .before .before .before .before .before .before .before .before .before .before .before .before .before .before .before .before .before .before .front .given .1) (c .before .before .before .before .before .before .before .before .before .before .before .before .entry-line .ensures (c .before .before .before .before .before .before .before .before .before .before .before .before .before .before .before .before .before .before .before .before .loop .inv .2) (st .ready)) (c .before .before .before .before .before .before .before .before .before .before .if1 .left))) (c .before .if2 .taken))
 
 -- src/lib.rt:130:9
 mul-notes : tie.Need-mul-notes Inv-loop μ-loop
-mul-notes c = let st = c .before .before .before .before .before .before .before .before .before .before .before .before .before .before .before .before .loop .inv .3 in omega (arith, standing-room st (c .before .before .before .before .before .before .before .before .before .before .before .before .before .before .front .given .1) (c .before .before .before .before .before .before .before .before .before .entry-line .ensures (c .before .before .before .before .before .before .before .before .before .before .before .before .before .before .before .before .loop .inv .2) (st .ready)) (c .before .before .before .before .before .before .before .if1 .left), st .sized)
+mul-notes c = omega (arith, room (c .before .before .before .before .before .before .before .before .before) .0)
 
 -- src/lib.rt:130:9
 element-write-notes : tie.Need-element-write-notes Inv-loop μ-loop
-element-write-notes c = let st = c .before .before .before .before .before .before .before .before .before .before .before .before .before .before .before .before .loop .inv .3 in omega (arith, standing-room st (c .before .before .before .before .before .before .before .before .before .before .before .before .before .before .front .given .1) (c .before .before .before .before .before .before .before .before .before .entry-line .ensures (c .before .before .before .before .before .before .before .before .before .before .before .before .before .before .before .before .loop .inv .2) (st .ready)) (c .before .before .before .before .before .before .before .if1 .left), st .sized)
+element-write-notes c = omega (arith, room (c .before .before .before .before .before .before .before .before .before) .0, c .before .before .before .before .before .before .before .before .before .before .before .before .before .before .before .before .before .before .before .loop .inv .3 .sized .at)
 
 -- src/lib.rt:131:9
 mul-notes-2 : tie.Need-mul-notes-2 Inv-loop μ-loop
-mul-notes-2 c = let st = c .before .before .before .before .before .before .before .before .before .before .before .before .before .before .before .before .loop .inv .3 in omega (arith, standing-room st (c .before .before .before .before .before .before .before .before .before .before .before .before .before .before .front .given .1) (c .before .before .before .before .before .before .before .before .before .entry-line .ensures (c .before .before .before .before .before .before .before .before .before .before .before .before .before .before .before .before .loop .inv .2) (st .ready)) (c .before .before .before .before .before .before .before .if1 .left), st .sized)
+mul-notes-2 c = omega (arith, room (c .before .before .before .before .before .before .before .before .before) .0)
 
 -- src/lib.rt:131:9
 element-write-notes-2 : tie.Need-element-write-notes-2 Inv-loop μ-loop
-element-write-notes-2 c = let st = c .before .before .before .before .before .before .before .before .before .before .before .before .before .before .before .before .loop .inv .3 in omega (arith, standing-room st (c .before .before .before .before .before .before .before .before .before .before .before .before .before .before .front .given .1) (c .before .before .before .before .before .before .before .before .before .entry-line .ensures (c .before .before .before .before .before .before .before .before .before .before .before .before .before .before .before .before .loop .inv .2) (st .ready)) (c .before .before .before .before .before .before .before .if1 .left), st .sized)
+element-write-notes-2 c = omega (arith, room (c .before .before .before .before .before .before .before .before .before) .0, c .before .before .before .before .before .before .before .before .before .before .before .before .before .before .before .before .before .before .before .loop .inv .3 .sized .parents)
 
 -- src/lib.rt:132:9
 mul-notes-3 : tie.Need-mul-notes-3 Inv-loop μ-loop
-mul-notes-3 c = let st = c .before .before .before .before .before .before .before .before .before .before .before .before .before .before .before .before .loop .inv .3 in omega (arith, standing-room st (c .before .before .before .before .before .before .before .before .before .before .before .before .before .before .front .given .1) (c .before .before .before .before .before .before .before .before .before .entry-line .ensures (c .before .before .before .before .before .before .before .before .before .before .before .before .before .before .before .before .loop .inv .2) (st .ready)) (c .before .before .before .before .before .before .before .if1 .left), st .sized)
+mul-notes-3 c = omega (arith, room (c .before .before .before .before .before .before .before .before .before) .0)
 
 -- src/lib.rt:132:9
 element-write-notes-3 : tie.Need-element-write-notes-3 Inv-loop μ-loop
-element-write-notes-3 c = let st = c .before .before .before .before .before .before .before .before .before .before .before .before .before .before .before .before .loop .inv .3 in omega (arith, standing-room st (c .before .before .before .before .before .before .before .before .before .before .before .before .before .before .front .given .1) (c .before .before .before .before .before .before .before .before .before .entry-line .ensures (c .before .before .before .before .before .before .before .before .before .before .before .before .before .before .before .before .loop .inv .2) (st .ready)) (c .before .before .before .before .before .before .before .if1 .left), st .sized)
+element-write-notes-3 c = omega (arith, room (c .before .before .before .before .before .before .before .before .before) .0, c .before .before .before .before .before .before .before .before .before .before .before .before .before .before .before .before .before .before .before .loop .inv .3 .sized .naming)
 
 -- src/lib.rt:133:9
 mul-notes-4 : tie.Need-mul-notes-4 Inv-loop μ-loop
-mul-notes-4 c = let st = c .before .before .before .before .before .before .before .before .before .before .before .before .before .before .before .before .loop .inv .3 in omega (arith, standing-room st (c .before .before .before .before .before .before .before .before .before .before .before .before .before .before .front .given .1) (c .before .before .before .before .before .before .before .before .before .entry-line .ensures (c .before .before .before .before .before .before .before .before .before .before .before .before .before .before .before .before .loop .inv .2) (st .ready)) (c .before .before .before .before .before .before .before .if1 .left), st .sized)
+mul-notes-4 c = omega (arith, room (c .before .before .before .before .before .before .before .before .before) .0)
 
 -- src/lib.rt:133:9
 element-write-notes-4 : tie.Need-element-write-notes-4 Inv-loop μ-loop
-element-write-notes-4 c = let st = c .before .before .before .before .before .before .before .before .before .before .before .before .before .before .before .before .loop .inv .3 in omega (arith, standing-room st (c .before .before .before .before .before .before .before .before .before .before .before .before .before .before .front .given .1) (c .before .before .before .before .before .before .before .before .before .entry-line .ensures (c .before .before .before .before .before .before .before .before .before .before .before .before .before .before .before .before .loop .inv .2) (st .ready)) (c .before .before .before .before .before .before .before .if1 .left), st .sized)
+element-write-notes-4 c = omega (arith, room (c .before .before .before .before .before .before .before .before .before) .0, c .before .before .before .before .before .before .before .before .before .before .before .before .before .before .before .before .before .before .before .loop .inv .3 .sized .lengths)
 
 -- src/lib.rt:134:23
 add-notes-2 : tie.Need-add-notes-2 Inv-loop μ-loop
-add-notes-2 c = let st = c .before .before .before .before .before .before .before .before .before .before .before .before .before .before .before .before .loop .inv .3 in omega (arith, standing-room st (c .before .before .before .before .before .before .before .before .before .before .before .before .before .before .front .given .1) (c .before .before .before .before .before .before .before .before .before .entry-line .ensures (c .before .before .before .before .before .before .before .before .before .before .before .before .before .before .before .before .loop .inv .2) (st .ready)) (c .before .before .before .before .before .before .before .if1 .left), st .sized)
+add-notes-2 c = omega (arith, room (c .before .before .before .before .before .before .before .before .before) .0)
 
 -- src/lib.rt:135:29
 mul-depths : tie.Need-mul-depths Inv-loop μ-loop
-mul-depths c = let st = c .before .before .before .before .before .before .before .before .before .before .before .before .before .before .before .before .loop .inv .3 in omega (arith, standing-room st (c .before .before .before .before .before .before .before .before .before .before .before .before .before .before .front .given .1) (c .before .before .before .before .before .before .before .before .before .entry-line .ensures (c .before .before .before .before .before .before .before .before .before .before .before .before .before .before .before .before .loop .inv .2) (st .ready)) (c .before .before .before .before .before .before .before .if1 .left), st .sized)
+mul-depths c = omega (arith, room (c .before .before .before .before .before .before .before .before .before) .0, room (c .before .before .before .before .before .before .before .before .before) .1)
 
 -- src/lib.rt:135:29
 array-read-depths : tie.Need-array-read-depths Inv-loop μ-loop
-array-read-depths c = let st = c .before .before .before .before .before .before .before .before .before .before .before .before .before .before .before .before .loop .inv .3 in omega (arith, standing-room st (c .before .before .before .before .before .before .before .before .before .before .before .before .before .before .front .given .1) (c .before .before .before .before .before .before .before .before .before .entry-line .ensures (c .before .before .before .before .before .before .before .before .before .before .before .before .before .before .before .before .loop .inv .2) (st .ready)) (c .before .before .before .before .before .before .before .if1 .left), st .sized)
+array-read-depths c = omega (arith, room (c .before .before .before .before .before .before .before .before .before) .0, room (c .before .before .before .before .before .before .before .before .before) .1, c .before .before .before .before .before .before .before .before .before .before .before .before .before .before .before .before .before .before .before .loop .inv .3 .sized .levels)
 
 -- src/lib.rt:135:29
 add-depths : tie.Need-add-depths Inv-loop μ-loop
-add-depths c = let st = c .before .before .before .before .before .before .before .before .before .before .before .before .before .before .before .before .loop .inv .3 in omega (arith, standing-room st (c .before .before .before .before .before .before .before .before .before .before .before .before .before .before .front .given .1) (c .before .before .before .before .before .before .before .before .before .entry-line .ensures (c .before .before .before .before .before .before .before .before .before .before .before .before .before .before .before .before .loop .inv .2) (st .ready)) (c .before .before .before .before .before .before .before .if1 .left), st .sized)
+add-depths c = omega (arith, room (c .before .before .before .before .before .before .before .before .before) .2)
 
 -- src/lib.rt:135:16
 add-depths-2 : tie.Need-add-depths-2 Inv-loop μ-loop
-add-depths-2 c = let st = c .before .before .before .before .before .before .before .before .before .before .before .before .before .before .before .before .loop .inv .3 in omega (arith, standing-room st (c .before .before .before .before .before .before .before .before .before .before .before .before .before .before .front .given .1) (c .before .before .before .before .before .before .before .before .before .entry-line .ensures (c .before .before .before .before .before .before .before .before .before .before .before .before .before .before .before .before .loop .inv .2) (st .ready)) (c .before .before .before .before .before .before .before .if1 .left), st .sized)
+add-depths-2 c = omega (arith, room (c .before .before .before .before .before .before .before .before .before) .0)
 
 -- src/lib.rt:135:9
 mul-depths-2 : tie.Need-mul-depths-2 Inv-loop μ-loop
-mul-depths-2 c = let st = c .before .before .before .before .before .before .before .before .before .before .before .before .before .before .before .before .loop .inv .3 in omega (arith, standing-room st (c .before .before .before .before .before .before .before .before .before .before .before .before .before .before .front .given .1) (c .before .before .before .before .before .before .before .before .before .entry-line .ensures (c .before .before .before .before .before .before .before .before .before .before .before .before .before .before .before .before .loop .inv .2) (st .ready)) (c .before .before .before .before .before .before .before .if1 .left), st .sized)
+mul-depths-2 c = omega (arith, room (c .before .before .before .before .before .before .before .before .before) .0)
 
 -- src/lib.rt:135:9
 array-write-depths : tie.Need-array-write-depths Inv-loop μ-loop
-array-write-depths c = let st = c .before .before .before .before .before .before .before .before .before .before .before .before .before .before .before .before .loop .inv .3 in omega (arith, standing-room st (c .before .before .before .before .before .before .before .before .before .before .before .before .before .before .front .given .1) (c .before .before .before .before .before .before .before .before .before .entry-line .ensures (c .before .before .before .before .before .before .before .before .before .before .before .before .before .before .before .before .loop .inv .2) (st .ready)) (c .before .before .before .before .before .before .before .if1 .left), st .sized)
+array-write-depths c = omega (arith, room (c .before .before .before .before .before .before .before .before .before) .0, c .before .before .before .before .before .before .before .before .before .before .before .before .before .before .before .before .before .before .before .loop .inv .3 .sized .levels)
 
 -- src/lib.rt:85:5
 loop-less : tie.Need-loop-less Inv-loop μ-loop
-loop-less c = let st = c .before .before .before .before .before .before .before .before .before .before .before .before .before .before .before .before .before .loop .inv .3 in let v = (c .before .before .before .before .before .values .ensures _ _ _ (standing-begun st (c .before .before .before .before .before .before .before .before .before .before .before .before .before .before .before .front .given .1) (c .before .before .before .before .before .before .before .before .before .before .entry-line .ensures (c .before .before .before .before .before .before .before .before .before .before .before .before .before .before .before .before .before .loop .inv .2) (st .ready)) (c .before .before .before .before .before .before .before .before .if1 .left))) .stopped (c .before .if2 .left) in omega (arith, v .1 .start, v .1 .within, st .within)
+loop-less c = let st = c .before .before .before .before .before .before .before .before .before .before .before .before .before .before .before .before .before .before .before .before .loop .inv .3 in let v = (c .before .before .before .before .before .before .values .ensures _ _ _ (standing-begun st (c .before .before .before .before .before .before .before .before .before .before .before .before .before .before .before .before .before .before .front .given .1) (c .before .before .before .before .before .before .before .before .before .before .before .before .entry-line .ensures (c .before .before .before .before .before .before .before .before .before .before .before .before .before .before .before .before .before .before .before .before .loop .inv .2) (st .ready)) (c .before .before .before .before .before .before .before .before .before .before .if1 .left))) .stopped (c .before .if2 .left) in omega (arith, v .1 .start, v .1 .within, st .within)
 
 -- src/lib.rt:85:5
 loop-again : tie.Need-loop-again Inv-loop μ-loop
-loop-again c = let st = c .before .before .before .before .before .before .before .before .before .before .before .before .before .before .before .before .before .loop .inv .3 in let v = (c .before .before .before .before .before .values .ensures _ _ _ (standing-begun st (c .before .before .before .before .before .before .before .before .before .before .before .before .before .before .before .front .given .1) (c .before .before .before .before .before .before .before .before .before .before .entry-line .ensures (c .before .before .before .before .before .before .before .before .before .before .before .before .before .before .before .before .before .loop .inv .2) (st .ready)) (c .before .before .before .before .before .before .before .before .if1 .left))) .stopped (c .before .if2 .left) in (_, _, v .0, standing-on st (c .before .before .before .before .before .before .before .before .before .before .before .before .before .before .before .front .given .1) (c .before .before .before .before .before .before .before .before .before .before .entry-line .ensures (c .before .before .before .before .before .before .before .before .before .before .before .before .before .before .before .before .before .loop .inv .2) (st .ready)) (c .before .before .before .before .before .before .before .before .if1 .left) (v .1))
+loop-again c = let st = c .before .before .before .before .before .before .before .before .before .before .before .before .before .before .before .before .before .before .before .before .loop .inv .3 in let v = (c .before .before .before .before .before .before .values .ensures _ _ _ (standing-begun st (c .before .before .before .before .before .before .before .before .before .before .before .before .before .before .before .before .before .before .front .given .1) (c .before .before .before .before .before .before .before .before .before .before .before .before .entry-line .ensures (c .before .before .before .before .before .before .before .before .before .before .before .before .before .before .before .before .before .before .before .before .loop .inv .2) (st .ready)) (c .before .before .before .before .before .before .before .before .before .before .if1 .left))) .stopped (c .before .if2 .left) in (_, _, v .0, standing-on st (c .before .before .before .before .before .before .before .before .before .before .before .before .before .before .before .before .before .before .front .given .1) (c .before .before .before .before .before .before .before .before .before .before .before .before .entry-line .ensures (c .before .before .before .before .before .before .before .before .before .before .before .before .before .before .before .before .before .before .before .before .loop .inv .2) (st .ready)) (c .before .before .before .before .before .before .before .before .before .before .if1 .left) (v .1))
 
 pub entries-spec : {M : Type 1} → statement M
 entries-spec =
@@ -203,6 +224,7 @@ entries-spec =
     slice-aggregate-entry-line
     slice-aggregate-entry-line-2
     slice-aggregate-entry-line-3
+    slice-aggregate-entry-line-4
     entry-line-requires
     refused-requires-2
     returns-2
@@ -211,10 +233,12 @@ entries-spec =
     add-heads
     mul-heads
     array-write-heads
+    array-write-slots
     add-notes
     add-values
     slice-aggregate-values
     slice-aggregate-values-2
+    slice-aggregate-values-3
     values-requires
     refused-requires-3
     returns-3

@@ -13,7 +13,7 @@ use Rattle.directory.proofs.judge.Lts as lts
 use Rattle.directory.proofs.blank.Reads as blank-reads
 use Rattle.directory.proofs.entries.Reads as entries-reads
 use Rattle.directory.proofs.refused.Reads as refused-reads
-use Rattle.directory.proofs.schema.types.Reads as types-reads
+use Rattle.schema.proofs.types.Reads as types-reads
 
 -- src/lib.rt:126:9
 blank-requires : tie.Need-blank-requires

@@ -1,4 +1,4 @@
-use Rattle.information.specs.Information.{selectedWith, any-noted, any-here, any-on, any-end}
+use Rattle.information.specs.Information.{selectedWith, type-decided-from, any-noted, any-here, any-on, any-end}
 use Rattle.decision.specs.Chosen.{Rows, Chosen}
 use Rattle.rules.specs.Lists.{any}
 use Rattle.rules.specs.Permission.{DiscloseOnError}
@@ -8,7 +8,7 @@ use Rattle.rules.specs.Decision.{Setting}
 use Rattle.rules.specs.Request.{Selection}
 use mathlib.Core.List.{List}
 use denote.Ref.{now}
-use lib.ListN.{length, drop}
+use lib.ListN.{length, getD, drop}
 use mathlib.Core.Path.{_≡_, refl, sym, _∙_}
 use Prim.Native.Nat.{ℕ, _-_, _≤_}
 use borrow.Author.Needs.{needs}
@@ -41,7 +41,7 @@ returns c = let a = c .before .before .before .before .before .before .before .b
     let G = c .before .before .before .before .before .general-score in
     let L = c .before .before .before .before .loop in
     λ σ n w d p scopes ps places sizes s rows chosen h e f. sym (any-noted (selectedWith σ s n DiscloseOnError) d ps (now (a .types)) places sizes h ∙ sym (L .inv .1 σ n w p scopes s rows chosen e f)
-    ∙ any-here (selectedWith σ s n DiscloseOnError) (now (a .types)) (L .i) (c .before .before .before .loop-test .taken) (sym (c .before .selected-with .ensures σ n w p scopes s rows chosen e f (G .ensures)) ∙ c .if1 .taken))
+    ∙ any-here (selectedWith σ s n DiscloseOnError) (now (a .types)) (L .i) (c .before .before .before .loop-test .taken) (sym (c .before .selected-with .ensures σ n s (type-decided-from σ DiscloseOnError w p (now (a .rights)) scopes rows n (now (a .list)) chosen (getD (now (a .types)) (L .i) 0) (G .result) (G .ensures)) e f) ∙ c .if1 .taken))
 
 add-i : tie.Need-add-i Inv-loop μ-loop
 add-i c = search needs
@@ -54,7 +54,7 @@ loop-again c = let a = c .before .before .before .before .before .before .before
     let G = c .before .before .before .before .before .general-score in
     let L = c .before .before .before .before .loop in (
       search needs,
-      λ σ n w p scopes s rows chosen e f. sym (any-on (selectedWith σ s n DiscloseOnError) (now (a .types)) (L .i) (c .before .before .before .loop-test .taken) (sym (c .before .selected-with .ensures σ n w p scopes s rows chosen e f (G .ensures)) ∙ c .if1 .left))
+      λ σ n w p scopes s rows chosen e f. sym (any-on (selectedWith σ s n DiscloseOnError) (now (a .types)) (L .i) (c .before .before .before .loop-test .taken) (sym (c .before .selected-with .ensures σ n s (type-decided-from σ DiscloseOnError w p (now (a .rights)) scopes rows n (now (a .list)) chosen (getD (now (a .types)) (L .i) 0) (G .result) (G .ensures)) e f) ∙ c .if1 .left))
           ∙ L .inv .1 σ n w p scopes s rows chosen e f,
     )
 

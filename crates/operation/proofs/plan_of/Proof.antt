@@ -19,10 +19,10 @@ use Rattle.operation.proofs.plan_of.Statement.{statement}
 use Rattle.operation.proofs.plan_of.Tie as tie
 use Rattle.operation.proofs.plan_of.Reads as reads
 use Rattle.operation.proofs.plan_of.Lts as lts
-use Rattle.read.proofs.compare.compare.Reads as compare-reads
-use Rattle.search.proofs.list.list.Reads as list-reads
-use Rattle.read.proofs.read.read.Reads as read-reads
-use Rattle.search.proofs.search.search.Reads as search-reads
+use Rattle.compare.proofs.compare.Reads as compare-reads
+use Rattle.list.proofs.list.Reads as list-reads
+use Rattle.read.proofs.read.Reads as read-reads
+use Rattle.search.proofs.search.Reads as search-reads
 use Rattle.sheet.proofs.value_at.Reads as value-at-reads
 
 -- src/lib.rt:60:9

@@ -10,8 +10,8 @@ use Rattle.permissions.proofs.judge.Statement.{statement}
 use Rattle.permissions.proofs.judge.Tie as tie
 use Rattle.permissions.proofs.judge.Reads as reads
 use Rattle.permissions.proofs.judge.Lts as lts
-use Rattle.permissions.proofs.item.item_at.Reads as item-at-reads
-use Rattle.permissions.proofs.line.surplus_at.Reads as surplus-at-reads
+use Rattle.item.proofs.item_at.Reads as item-at-reads
+use Rattle.component.proofs.surplus_at.Reads as surplus-at-reads
 use Rattle.permissions.proofs.refused.Reads as refused-reads
 use Rattle.permissions.proofs.row.note.Reads as note-reads
 

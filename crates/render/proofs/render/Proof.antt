@@ -1,19 +1,6 @@
 use denote.Ref.{now}
-use lib.ListN.{length, getD, take}
 use native.Mathlib.Omega.{arith}
-use mathlib.Core.List.{List, _++_}
-use mathlib.Core.Path.{_≡_, refl, sym, ap, _∙_}
-use Prim.Native.Nat.{ℕ, zero, suc, _+_, _-_, _*_, _≤_, _<_, _^_}
-use Rattle.rules.specs.Directory.{Stored, blank}
-use Rattle.rules.specs.Decision.{Setting}
-use Rattle.rules.specs.Request.{Selection}
-use Rattle.rules.specs.Lists.{gather}
-use Rattle.access.specs.World.{World}
-use Rattle.plan.specs.Lent.{Lent}
-use Rattle.plan.specs.Plan.{childLines, informationAt, foundLines}
-use Rattle.answer.specs.Emit.{Emits}
-use Rattle.answer.specs.Laws.{emits-append}
-use Rattle.render.specs.Render.{run-start, run-on, run-end, chosen-at, front-values, head-short, root-held, entry-held, success-read, success-compare, success-list, success-search, whole-success, whole-absent, whole-refused}
+use Rattle.render.specs.Render.{head-short, whole-success, whole-absent, whole-refused}
 use borrow.Author.Needs.{needs}
 use Rattle.render.proofs.render.Statement.{statement}
 use Rattle.render.proofs.render.Tie as tie

@@ -1,28 +1,16 @@
 use denote.Ref.{now}
-use lib.ListN.{length, getD, take}
+use lib.ListN.{length}
 use native.Mathlib.Omega.{arith}
-use mathlib.Core.List.{List, _++_}
-use mathlib.Core.Path.{_≡_, refl, sym, ap, _∙_}
-use Prim.Native.Nat.{ℕ, zero, suc, _+_, _-_, _*_, _≤_, _<_, _^_}
-use Rattle.rules.specs.Directory.{Stored, blank}
-use Rattle.rules.specs.Decision.{Setting}
-use Rattle.rules.specs.Request.{Selection}
-use Rattle.rules.specs.Lists.{gather}
-use Rattle.access.specs.World.{World}
-use Rattle.plan.specs.Lent.{Lent}
-use Rattle.plan.specs.Plan.{childLines, informationAt, foundLines}
-use Rattle.answer.specs.Emit.{Emits}
-use Rattle.answer.specs.Laws.{emits-append}
-use Rattle.render.specs.Render.{run-start, run-on, run-end, chosen-at, front-values, shown-few, shown-below, root-held, entry-held, success-read, success-compare, success-list, success-search, whole-success, whole-absent, whole-refused}
+use Rattle.render.specs.Render.{shown-few, shown-below, success-read, success-compare, success-list, success-search}
 use borrow.Author.Needs.{needs}
 use Rattle.render.proofs.render_success.Statement.{statement}
 use Rattle.render.proofs.render_success.Tie as tie
 use Rattle.render.proofs.render_success.Reads as reads
 use Rattle.render.proofs.render_success.Lts as lts
 use Rattle.answer.proofs.line.emit.Reads as emit-reads
-use Rattle.render.proofs.emit_children.Reads as emit-children-reads
-use Rattle.render.proofs.emit_found.Reads as emit-found-reads
-use Rattle.render.proofs.emit_matches.Reads as emit-matches-reads
+use Rattle.entries.proofs.emit_children.Reads as emit-children-reads
+use Rattle.entries.proofs.emit_found.Reads as emit-found-reads
+use Rattle.entries.proofs.emit_matches.Reads as emit-matches-reads
 
 -- src/lib.rt:242:9
 emit-found-requires : tie.Need-emit-found-requires

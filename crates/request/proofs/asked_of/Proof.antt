@@ -7,8 +7,8 @@ use Rattle.request.proofs.asked_of.Tie as tie
 use Rattle.request.proofs.asked_of.Reads as reads
 use Rattle.request.proofs.asked_of.Lts as lts
 use Rattle.request.proofs.end_at.Reads as end-at-reads
-use Rattle.request.proofs.line.group_at.Reads as group-at-reads
-use Rattle.request.proofs.operation.body_at.Reads as body-at-reads
+use Rattle.group.proofs.group_at.Reads as group-at-reads
+use Rattle.argument.proofs.body_at.Reads as body-at-reads
 use Rattle.request.proofs.refuse.Reads as refuse-reads
 
 -- src/lib.rt:127:9

@@ -1,4 +1,4 @@
--- Laws of `Operations`: what the rules take from the lines after the base, the code finds and notes.
+-- Laws of the `Operations` of `argument`: what the rules take from the lines after the base, the code finds and notes.
 use Prim.Native.Nat.{ℕ, _≤_}
 use mathlib.Core.Path.{_≡_, refl, sym, ap, _∙_}
 use mathlib.Core.Bool.{Bool, true, false}
@@ -12,19 +12,23 @@ use Rattle.rules.specs.Filter.{Filter}
 use Rattle.rules.specs.Judge.{Verdict, accept, refuse, due}
 use Rattle.rules.specs.Request.{Selection, Search, Operation, read, compare, list, search, requestGrammar, selection, operation, filter}
 use Rattle.rules.specs.Places.{linesAt}
+use Rattle.request.specs.Whole.{asked}
 use Rattle.request.specs.Noted.{NotedSelection, NotedOperation}
 use Rattle.request.specs.Laws.Bounds.{selection-columns}
-use Rattle.request.specs.Lines.{dueAt, groupAt}
-use Rattle.request.specs.Laws.Lines.{unless, due-at, due-stands, headAt, followers, group-at, grouped, first-types}
-use Rattle.request.specs.Filters.{filterAt}
-use Rattle.request.specs.Laws.Filters.{filter-follow, Follows}
+use Rattle.line.specs.Lines.{dueAt}
+use Rattle.group.specs.Groups.{groupAt}
+use Rattle.line.specs.Laws.Lines.{unless, due-at, due-stands}
+use Rattle.group.specs.Laws.Groups.{headAt, followers, group-at, grouped, first-types}
+use Rattle.grammar.specs.Filters.{filterAt}
+use Rattle.grammar.specs.Laws.Filters.{filter-follow}
+use Rattle.piece.specs.Laws.Pieces.{Follows}
 use Rattle.request.specs.declared.Asked.{Asked}
-use Rattle.request.specs.declared.line.Due.{Due}
-use Rattle.request.specs.declared.line.Group.{Group}
-use Rattle.request.specs.declared.filter.Step.{Step}
-use Rattle.request.specs.declared.filter.Step.the-variants.{Read, Refused}
-use Rattle.request.specs.declared.operation.Body.{Body}
-use Rattle.request.specs.Operations.{asked, bodyAt, compareBody, filterBody, noBody, readBody, searchAt, searchBody}
+use Rattle.line.specs.declared.Due.{Due}
+use Rattle.group.specs.declared.Group.{Group}
+use Rattle.piece.specs.declared.Step.{Step}
+use Rattle.piece.specs.declared.Step.the-variants.{Read, Refused}
+use Rattle.argument.specs.declared.Body.{Body}
+use Rattle.argument.specs.Operations.{bodyAt, compareBody, filterBody, noBody, readBody, searchAt, searchBody}
 
 -- what the rules take from the lines at `at` after K 11, `x`, by what the code finds
 pub record Leads (w : ℕ) (q : Bytes) (at : ℕ) (x : Line) (b : Body) : Type 1 where

@@ -14,17 +14,19 @@ use Rattle.rules.specs.Request.{Operation, Request, requestGrammar, operation, 
 use Rattle.rules.specs.Places.{linesAt}
 use Rattle.request.specs.Noted.{NotedName, Noted, refused, Judged}
 use Rattle.request.specs.Laws.Bounds.{requester-columns, base-columns}
-use Rattle.request.specs.Lines.{seenAt, dueAt, groupAt}
-use Rattle.request.specs.Laws.Lines.{onSeen, by-seen, unless, headAt, followers, Grouped, group-at, grouped, first-parts}
-use Rattle.request.specs.Operations.{bodyAt, asked}
+use Rattle.line.specs.Lines.{seenAt, dueAt}
+use Rattle.group.specs.Groups.{groupAt}
+use Rattle.line.specs.Laws.Lines.{onSeen, by-seen, unless}
+use Rattle.group.specs.Laws.Groups.{headAt, followers, Grouped, group-at, grouped, first-parts}
+use Rattle.argument.specs.Operations.{bodyAt}
 use Rattle.request.specs.Laws.Operations.{Leads, body-leads}
 use Rattle.request.specs.declared.Asked.{Asked}
-use Rattle.request.specs.declared.line.Seen.{Seen}
-use Rattle.request.specs.declared.line.Seen.the-variants as Seen
-use Rattle.request.specs.declared.line.Seen.the-variants.{NotAllowed, Missing}
-use Rattle.request.specs.declared.line.Group.{Group}
-use Rattle.request.specs.declared.operation.Body.{Body}
-use Rattle.request.specs.Whole.{askedOf, endAt, endBy, orRefused, withBody, withRequester}
+use Rattle.line.specs.declared.Seen.{Seen}
+use Rattle.line.specs.declared.Seen.the-variants as Seen
+use Rattle.line.specs.declared.Seen.the-variants.{NotAllowed, Missing}
+use Rattle.group.specs.declared.Group.{Group}
+use Rattle.argument.specs.declared.Body.{Body}
+use Rattle.request.specs.Whole.{asked, askedOf, endAt, endBy, orRefused, withBody, withRequester}
 
 -- a name has a part for each line
 name-length : (ls : List Line) → length (nameOf ls) ≡ length ls

@@ -7,7 +7,7 @@ use native.Mathlib.Omega.{arith}
 use native.Mathlib.Nat.{pow-suc}
 use lib.Dec.{leb, ltb, eqb}
 use lib.ListN.{length, getD, take, drop, length-append, length-drop}
-use lib.Seq.{length-take-le, take-at, drop-at, getD-at, drop-drop}
+use lib.Seq.{length-take-le, take-at, take-all, drop-at, getD-at, drop-drop}
 use borrow.Author.Tests.{eq-eqb, ne-eqb, le-leb, lt-ltb, le-ltb, ltb-true, leb-true, eqb-true, eqb-false}
 use Rattle.rules.specs.Lists.{gather}
 use Rattle.rules.specs.Sheet.{Bytes, Line, line, strip, digits, numeral, columnOf, columnAt, whole, frontOf, valueOf, restOf, Sheet, end, broken, row, byFront, linesWithin, lines, leading, column, numbers, lineBytes, print}
@@ -295,3 +295,12 @@ printed w ls f =
     ap (lines (suc w)) (sym (append-nil (print (suc w) ls)))
     ∙ printed-then w ls [] f
     ∙ ap (rows ls) (lines-step (suc w) [] ∙ rw (front-end (suc w) [] refl))
+
+-- ---- a part of a sheet
+
+-- up to its end, or of `n` bytes
+pub part-rest : (s : Bytes) (i : ℕ) → take (length s - i) (drop i s) ≡ drop i s
+part-rest s i = take-all (length s - i) (drop i s) (simp length-drop (omega arith))
+
+pub part-of : (s : Bytes) (i n : ℕ) → take (i + n - i) (drop i s) ≡ take n (drop i s)
+part-of s i n = let e : i + n - i ≡ n = omega arith in rw e

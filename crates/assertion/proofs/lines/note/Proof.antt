@@ -107,7 +107,7 @@ same-length c = c .before .before .before .loop .inv .0 ∙ length-set (now (c .
 -- src/lines.rt:89:17
 returns : tie.Need-returns Inv-loop μ-loop
 returns c = let a = c .before .before .before .before .before .before .before .args in let L = c .before .before .before .loop in
-    (lines-noted (now (a .schema)) (a .w) (now (a .q)) (L .rows) (a .at) (L .n) (L .j) (L .inv .5) (omega (arith, L .inv .0, L .inv .1, L .inv .4)) true (sym (c .before .before .line-at .ensures) ∙ c .enum-told .given .1), record { placed = L .inv .5 .placed }, L .inv .5 .first)
+    (lines-noted (now (a .schema)) (a .w) (now (a .q)) (L .rows) (a .at) (L .n) (L .j) (L .inv .5) (omega (arith, L .inv .0, L .inv .1, L .inv .4)) (L .inv .1) true (sym (c .before .before .line-at .ensures) ∙ c .enum-told .given .1), record { placed = L .inv .5 .placed }, L .inv .5 .first)
 
 -- src/lines.rt:92:17
 enum-told-2 : tie.Need-enum-told-2 Inv-loop μ-loop
@@ -120,7 +120,7 @@ same-length-2 c = c .before .before .before .loop .inv .0 ∙ length-set (now (c
 -- src/lines.rt:92:17
 returns-2 : tie.Need-returns-2 Inv-loop μ-loop
 returns-2 c = let a = c .before .before .before .before .before .before .before .args in let L = c .before .before .before .loop in
-    (lines-noted (now (a .schema)) (a .w) (now (a .q)) (L .rows) (a .at) (L .n) (L .j) (L .inv .5) (omega (arith, L .inv .0, L .inv .1, L .inv .4)) false (sym (c .before .before .line-at .ensures) ∙ c .enum-told2 .given .1), record { placed = L .inv .5 .placed }, L .inv .5 .first)
+    (lines-noted (now (a .schema)) (a .w) (now (a .q)) (L .rows) (a .at) (L .n) (L .j) (L .inv .5) (omega (arith, L .inv .0, L .inv .1, L .inv .4)) (L .inv .1) false (sym (c .before .before .line-at .ensures) ∙ c .enum-told2 .given .1), record { placed = L .inv .5 .placed }, L .inv .5 .first)
 
 pub note-spec : {M : Type 1} → statement M
 note-spec =

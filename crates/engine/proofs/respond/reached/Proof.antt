@@ -49,7 +49,7 @@ slice-aggregate-looked-up c = search needs
 looked-up-requires : tie.Need-looked-up-requires
 looked-up-requires c κs = let a = c .before .before .before .before .before .before .before .before .before .before .before .before .before .before .before .before .before .before .before .before .before .before .before .before .args in
     let P = c .before .before .before .before .before .before .before .before .before .before .before .before .before .before .before .before .before .before .before .before .before .before .before .before .pre in
-    (P .0, lent-of (a .w) (now (a .d)) (now (a .positions)) (now (a .parents)) (now (a .naming)) (now (a .lengths)) (now (a .reach)) _ (now (a .types)) (now (a .places)) (now (a .sizes)) (P .0) (P .1) (P .2) (P .3) (P .4) (search (needs, P .5)), P .6)
+    (P .0, lent-of (a .w) (now (a .d)) (now (a .positions)) (now (a .parents)) (now (a .naming)) (now (a .lengths)) (now (a .reach)) _ (now (a .types)) (now (a .places)) (now (a .sizes)) (P .0) (P .1) (P .2) (P .3) (P .4) (search (needs, P .5)) (P .5), P .6)
 
 -- src/respond.rt:365:1
 same-length : tie.Need-same-length

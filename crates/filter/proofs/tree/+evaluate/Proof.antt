@@ -1,53 +1,48 @@
-use Prim.Native.Nat.{ℕ, _+_, _-_, _≤_, _<_}
-use mathlib.Core.Path.{_≡_, sym, ap, _∙_}
-use mathlib.Core.List.{List}
+use borrow.Author.Needs.{needs}
+use Prim.Native.Nat.{ℕ, _-_, _≤_, _<_}
+use mathlib.Core.Path.{_≡_, sym, ap, ap₂, _∙_}
 use native.Mathlib.Omega.{arith}
 use lib.Dec.{eqb}
 use denote.Ref.{now}
-use Rattle.rules.specs.Name.{Name, Part}
-use Rattle.rules.specs.Directory.{heldOf}
-use Rattle.rules.specs.Permission.{FilterMatch}
-use Rattle.rules.specs.Decision.{Setting}
-use Rattle.rules.specs.Filter.{negation}
-use Rattle.rules.specs.FilterItem.{itemTruth}
+use Rattle.rules.specs.Sheet.{Bytes}
+use Rattle.rules.specs.Filter.{Assertion, negation}
 use Rattle.rules.specs.Places.{linesAt}
 use Rattle.rules.specs.Laws.Filter.{Evaluated, evaluated, partsFrom, evaluateLines}
-use Rattle.assertion.specs.Asked.{Asked, AskedValues}
-use Rattle.assertion.specs.Lines.{positionAt, kindAt}
-use Rattle.assertion.specs.Seen.{Seen}
+use Rattle.assertion.specs.Lines.{Lines, positionAt, kindAt}
 use Rattle.filter.specs.Tree.{joinBy, tree-none, tree-over, tree-not, tree-group, tree-item, parts-end, parts-on}
-use borrow.Author.Needs.{needs}
+use Rattle.filter.specs.Truths.{Truths}
+use Rattle.rules.specs.declared.Truth.{Truth}
 use borrow.Fn.Kinds.{In}
 use borrow.Fn.PlainCycle.{Measures, is, falls, and}
 use Rattle.filter.proofs.tree.evaluate.Reads as evaluate
 use Rattle.filter.proofs.tree.evaluate.Kinds as evaluate-kinds
 use Rattle.filter.proofs.tree.+evaluate.Lts-evaluate as evaluate-lts
 use Rattle.assertion.proofs.truth.truth_of.Reads as truth-of-reads
-use Rattle.filter.proofs.tree.leaf.Reads as leaf-reads
+use Rattle.filter.proofs.items.truth_at.Reads as truth-at-reads
+use Rattle.filter.proofs.tree.after_item.Reads as after-item-reads
 use Rattle.filter.proofs.truth.joined.Reads as joined-reads
 use Rattle.filter.proofs.truth.negated.Reads as negated-reads
 use Rattle.filter.proofs.tree.+evaluate.{statement}
 use Rattle.filter.proofs.tree.+evaluate.Tie.{close}
 
-abbrev μ-evaluate : Measures 12 evaluate-kinds.ps ℕ
-μ-evaluate κs a = a .1 .1 .1 .1 .1 .1 .1 .1 .1 .1 .1 .1 .1 .1 .1 .0
+abbrev μ-evaluate : Measures 2 evaluate-kinds.ps ℕ
+μ-evaluate κs a = a .1 .1 .1 .1 .0
 
-abbrev evaluate-at : ℕ → In 12 evaluate-kinds.ps
-evaluate-at t = and 12 evaluate-kinds.ps (is 12 evaluate-kinds.ps μ-evaluate t) evaluate.Pre
+abbrev evaluate-at : ℕ → In 2 evaluate-kinds.ps
+evaluate-at t = and 2 evaluate-kinds.ps (is 2 evaluate-kinds.ps μ-evaluate t) evaluate.Pre
 
-abbrev evaluate-below : ℕ → In 12 evaluate-kinds.ps
+abbrev evaluate-below : ℕ → In 2 evaluate-kinds.ps
 evaluate-below t =
-    and 12 evaluate-kinds.ps (falls 12 evaluate-kinds.ps _<_ μ-evaluate t) evaluate.Pre
+    and 2 evaluate-kinds.ps (falls 2 evaluate-kinds.ps _<_ μ-evaluate t) evaluate.Pre
 
 abbrev evaluate-Inv-loop : evaluate-lts.InvT-loop
-evaluate-Inv-loop schema w d p rights list scores types places sizes known q rows lines k depth kind conjunction truth₀ next₀ left₀ truth next left = (next ≤ lines) × ((σ : Setting) (n : Name) (ps : List Part) → Seen σ n ps schema w d p rights list types places sizes → Asked σ n schema scores → AskedValues σ n FilterMatch d types places sizes known
-    → partsFrom (joinBy conjunction) (evaluateLines (itemTruth σ (record { name = n; held = heldOf ps })) (depth - 1)) left truth (linesAt w q (positionAt rows next))
-    ≡ evaluateLines (itemTruth σ (record { name = n; held = heldOf ps })) depth (linesAt w q (positionAt rows k)))
+evaluate-Inv-loop rows truths lines k depth kind conjunction truth₀ next₀ left₀ truth next left = (next ≤ lines) × ((w : ℕ) (q : Bytes) (m : Assertion → Truth) → Lines w q rows lines → Truths m w q rows lines truths
+    → partsFrom (joinBy conjunction) (evaluateLines m (depth - 1)) left truth (linesAt w q (positionAt rows next)) ≡ evaluateLines m depth (linesAt w q (positionAt rows k)))
 
 abbrev evaluate-μ-loop : evaluate-lts.MeasureT-loop
-evaluate-μ-loop schema w d p rights list scores types places sizes known q rows lines k depth kind conjunction truth₀ next₀ left₀ truth next left = left
+evaluate-μ-loop rows truths lines k depth kind conjunction truth₀ next₀ left₀ truth next left = left
 
--- src/tree.rt:129:9
+-- src/tree.rt:81:9
 evaluate-returns : (t : ℕ) → evaluate-lts.Need-returns (
   evaluate-below t,
   evaluate.Post,
@@ -57,12 +52,14 @@ evaluate-returns : (t : ℕ) → evaluate-lts.Need-returns (
   truth-of-reads.Learnt,
   joined-reads.Asked,
   joined-reads.Learnt,
-  leaf-reads.Asked,
-  leaf-reads.Learnt,
+  truth-at-reads.Asked,
+  truth-at-reads.Learnt,
+  after-item-reads.Asked,
+  after-item-reads.Learnt,
 ) (evaluate-at t) evaluate.Post evaluate-Inv-loop evaluate-μ-loop
-evaluate-returns t c = let a = c .before .before .before .before .before .before .before .before .before .before .before .before .before .args in (c .before .before .before .before .before .before .before .before .before .before .before .before .before .pre .1 .3, λ σ n ps h asked told. tree-none (itemTruth σ (record { name = n; held = heldOf ps })) (c .before .before .before .before .before .before .before .before .before .before .before .before .before .pre .1 .1) (a .k) (a .depth) (c .if1 .taken))
+evaluate-returns t c = let a = c .before .before .before .args in (c .before .before .before .pre .1 .1, λ w q m h told. tree-none m h (a .k) (a .depth) (c .if1 .taken))
 
--- src/tree.rt:135:9
+-- src/tree.rt:87:9
 evaluate-returns-2 : (t : ℕ) → evaluate-lts.Need-returns-2 (
   evaluate-below t,
   evaluate.Post,
@@ -72,12 +69,14 @@ evaluate-returns-2 : (t : ℕ) → evaluate-lts.Need-returns-2 (
   truth-of-reads.Learnt,
   joined-reads.Asked,
   joined-reads.Learnt,
-  leaf-reads.Asked,
-  leaf-reads.Learnt,
+  truth-at-reads.Asked,
+  truth-at-reads.Learnt,
+  after-item-reads.Asked,
+  after-item-reads.Learnt,
 ) (evaluate-at t) evaluate.Post evaluate-Inv-loop evaluate-μ-loop
-evaluate-returns-2 t c = let a = c .before .before .before .before .before .before .before .before .before .before .before .before .before .before .args in (c .before .before .before .before .before .before .before .before .before .before .before .before .before .before .pre .1 .3, λ σ n ps h asked told. tree-over (itemTruth σ (record { name = n; held = heldOf ps })) (c .before .before .before .before .before .before .before .before .before .before .before .before .before .before .pre .1 .1) (a .k) (a .depth) (c .if2 .taken) (c .before .before .before .before .before .before .before .before .before .before .before .before .before .before .pre .1 .3))
+evaluate-returns-2 t c = let a = c .before .before .before .before .args in (c .before .before .before .before .pre .1 .1, λ w q m h told. tree-over m h (a .k) (a .depth) (c .if2 .taken) (c .before .before .before .before .pre .1 .1))
 
--- src/tree.rt:140:21
+-- src/tree.rt:92:21
 evaluate-mul-kind : (t : ℕ) → evaluate-lts.Need-mul-kind (
   evaluate-below t,
   evaluate.Post,
@@ -87,12 +86,14 @@ evaluate-mul-kind : (t : ℕ) → evaluate-lts.Need-mul-kind (
   truth-of-reads.Learnt,
   joined-reads.Asked,
   joined-reads.Learnt,
-  leaf-reads.Asked,
-  leaf-reads.Learnt,
+  truth-at-reads.Asked,
+  truth-at-reads.Learnt,
+  after-item-reads.Asked,
+  after-item-reads.Learnt,
 ) (evaluate-at t) evaluate.Post evaluate-Inv-loop evaluate-μ-loop
-evaluate-mul-kind t c = omega (arith, c .if2 .left, c .before .before .before .before .before .before .before .before .before .before .before .before .before .before .pre .1 .1 .room)
+evaluate-mul-kind t c = omega (arith, c .if2 .left, c .before .before .before .before .pre .1 .0)
 
--- src/tree.rt:140:16
+-- src/tree.rt:92:16
 evaluate-mul-kind-2 : (t : ℕ) → evaluate-lts.Need-mul-kind-2 (
   evaluate-below t,
   evaluate.Post,
@@ -102,12 +103,14 @@ evaluate-mul-kind-2 : (t : ℕ) → evaluate-lts.Need-mul-kind-2 (
   truth-of-reads.Learnt,
   joined-reads.Asked,
   joined-reads.Learnt,
-  leaf-reads.Asked,
-  leaf-reads.Learnt,
+  truth-at-reads.Asked,
+  truth-at-reads.Learnt,
+  after-item-reads.Asked,
+  after-item-reads.Learnt,
 ) (evaluate-at t) evaluate.Post evaluate-Inv-loop evaluate-μ-loop
-evaluate-mul-kind-2 t c = search (needs, c .if2 .left, c .before .before .before .before .before .before .before .before .before .before .before .before .before .before .pre .1 .1 .room)
+evaluate-mul-kind-2 t c = search (needs, c .if2 .left, c .before .before .before .before .pre .1 .0)
 
--- src/tree.rt:140:16
+-- src/tree.rt:92:16
 evaluate-shared-slice-read-kind : (t : ℕ) → evaluate-lts.Need-shared-slice-read-kind (
   evaluate-below t,
   evaluate.Post,
@@ -117,12 +120,14 @@ evaluate-shared-slice-read-kind : (t : ℕ) → evaluate-lts.Need-shared-slice-r
   truth-of-reads.Learnt,
   joined-reads.Asked,
   joined-reads.Learnt,
-  leaf-reads.Asked,
-  leaf-reads.Learnt,
+  truth-at-reads.Asked,
+  truth-at-reads.Learnt,
+  after-item-reads.Asked,
+  after-item-reads.Learnt,
 ) (evaluate-at t) evaluate.Post evaluate-Inv-loop evaluate-μ-loop
-evaluate-shared-slice-read-kind t c = omega (arith, c .before .if2 .left, c .before .before .before .before .before .before .before .before .before .before .before .before .before .before .before .pre .1 .1 .room)
+evaluate-shared-slice-read-kind t c = omega (arith, c .before .if2 .left, c .before .before .before .before .before .pre .1 .0)
 
--- src/tree.rt:157:13
+-- src/tree.rt:94:50
 evaluate-add-evaluate : (t : ℕ) → evaluate-lts.Need-add-evaluate (
   evaluate-below t,
   evaluate.Post,
@@ -132,12 +137,14 @@ evaluate-add-evaluate : (t : ℕ) → evaluate-lts.Need-add-evaluate (
   truth-of-reads.Learnt,
   joined-reads.Asked,
   joined-reads.Learnt,
-  leaf-reads.Asked,
-  leaf-reads.Learnt,
+  truth-at-reads.Asked,
+  truth-at-reads.Learnt,
+  after-item-reads.Asked,
+  after-item-reads.Learnt,
 ) (evaluate-at t) evaluate.Post evaluate-Inv-loop evaluate-μ-loop
-evaluate-add-evaluate t c = omega (arith, c .before .before .if2 .left, c .before .before .before .before .before .before .before .before .before .before .before .before .before .before .before .before .pre .1 .1 .room)
+evaluate-add-evaluate t c = omega (arith, c .before .before .if2 .left, c .before .before .before .before .before .before .pre .1 .0)
 
--- src/tree.rt:158:13
+-- src/tree.rt:94:57
 evaluate-sub-evaluate : (t : ℕ) → evaluate-lts.Need-sub-evaluate (
   evaluate-below t,
   evaluate.Post,
@@ -147,12 +154,14 @@ evaluate-sub-evaluate : (t : ℕ) → evaluate-lts.Need-sub-evaluate (
   truth-of-reads.Learnt,
   joined-reads.Asked,
   joined-reads.Learnt,
-  leaf-reads.Asked,
-  leaf-reads.Learnt,
+  truth-at-reads.Asked,
+  truth-at-reads.Learnt,
+  after-item-reads.Asked,
+  after-item-reads.Learnt,
 ) (evaluate-at t) evaluate.Post evaluate-Inv-loop evaluate-μ-loop
 evaluate-sub-evaluate t c = search needs
 
--- src/tree.rt:142:13
+-- src/tree.rt:94:13
 evaluate-evaluate-requires : (t : ℕ) → evaluate-lts.Need-evaluate-requires (
   evaluate-below t,
   evaluate.Post,
@@ -162,12 +171,14 @@ evaluate-evaluate-requires : (t : ℕ) → evaluate-lts.Need-evaluate-requires (
   truth-of-reads.Learnt,
   joined-reads.Asked,
   joined-reads.Learnt,
-  leaf-reads.Asked,
-  leaf-reads.Learnt,
+  truth-at-reads.Asked,
+  truth-at-reads.Learnt,
+  after-item-reads.Asked,
+  after-item-reads.Learnt,
 ) (evaluate-at t) evaluate.Post evaluate-Inv-loop evaluate-μ-loop
-evaluate-evaluate-requires t c κs = let s = c .before .before .before .before .before .before .before .before .before .before .before .before .before .before .before .before .pre in (omega (arith, s .0, c .before .before .before .if1 .left), (s .1 .0, s .1 .1, s .1 .2, omega (arith, c .before .before .if2 .left), s .1 .4, s .1 .5))
+evaluate-evaluate-requires t c κs = let s = c .before .before .before .before .before .before .pre in (omega (arith, s .0, c .before .before .before .if1 .left), (s .1 .0, omega (arith, c .before .before .if2 .left)))
 
--- src/tree.rt:162:20
+-- src/tree.rt:97:20
 evaluate-negated-requires : (t : ℕ) → evaluate-lts.Need-negated-requires (
   evaluate-below t,
   evaluate.Post,
@@ -177,12 +188,14 @@ evaluate-negated-requires : (t : ℕ) → evaluate-lts.Need-negated-requires (
   truth-of-reads.Learnt,
   joined-reads.Asked,
   joined-reads.Learnt,
-  leaf-reads.Asked,
-  leaf-reads.Learnt,
+  truth-at-reads.Asked,
+  truth-at-reads.Learnt,
+  after-item-reads.Asked,
+  after-item-reads.Learnt,
 ) (evaluate-at t) evaluate.Post evaluate-Inv-loop evaluate-μ-loop
 evaluate-negated-requires t c κs = search needs
 
--- src/tree.rt:161:9
+-- src/tree.rt:96:9
 evaluate-returns-3 : (t : ℕ) → evaluate-lts.Need-returns-3 (
   evaluate-below t,
   evaluate.Post,
@@ -192,16 +205,18 @@ evaluate-returns-3 : (t : ℕ) → evaluate-lts.Need-returns-3 (
   truth-of-reads.Learnt,
   joined-reads.Asked,
   joined-reads.Learnt,
-  leaf-reads.Asked,
-  leaf-reads.Learnt,
+  truth-at-reads.Asked,
+  truth-at-reads.Learnt,
+  after-item-reads.Asked,
+  after-item-reads.Learnt,
 ) (evaluate-at t) evaluate.Post evaluate-Inv-loop evaluate-μ-loop
-evaluate-returns-3 t c = let a = c .before .before .before .before .before .before .before .before .before .before .before .before .before .before .before .before .before .before .args in (
+evaluate-returns-3 t c = let a = c .before .before .before .before .before .before .before .before .args in (
   c .before .evaluate .ensures .0,
-  λ σ n ps h asked told. rw (c .negated .ensures) (ap (λ (r : Evaluated). evaluated (negation (r .truth)) (r .rest)) (c .before .evaluate .ensures .1 σ n ps h asked told)
-      ∙ sym (tree-not (itemTruth σ (record { name = n; held = heldOf ps })) (c .before .before .before .before .before .before .before .before .before .before .before .before .before .before .before .before .before .before .pre .1 .1) (a .k) (a .depth) (c .before .before .before .before .if2 .left) (c .before .before .before .before .before .if1 .left) (c .before .before .if3 .taken))),
+  λ w q m h told. rw (c .negated .ensures) (ap (λ (r : Evaluated). evaluated (negation (r .truth)) (r .rest)) (c .before .evaluate .ensures .1 w q m h told)
+      ∙ sym (tree-not m h (a .k) (a .depth) (c .before .before .before .before .if2 .left) (c .before .before .before .before .before .if1 .left) (c .before .before .if3 .taken))),
 )
 
--- src/tree.rt:168:13
+-- src/tree.rt:103:13
 evaluate-truth-of-requires : (t : ℕ) → evaluate-lts.Need-truth-of-requires (
   evaluate-below t,
   evaluate.Post,
@@ -211,12 +226,14 @@ evaluate-truth-of-requires : (t : ℕ) → evaluate-lts.Need-truth-of-requires (
   truth-of-reads.Learnt,
   joined-reads.Asked,
   joined-reads.Learnt,
-  leaf-reads.Asked,
-  leaf-reads.Learnt,
+  truth-at-reads.Asked,
+  truth-at-reads.Learnt,
+  after-item-reads.Asked,
+  after-item-reads.Learnt,
 ) (evaluate-at t) evaluate.Post evaluate-Inv-loop evaluate-μ-loop
 evaluate-truth-of-requires t c κs = search needs
 
--- src/tree.rt:169:24
+-- src/tree.rt:104:24
 evaluate-add-next : (t : ℕ) → evaluate-lts.Need-add-next (
   evaluate-below t,
   evaluate.Post,
@@ -226,12 +243,14 @@ evaluate-add-next : (t : ℕ) → evaluate-lts.Need-add-next (
   truth-of-reads.Learnt,
   joined-reads.Asked,
   joined-reads.Learnt,
-  leaf-reads.Asked,
-  leaf-reads.Learnt,
+  truth-at-reads.Asked,
+  truth-at-reads.Learnt,
+  after-item-reads.Asked,
+  after-item-reads.Learnt,
 ) (evaluate-at t) evaluate.Post evaluate-Inv-loop evaluate-μ-loop
-evaluate-add-next t c = omega (arith, c .before .before .before .before .if2 .left, c .before .before .before .before .before .before .before .before .before .before .before .before .before .before .before .before .before .before .pre .1 .1 .room)
+evaluate-add-next t c = omega (arith, c .before .before .before .before .if2 .left, c .before .before .before .before .before .before .before .before .pre .1 .0)
 
--- src/tree.rt:170:29
+-- src/tree.rt:105:29
 evaluate-mul-left : (t : ℕ) → evaluate-lts.Need-mul-left (
   evaluate-below t,
   evaluate.Post,
@@ -241,12 +260,14 @@ evaluate-mul-left : (t : ℕ) → evaluate-lts.Need-mul-left (
   truth-of-reads.Learnt,
   joined-reads.Asked,
   joined-reads.Learnt,
-  leaf-reads.Asked,
-  leaf-reads.Learnt,
+  truth-at-reads.Asked,
+  truth-at-reads.Learnt,
+  after-item-reads.Asked,
+  after-item-reads.Learnt,
 ) (evaluate-at t) evaluate.Post evaluate-Inv-loop evaluate-μ-loop
-evaluate-mul-left t c = omega (arith, c .before .before .before .before .if2 .left, c .before .before .before .before .before .before .before .before .before .before .before .before .before .before .before .before .before .before .pre .1 .1 .room)
+evaluate-mul-left t c = omega (arith, c .before .before .before .before .if2 .left, c .before .before .before .before .before .before .before .before .pre .1 .0)
 
--- src/tree.rt:170:29
+-- src/tree.rt:105:29
 evaluate-add-left : (t : ℕ) → evaluate-lts.Need-add-left (
   evaluate-below t,
   evaluate.Post,
@@ -256,12 +277,14 @@ evaluate-add-left : (t : ℕ) → evaluate-lts.Need-add-left (
   truth-of-reads.Learnt,
   joined-reads.Asked,
   joined-reads.Learnt,
-  leaf-reads.Asked,
-  leaf-reads.Learnt,
+  truth-at-reads.Asked,
+  truth-at-reads.Learnt,
+  after-item-reads.Asked,
+  after-item-reads.Learnt,
 ) (evaluate-at t) evaluate.Post evaluate-Inv-loop evaluate-μ-loop
-evaluate-add-left t c = omega (arith, c .before .before .before .before .if2 .left, c .before .before .before .before .before .before .before .before .before .before .before .before .before .before .before .before .before .before .pre .1 .1 .room)
+evaluate-add-left t c = omega (arith, c .before .before .before .before .if2 .left, c .before .before .before .before .before .before .before .before .pre .1 .0)
 
--- src/tree.rt:170:24
+-- src/tree.rt:105:24
 evaluate-mul-left-2 : (t : ℕ) → evaluate-lts.Need-mul-left-2 (
   evaluate-below t,
   evaluate.Post,
@@ -271,12 +294,14 @@ evaluate-mul-left-2 : (t : ℕ) → evaluate-lts.Need-mul-left-2 (
   truth-of-reads.Learnt,
   joined-reads.Asked,
   joined-reads.Learnt,
-  leaf-reads.Asked,
-  leaf-reads.Learnt,
+  truth-at-reads.Asked,
+  truth-at-reads.Learnt,
+  after-item-reads.Asked,
+  after-item-reads.Learnt,
 ) (evaluate-at t) evaluate.Post evaluate-Inv-loop evaluate-μ-loop
-evaluate-mul-left-2 t c = search (needs, c .before .before .before .before .if2 .left, c .before .before .before .before .before .before .before .before .before .before .before .before .before .before .before .before .before .before .pre .1 .1 .room)
+evaluate-mul-left-2 t c = search (needs, c .before .before .before .before .if2 .left, c .before .before .before .before .before .before .before .before .pre .1 .0)
 
--- src/tree.rt:170:24
+-- src/tree.rt:105:24
 evaluate-shared-slice-read-left : (t : ℕ) → evaluate-lts.Need-shared-slice-read-left (
   evaluate-below t,
   evaluate.Post,
@@ -286,12 +311,14 @@ evaluate-shared-slice-read-left : (t : ℕ) → evaluate-lts.Need-shared-slice-r
   truth-of-reads.Learnt,
   joined-reads.Asked,
   joined-reads.Learnt,
-  leaf-reads.Asked,
-  leaf-reads.Learnt,
+  truth-at-reads.Asked,
+  truth-at-reads.Learnt,
+  after-item-reads.Asked,
+  after-item-reads.Learnt,
 ) (evaluate-at t) evaluate.Post evaluate-Inv-loop evaluate-μ-loop
-evaluate-shared-slice-read-left t c = omega (arith, c .before .before .before .before .before .if2 .left, c .before .before .before .before .before .before .before .before .before .before .before .before .before .before .before .before .before .before .before .pre .1 .1 .room)
+evaluate-shared-slice-read-left t c = omega (arith, c .before .before .before .before .before .if2 .left, c .before .before .before .before .before .before .before .before .before .pre .1 .0)
 
--- src/tree.rt:171:9
+-- src/tree.rt:106:9
 evaluate-loop-holds : (t : ℕ) → evaluate-lts.Need-loop-holds (
   evaluate-below t,
   evaluate.Post,
@@ -301,12 +328,14 @@ evaluate-loop-holds : (t : ℕ) → evaluate-lts.Need-loop-holds (
   truth-of-reads.Learnt,
   joined-reads.Asked,
   joined-reads.Learnt,
-  leaf-reads.Asked,
-  leaf-reads.Learnt,
+  truth-at-reads.Asked,
+  truth-at-reads.Learnt,
+  after-item-reads.Asked,
+  after-item-reads.Learnt,
 ) (evaluate-at t) evaluate.Post evaluate-Inv-loop evaluate-μ-loop
-evaluate-loop-holds t c = let a = c .before .before .before .before .before .before .before .before .before .before .before .before .before .before .before .before .before .before .before .args in (omega (arith, c .before .before .before .before .before .if2 .left), λ σ n ps h asked told. rw (c .before .truth-of .ensures) (sym (tree-group (itemTruth σ (record { name = n; held = heldOf ps })) (c .before .before .before .before .before .before .before .before .before .before .before .before .before .before .before .before .before .before .before .pre .1 .1) (a .k) (a .depth) (c .before .before .before .before .before .if2 .left) (c .before .before .before .before .before .before .if1 .left) (c .before .before .if4 .taken))))
+evaluate-loop-holds t c = let a = c .before .before .before .before .before .before .before .before .before .args in (omega (arith, c .before .before .before .before .before .if2 .left), λ w q m h told. rw (c .before .truth-of .ensures) (sym (tree-group m h (a .k) (a .depth) (c .before .before .before .before .before .if2 .left) (c .before .before .before .before .before .before .if1 .left) (c .before .before .if4 .taken))))
 
--- src/tree.rt:188:17
+-- src/tree.rt:107:60
 evaluate-sub-evaluate-2 : (t : ℕ) → evaluate-lts.Need-sub-evaluate-2 (
   evaluate-below t,
   evaluate.Post,
@@ -316,12 +345,14 @@ evaluate-sub-evaluate-2 : (t : ℕ) → evaluate-lts.Need-sub-evaluate-2 (
   truth-of-reads.Learnt,
   joined-reads.Asked,
   joined-reads.Learnt,
-  leaf-reads.Asked,
-  leaf-reads.Learnt,
+  truth-at-reads.Asked,
+  truth-at-reads.Learnt,
+  after-item-reads.Asked,
+  after-item-reads.Learnt,
 ) (evaluate-at t) evaluate.Post evaluate-Inv-loop evaluate-μ-loop
 evaluate-sub-evaluate-2 t c = search needs
 
--- src/tree.rt:172:17
+-- src/tree.rt:107:17
 evaluate-evaluate-requires-2 : (t : ℕ) → evaluate-lts.Need-evaluate-requires-2 (
   evaluate-below t,
   evaluate.Post,
@@ -331,12 +362,14 @@ evaluate-evaluate-requires-2 : (t : ℕ) → evaluate-lts.Need-evaluate-requires
   truth-of-reads.Learnt,
   joined-reads.Asked,
   joined-reads.Learnt,
-  leaf-reads.Asked,
-  leaf-reads.Learnt,
+  truth-at-reads.Asked,
+  truth-at-reads.Learnt,
+  after-item-reads.Asked,
+  after-item-reads.Learnt,
 ) (evaluate-at t) evaluate.Post evaluate-Inv-loop evaluate-μ-loop
-evaluate-evaluate-requires-2 t c κs = let s = c .before .before .before .before .before .before .before .before .before .before .before .before .before .before .before .before .before .before .before .before .before .pre in (omega (arith, s .0, c .before .before .before .before .before .before .before .before .if1 .left), (s .1 .0, s .1 .1, s .1 .2, c .before .loop .inv .0, s .1 .4, s .1 .5))
+evaluate-evaluate-requires-2 t c κs = let s = c .before .before .before .before .before .before .before .before .before .before .before .pre in (omega (arith, s .0, c .before .before .before .before .before .before .before .before .if1 .left), (s .1 .0, c .before .loop .inv .0))
 
--- src/tree.rt:191:13
+-- src/tree.rt:109:13
 evaluate-joined-requires : (t : ℕ) → evaluate-lts.Need-joined-requires (
   evaluate-below t,
   evaluate.Post,
@@ -346,12 +379,14 @@ evaluate-joined-requires : (t : ℕ) → evaluate-lts.Need-joined-requires (
   truth-of-reads.Learnt,
   joined-reads.Asked,
   joined-reads.Learnt,
-  leaf-reads.Asked,
-  leaf-reads.Learnt,
+  truth-at-reads.Asked,
+  truth-at-reads.Learnt,
+  after-item-reads.Asked,
+  after-item-reads.Learnt,
 ) (evaluate-at t) evaluate.Post evaluate-Inv-loop evaluate-μ-loop
 evaluate-joined-requires t c κs = search needs
 
--- src/tree.rt:193:13
+-- src/tree.rt:111:13
 evaluate-sub-left : (t : ℕ) → evaluate-lts.Need-sub-left (
   evaluate-below t,
   evaluate.Post,
@@ -361,12 +396,14 @@ evaluate-sub-left : (t : ℕ) → evaluate-lts.Need-sub-left (
   truth-of-reads.Learnt,
   joined-reads.Asked,
   joined-reads.Learnt,
-  leaf-reads.Asked,
-  leaf-reads.Learnt,
+  truth-at-reads.Asked,
+  truth-at-reads.Learnt,
+  after-item-reads.Asked,
+  after-item-reads.Learnt,
 ) (evaluate-at t) evaluate.Post evaluate-Inv-loop evaluate-μ-loop
 evaluate-sub-left t c = search needs
 
--- src/tree.rt:171:9
+-- src/tree.rt:106:9
 evaluate-loop-less : (t : ℕ) → evaluate-lts.Need-loop-less (
   evaluate-below t,
   evaluate.Post,
@@ -376,12 +413,14 @@ evaluate-loop-less : (t : ℕ) → evaluate-lts.Need-loop-less (
   truth-of-reads.Learnt,
   joined-reads.Asked,
   joined-reads.Learnt,
-  leaf-reads.Asked,
-  leaf-reads.Learnt,
+  truth-at-reads.Asked,
+  truth-at-reads.Learnt,
+  after-item-reads.Asked,
+  after-item-reads.Learnt,
 ) (evaluate-at t) evaluate.Post evaluate-Inv-loop evaluate-μ-loop
 evaluate-loop-less t c = search needs
 
--- src/tree.rt:171:9
+-- src/tree.rt:106:9
 evaluate-loop-again : (t : ℕ) → evaluate-lts.Need-loop-again (
   evaluate-below t,
   evaluate.Post,
@@ -391,17 +430,19 @@ evaluate-loop-again : (t : ℕ) → evaluate-lts.Need-loop-again (
   truth-of-reads.Learnt,
   joined-reads.Asked,
   joined-reads.Learnt,
-  leaf-reads.Asked,
-  leaf-reads.Learnt,
+  truth-at-reads.Asked,
+  truth-at-reads.Learnt,
+  after-item-reads.Asked,
+  after-item-reads.Learnt,
 ) (evaluate-at t) evaluate.Post evaluate-Inv-loop evaluate-μ-loop
-evaluate-loop-again t c = let a = c .before .before .before .before .before .before .before .before .before .before .before .before .before .before .before .before .before .before .before .before .before .before .before .args in
+evaluate-loop-again t c = let a = c .before .before .before .before .before .before .before .before .before .before .before .before .before .args in
     let L = c .before .before .before .loop in (
       c .before .evaluate2 .ensures .0,
-      λ σ n ps h asked told. rw (c .joined .ensures)
-          (sym (parts-on (joinBy (eqb (kindAt (now (a .rows)) (a .k)) 20)) (evaluateLines (itemTruth σ (record { name = n; held = heldOf ps })) (a .depth - 1)) (L .left) (L .truth) (linesAt (a .w) (now (a .q)) (positionAt (now (a .rows)) (L .next))) (c .before .before .loop-test .taken) _ _ (c .before .evaluate2 .ensures .1 σ n ps h asked told)) ∙ L .inv .1 σ n ps h asked told),
+      λ w q m h told. rw (c .joined .ensures)
+          (sym (parts-on (joinBy (eqb (kindAt (now (a .rows)) (a .k)) 20)) (evaluateLines m (a .depth - 1)) (L .left) (L .truth) (linesAt w q (positionAt (now (a .rows)) (L .next))) (c .before .before .loop-test .taken) _ _ (c .before .evaluate2 .ensures .1 w q m h told)) ∙ L .inv .1 w q m h told),
     )
 
--- src/tree.rt:195:9
+-- src/tree.rt:113:9
 evaluate-returns-4 : (t : ℕ) → evaluate-lts.Need-returns-4 (
   evaluate-below t,
   evaluate.Post,
@@ -411,15 +452,17 @@ evaluate-returns-4 : (t : ℕ) → evaluate-lts.Need-returns-4 (
   truth-of-reads.Learnt,
   joined-reads.Asked,
   joined-reads.Learnt,
-  leaf-reads.Asked,
-  leaf-reads.Learnt,
+  truth-at-reads.Asked,
+  truth-at-reads.Learnt,
+  after-item-reads.Asked,
+  after-item-reads.Learnt,
 ) (evaluate-at t) evaluate.Post evaluate-Inv-loop evaluate-μ-loop
-evaluate-returns-4 t c = let a = c .before .before .before .before .before .before .before .before .before .before .before .before .before .before .before .before .before .before .before .before .before .args in
+evaluate-returns-4 t c = let a = c .before .before .before .before .before .before .before .before .before .before .before .args in
     let L = c .before .loop in
-    (L .inv .0, λ σ n ps h asked told. sym (parts-end (joinBy (eqb (kindAt (now (a .rows)) (a .k)) 20)) (evaluateLines (itemTruth σ (record { name = n; held = heldOf ps })) (a .depth - 1)) (L .left) (L .truth) (linesAt (a .w) (now (a .q)) (positionAt (now (a .rows)) (L .next))) (c .loop-test .left)) ∙ L .inv .1 σ n ps h asked told)
+    (L .inv .0, λ w q m h told. sym (parts-end (joinBy (eqb (kindAt (now (a .rows)) (a .k)) 20)) (evaluateLines m (a .depth - 1)) (L .left) (L .truth) (linesAt w q (positionAt (now (a .rows)) (L .next))) (c .loop-test .left)) ∙ L .inv .1 w q m h told)
 
--- src/tree.rt:197:5
-evaluate-leaf-requires : (t : ℕ) → evaluate-lts.Need-leaf-requires (
+-- src/tree.rt:116:16
+evaluate-truth-at-requires : (t : ℕ) → evaluate-lts.Need-truth-at-requires (
   evaluate-below t,
   evaluate.Post,
   negated-reads.Asked,
@@ -428,12 +471,31 @@ evaluate-leaf-requires : (t : ℕ) → evaluate-lts.Need-leaf-requires (
   truth-of-reads.Learnt,
   joined-reads.Asked,
   joined-reads.Learnt,
-  leaf-reads.Asked,
-  leaf-reads.Learnt,
+  truth-at-reads.Asked,
+  truth-at-reads.Learnt,
+  after-item-reads.Asked,
+  after-item-reads.Learnt,
 ) (evaluate-at t) evaluate.Post evaluate-Inv-loop evaluate-μ-loop
-evaluate-leaf-requires t c κs = let s = c .before .before .before .before .before .before .before .before .before .before .before .before .before .before .before .before .before .pre .1 in (s .0, s .1, s .2, c .before .before .before .if2 .left, s .4, s .5)
+evaluate-truth-at-requires t c κs = search needs
 
--- src/tree.rt:107:1
+-- src/tree.rt:117:15
+evaluate-after-item-requires : (t : ℕ) → evaluate-lts.Need-after-item-requires (
+  evaluate-below t,
+  evaluate.Post,
+  negated-reads.Asked,
+  negated-reads.Learnt,
+  truth-of-reads.Asked,
+  truth-of-reads.Learnt,
+  joined-reads.Asked,
+  joined-reads.Learnt,
+  truth-at-reads.Asked,
+  truth-at-reads.Learnt,
+  after-item-reads.Asked,
+  after-item-reads.Learnt,
+) (evaluate-at t) evaluate.Post evaluate-Inv-loop evaluate-μ-loop
+evaluate-after-item-requires t c κs = (c .before .before .before .before .before .before .before .before .pre .1 .0, c .before .before .before .before .if2 .left)
+
+-- src/tree.rt:76:1
 evaluate-returns-5 : (t : ℕ) → evaluate-lts.Need-returns-5 (
   evaluate-below t,
   evaluate.Post,
@@ -443,13 +505,15 @@ evaluate-returns-5 : (t : ℕ) → evaluate-lts.Need-returns-5 (
   truth-of-reads.Learnt,
   joined-reads.Asked,
   joined-reads.Learnt,
-  leaf-reads.Asked,
-  leaf-reads.Learnt,
+  truth-at-reads.Asked,
+  truth-at-reads.Learnt,
+  after-item-reads.Asked,
+  after-item-reads.Learnt,
 ) (evaluate-at t) evaluate.Post evaluate-Inv-loop evaluate-μ-loop
-evaluate-returns-5 t c = let a = c .before .before .before .before .before .before .before .before .before .before .before .before .before .before .before .before .before .before .args in (
-  c .leaf .ensures .0,
-  λ σ n ps h asked told. c .leaf .ensures .1 σ n ps h asked told
-      ∙ sym (tree-item (itemTruth σ (record { name = n; held = heldOf ps })) (c .before .before .before .before .before .before .before .before .before .before .before .before .before .before .before .before .before .before .pre .1 .1) (a .k) (a .depth) (c .before .before .before .before .if2 .left) (c .before .before .before .before .before .if1 .left) (c .before .before .if3 .left) (c .before .if4 .left)),
+evaluate-returns-5 t c = let a = c .before .before .before .before .before .before .before .before .before .args in (
+  c .after-item .ensures .0,
+  λ w q m h told. ap₂ evaluated (c .before .truth-at .ensures ∙ told .line (a .k) (c .before .before .before .before .before .if2 .left) .told (c .before .before .before .if3 .left) (c .before .before .if4 .left)) (c .after-item .ensures .1 w q h)
+      ∙ sym (tree-item m h (a .k) (a .depth) (c .before .before .before .before .before .if2 .left) (c .before .before .before .before .before .before .if1 .left) (c .before .before .before .if3 .left) (c .before .before .if4 .left)),
 )
 
 pub +evaluate-spec : {M : Type 1} → statement M
@@ -462,8 +526,10 @@ pub +evaluate-spec : {M : Type 1} → statement M
   truth-of-reads.Learnt,
   joined-reads.Asked,
   joined-reads.Learnt,
-  leaf-reads.Asked,
-  leaf-reads.Learnt,
+  truth-at-reads.Asked,
+  truth-at-reads.Learnt,
+  after-item-reads.Asked,
+  after-item-reads.Learnt,
 )
     (evaluate-at t)
     evaluate.Post
@@ -493,5 +559,6 @@ pub +evaluate-spec : {M : Type 1} → statement M
     (evaluate-loop-less t)
     (evaluate-loop-again t)
     (evaluate-returns-4 t)
-    (evaluate-leaf-requires t)
+    (evaluate-truth-at-requires t)
+    (evaluate-after-item-requires t)
     (evaluate-returns-5 t)

@@ -34,7 +34,7 @@ same-length c = search needs
 returns : tie.Need-returns
 returns c = let s = c .before .before .before .before .before .before .before .before .before .before .before .before .before .before .before in
     let a = s .args in
-    (omega arith, λ σ n G W. lines-not (a .w) (now (a .out)) (a .at) (a .t) _ _ _ refl (c .before .before .before .before .emit-values .ensures .1 σ n G W) (c .if1 .taken))
+    (omega arith, λ σ n W. lines-not (a .w) (now (a .out)) (a .at) (a .t) _ _ _ refl (c .before .before .before .before .emit-values .ensures .1 σ n W) (c .if1 .taken))
 
 -- src/lib.rt:179:42
 slice-aggregate-emit : tie.Need-slice-aggregate-emit
@@ -53,7 +53,7 @@ returns-2 : tie.Need-returns-2
 returns-2 c = let s = c .before .before .before .before .before .before .before .before .before .before .before .before .before .before .before .before .before .before .before .before in
     let a = s .args in
     let p = c .before .before .before .before .before .before .before .before .before .emit-values .ensures in
-    (omega (arith, s .pre .0 .wide, s .pre .0 .rising, p .0), λ σ n G W. lines-some (a .w) (now (a .out)) (a .at) (a .t) _ _ _ refl (p .1 σ n G W) (c .before .before .before .before .before .if1 .left) refl (c .before .before .emit .ensures))
+    (omega (arith, s .pre .0 .wide, s .pre .0 .rising, p .0), λ σ n W. lines-some (a .w) (now (a .out)) (a .at) (a .t) _ _ _ refl (p .1 σ n W) (c .before .before .before .before .before .if1 .left) refl (c .before .before .emit .ensures))
 
 pub emit-readable-spec : {M : Type 1} → statement M
 emit-readable-spec =

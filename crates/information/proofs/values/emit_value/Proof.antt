@@ -8,7 +8,7 @@ use Rattle.information.proofs.values.emit_value.Statement.{statement}
 use Rattle.information.proofs.values.emit_value.Tie as tie
 use Rattle.information.proofs.values.emit_value.Reads as reads
 use Rattle.information.proofs.values.emit_value.Lts as lts
-use Rattle.scores.proofs.values.granted_value_told.Reads as granted-value-told-reads
+use Rattle.scores.proofs.values.granted_value_among.Reads as granted-value-among-reads
 use Rattle.answer.proofs.line.emit.Reads as emit-reads
 use Rattle.entry.proofs.bytes_at.Reads as bytes-at-reads
 
@@ -17,8 +17,8 @@ bytes-at-requires : tie.Need-bytes-at-requires
 bytes-at-requires c κs = search needs
 
 -- src/lib.rt:92:8
-granted-value-told-requires : tie.Need-granted-value-told-requires
-granted-value-told-requires c κs = search needs
+granted-value-among-requires : tie.Need-granted-value-among-requires
+granted-value-among-requires c κs = search needs
 
 -- src/lib.rt:94:19
 emit-requires : tie.Need-emit-requires
@@ -41,7 +41,7 @@ returns c = let s = c .before .before .before .before .before .before .before .b
     let p = c .before .before .before .emit .ensures in (
       omega (arith, emits-length _ _ _ _ p, s .pre .1, s .pre .2, bytes-few (now (a .d)) (a .place) (a .size) _ v),
       omega arith,
-      λ σ n G W. value-read (a .w) (now (a .out)) σ n (a .t) _ _ v (a .st) (sym (c .before .before .before .before .before .before .granted-value-told .ensures σ n (G .scopes) (G .schema-is) (G .rows) (G .chosen) (W .scored) (W .picked)) ∙ c .before .before .before .before .before .if1 .taken) p,
+      λ σ n W. value-read (a .w) (now (a .out)) σ n (a .t) _ _ v (a .st) (sym (c .before .before .before .before .before .before .granted-value-among .ensures σ n (W .grounds .scopes) (W .list) (W .grounds .schema-is) (W .grounds .rows) (W .grounds .chosen) (W .scored) (W .picked) (W .slots-noted)) ∙ c .before .before .before .before .before .if1 .taken) p,
     )
 
 -- src/lib.rt:75:1
@@ -50,7 +50,7 @@ returns-2 c = let s = c .before .before .before .before .before .before .before 
     let a = s .args in (
       omega arith,
       omega arith,
-      λ σ n G W. value-not (a .w) (now (a .out)) σ n (a .t) _ _ (c .before .before .bytes-at .ensures) (a .st) (sym (c .before .granted-value-told .ensures σ n (G .scopes) (G .schema-is) (G .rows) (G .chosen) (W .scored) (W .picked)) ∙ c .if1 .left),
+      λ σ n W. value-not (a .w) (now (a .out)) σ n (a .t) _ _ (c .before .before .bytes-at .ensures) (a .st) (sym (c .before .granted-value-among .ensures σ n (W .grounds .scopes) (W .list) (W .grounds .schema-is) (W .grounds .rows) (W .grounds .chosen) (W .scored) (W .picked) (W .slots-noted)) ∙ c .if1 .left),
     )
 
 pub emit-value-spec : {M : Type 1} → statement M
@@ -58,7 +58,7 @@ emit-value-spec =
     tie.close
     (tie.spec
     bytes-at-requires
-    granted-value-told-requires
+    granted-value-among-requires
     emit-requires
     add-t19
     same-length

@@ -1,4 +1,4 @@
-use Rattle.information.specs.Information.{Grounds, Weighed, noted, readable, Counted, values-none, values-on}
+use Rattle.information.specs.Information.{Weighed, noted, readable, Counted, values-none, values-on}
 use Rattle.rules.specs.Decision.{Setting}
 use Rattle.rules.specs.Name.{Name}
 use mathlib.Core.Path.{subst}
@@ -15,16 +15,16 @@ use Rattle.information.proofs.values.emit_values.Lts as lts
 use Rattle.information.proofs.values.emit_value.Reads as emit-value-reads
 
 abbrev Inv-loop : tie.InvT-loop
-Inv-loop out₀ at w schema d p rights list singles score places sizes t i end st₀ j₀ out st j = (i ≤ j) × (j ≤ end) × (st .next ≤ at + (j - i) * 2 ^ 17) × (st .count ≤ j - i) × ((σ : Setting) (n : Name) → Grounds σ n schema w p rights list → Weighed rights list singles score t → Counted w out₀ (record { next = at; count = 0 }) (readable σ n t (noted d places sizes i (j - i))) out st) × (length out ≡ length out₀)
+Inv-loop out₀ at w schema d p rights singles slots score places sizes t i end st₀ j₀ out st j = (i ≤ j) × (j ≤ end) × (st .next ≤ at + (j - i) * 2 ^ 17) × (st .count ≤ j - i) × ((σ : Setting) (n : Name) → Weighed σ n schema w p rights singles slots score t → Counted w out₀ (record { next = at; count = 0 }) (readable σ n t (noted d places sizes i (j - i))) out st) × (length out ≡ length out₀)
 
 abbrev μ-loop : tie.MeasureT-loop
-μ-loop out₀ at w schema d p rights list singles score places sizes t i end st₀ j₀ out st j = end - j
+μ-loop out₀ at w schema d p rights singles slots score places sizes t i end st₀ j₀ out st j = end - j
 
 -- src/lib.rt:122:5
 loop-holds : tie.Need-loop-holds Inv-loop μ-loop
 loop-holds c = let s = c .before .before .before .before .before .before .before .before .before in
     let a = s .args in
-    (search needs, search needs, search needs, search needs, λ σ n G W. values-none (a .w) (now (a .out)) (now (a .d)) (now (a .places)) (now (a .sizes)) σ n (a .t) (a .i) _ (a .i - a .i) (omega arith), search needs)
+    (search needs, search needs, search needs, search needs, λ σ n W. values-none (a .w) (now (a .out)) (now (a .d)) (now (a .places)) (now (a .sizes)) σ n (a .t) (a .i) _ (a .i - a .i) (omega arith), search needs)
 
 -- src/lib.rt:133:13
 mul-emit-value : tie.Need-mul-emit-value Inv-loop μ-loop
@@ -67,7 +67,7 @@ loop-again c = let s = c .before .before .before .before .before .before .before
       omega (arith, l),
       omega (arith, L .inv .0, L .inv .2, r .0),
       omega (arith, L .inv .0, L .inv .3, r .1),
-      λ σ n G W. values-on (a .w) (now (a .out)) (now (a .d)) (now (a .places)) (now (a .sizes)) σ n (a .t) (a .i) _ (L .j - a .i) (L .j + 1 - a .i) (L .j) (omega (arith, L .inv .0)) (omega (arith, L .inv .0)) (L .st) _ (L .inv .4 σ n G W) (r .2 σ n G W),
+      λ σ n W. values-on (a .w) (now (a .out)) (now (a .d)) (now (a .places)) (now (a .sizes)) σ n (a .t) (a .i) _ (L .j - a .i) (L .j + 1 - a .i) (L .j) (omega (arith, L .inv .0)) (omega (arith, L .inv .0)) (L .st) _ (L .inv .4 σ n W) (r .2 σ n W),
       search needs,
     )
 
@@ -81,7 +81,7 @@ returns c = let s = c .before .before .before .before .before .before .before .b
     let a = s .args in
     let L = c .before .loop in
     let e : L .j ≡ a .end = omega (arith, c .loop-test .left, L .inv .1) in
-    (omega (arith, L .inv .2, e), λ σ n G W. subst (λ (j : ℕ). Counted (a .w) (now (a .out)) (record { next = a .at; count = 0 }) (readable σ n (a .t) (noted (now (a .d)) (now (a .places)) (now (a .sizes)) (a .i) (j - a .i))) (L .out) (L .st)) e (L .inv .4 σ n G W))
+    (omega (arith, L .inv .2, e), λ σ n W. subst (λ (j : ℕ). Counted (a .w) (now (a .out)) (record { next = a .at; count = 0 }) (readable σ n (a .t) (noted (now (a .d)) (now (a .places)) (now (a .sizes)) (a .i) (j - a .i))) (L .out) (L .st)) e (L .inv .4 σ n W))
 
 pub emit-values-spec : {M : Type 1} → statement M
 emit-values-spec =

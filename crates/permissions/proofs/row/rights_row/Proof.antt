@@ -2,7 +2,7 @@
 use Prim.Native.Nat.{_≤_}
 use native.Mathlib.Omega.{arith}
 use Rattle.permissions.specs.Steps.{rightsRow}
-use Rattle.permissions.specs.ItemRows.{weight-small}
+use Rattle.precedence.specs.Laws.{weight-small}
 use borrow.Author.Needs.{needs}
 use Rattle.permissions.proofs.row.rights_row.Statement.{statement}
 use Rattle.permissions.proofs.row.rights_row.Tie as tie

@@ -1,0 +1,2 @@
+pub mod ValueLine
+pub mod Values

@@ -1,0 +1,67 @@
+-- The digits before `i` are in `v`, which has at most `i` digits.
+use Prim.Native.Nat.{_-_, _^_, _≤_, _<_}
+use mathlib.Core.Path.{_≡_, refl, sym, _∙_}
+use native.Mathlib.Omega.{arith}
+use lib.ListN.{length, drop}
+use Rattle.rules.specs.Sheet.{digits}
+use Rattle.column.specs.Laws.{digits-low, digits-high, digits-on, digits-end, digit-room, power-room, power-positive}
+use borrow.Author.Needs.{needs}
+use Rattle.column.proofs.number.Statement.{statement}
+use Rattle.column.proofs.number.Tie as tie
+
+abbrev Inv-loop : tie.InvT-loop
+Inv-loop s from v₀ i₀ v i = (i ≤ length s) × (v < 10 ^ i) × (digits v (drop i s) ≡ digits 0 (drop from s))
+
+abbrev μ-loop : tie.MeasureT-loop
+μ-loop s from v₀ i₀ v i = length s - i
+
+loop-holds : tie.Need-loop-holds Inv-loop μ-loop
+loop-holds c = (search needs, power-positive _, refl)
+
+shared-slice-read-b : tie.Need-shared-slice-read-b Inv-loop μ-loop
+shared-slice-read-b c = search needs
+
+returns : tie.Need-returns Inv-loop μ-loop
+returns c = sym (digits-low _ _ (c .before .before .loop-test .taken) _ (c .if1 .taken)) ∙ c .before .before .before .loop .inv .2
+
+returns-2 : tie.Need-returns-2 Inv-loop μ-loop
+returns-2 c = sym (digits-high _ _ (c .before .before .before .loop-test .taken) _ (c .if2 .taken)) ∙ c .before .before .before .before .loop .inv .2
+
+mul-v : tie.Need-mul-v Inv-loop μ-loop
+mul-v c = omega (arith, power-room _ _ 17 (c .before .before .before .before .loop .inv .1) (omega arith))
+
+cast-v : tie.Need-cast-v Inv-loop μ-loop
+cast-v c = search needs
+
+add-v : tie.Need-add-v Inv-loop μ-loop
+add-v c = omega (arith, power-room _ _ 17 (c .before .before .before .before .loop .inv .1) (omega arith))
+
+add-i : tie.Need-add-i Inv-loop μ-loop
+add-i c = search needs
+
+loop-less : tie.Need-loop-less Inv-loop μ-loop
+loop-less c = search needs
+
+loop-again : tie.Need-loop-again Inv-loop μ-loop
+loop-again c = (search needs, digit-room _ _ _ (c .before .before .before .before .loop .inv .1) (omega arith), sym (digits-on _ _ (c .before .before .before .loop-test .taken) _ (c .before .if1 .left) (c .if2 .left)) ∙ c .before .before .before .before .loop .inv .2)
+
+returns-3 : tie.Need-returns-3 Inv-loop μ-loop
+returns-3 c = sym (digits-end _ _ _ (c .loop-test .left)) ∙ c .before .loop .inv .2
+
+pub number-spec : {M : Type 1} → statement M
+number-spec =
+    tie.close
+    (tie.spec
+    Inv-loop
+    μ-loop
+    loop-holds
+    shared-slice-read-b
+    returns
+    returns-2
+    mul-v
+    cast-v
+    add-v
+    add-i
+    loop-less
+    loop-again
+    returns-3)

@@ -1,0 +1,43 @@
+-- The lines that are left, from here, end where all of them end.
+use Prim.Native.Nat.{_-_, _≤_}
+use mathlib.Core.Path.{_≡_, sym, _∙_}
+use native.Mathlib.Omega.{arith}
+use borrow.Author.Needs.{needs}
+use denote.Ref.{now}
+use Rattle.rules.specs.Places.{schemaOf}
+use Rattle.component.specs.Steps.{partsAt}
+use Rattle.component.specs.Laws.{parts-start, parts-on, parts-end}
+use Rattle.component.proofs.parts_at.Statement.{statement}
+use Rattle.component.proofs.parts_at.Tie as tie
+use Rattle.component.proofs.parts_at.Reads as reads
+use Rattle.component.proofs.parts_at.Lts as lts
+use Rattle.component.proofs.due_at.Reads as due-at-reads
+
+abbrev Inv-loop : tie.InvT-loop
+Inv-loop p at w schema n refusal reached₀ i₀ reached i = (i ≤ n) × (partsAt w p (schemaOf schema) (reached .refusal) (reached .next) (n - i) ≡ partsAt w p (schemaOf schema) refusal at n)
+
+abbrev μ-loop : tie.MeasureT-loop
+μ-loop p at w schema n refusal reached₀ i₀ reached i = n - i
+
+loop-holds : tie.Need-loop-holds Inv-loop μ-loop
+loop-holds c = let A = c .before .before .args in (search needs, parts-start (A .w) (now (A .p)) (schemaOf (now (A .schema))) (A .refusal) (A .at) (A .n))
+
+due-at-requires : tie.Need-due-at-requires Inv-loop μ-loop
+due-at-requires c κs = search needs
+
+add-i : tie.Need-add-i Inv-loop μ-loop
+add-i c = search needs
+
+loop-less : tie.Need-loop-less Inv-loop μ-loop
+loop-less c = search needs
+
+loop-again : tie.Need-loop-again Inv-loop μ-loop
+loop-again c = let A = c .before .before .before .before .before .args in let R = c .before .before .loop in (omega arith, sym (parts-on (A .w) (now (A .p)) (schemaOf (now (A .schema))) (R .reached .refusal) (R .reached .next) (A .n) (R .i) (c .before .loop-test .taken) (c .due-at .ensures)) ∙ R .inv .1)
+
+returns : tie.Need-returns Inv-loop μ-loop
+returns c = let A = c .before .before .before .before .args in let R = c .before .loop in sym (parts-end (A .w) (now (A .p)) (schemaOf (now (A .schema))) (R .reached .refusal) (R .reached .next) (A .n) (R .i) (c .loop-test .left)) ∙ R .inv .1
+
+pub parts-at-spec : {M : Type 1} → statement M
+parts-at-spec =
+    tie.close
+    (tie.spec Inv-loop μ-loop loop-holds due-at-requires add-i loop-less loop-again returns)

@@ -1,0 +1,2 @@
+pub mod Filters
+pub mod Laws

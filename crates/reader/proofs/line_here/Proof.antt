@@ -1,0 +1,31 @@
+-- A line at a position is the front of the part that begins there.
+use denote.Ref.{now}
+use mathlib.Core.Path.{sym, ap, _∙_}
+use Rattle.rules.specs.Sheet.{frontOf}
+use Rattle.rules.specs.Laws.Sheet.{front-past}
+use Rattle.rules.specs.Laws.Sheet.{part-rest}
+use borrow.Author.Needs.{needs}
+use Rattle.reader.proofs.line_here.Statement.{statement}
+use Rattle.reader.proofs.line_here.Tie as tie
+
+sub-front : tie.Need-sub-front
+sub-front c = search needs
+
+part-front-start : tie.Need-part-front-start
+part-front-start c = search needs
+
+part-front-end : tie.Need-part-front-end
+part-front-end c = search needs
+
+front-requires : tie.Need-front-requires
+front-requires c κs = search needs
+
+returns : tie.Need-returns
+returns c = let A = c .before .before .before .before .args in c .front .ensures ∙ ap (frontOf (A .w)) (part-rest (now (A .s)) (A .at))
+
+returns-2 : tie.Need-returns-2
+returns-2 c = let A = c .before .before .args in sym (front-past (A .w) (now (A .s)) (A .at) (c .if1 .left))
+
+pub line-here-spec : {M : Type 1} → statement M
+line-here-spec =
+    tie.close (tie.spec sub-front part-front-start part-front-end front-requires returns returns-2)

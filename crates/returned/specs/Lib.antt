@@ -1,0 +1,4 @@
+pub mod Passing
+pub mod Returnable
+pub mod Returned
+pub mod Whole

@@ -1,0 +1,3 @@
+pub mod Mark
+pub mod Twins
+pub mod Rulings

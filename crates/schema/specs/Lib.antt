@@ -1,0 +1,3 @@
+pub mod Lines
+pub mod Schema
+pub mod Types
