@@ -15,9 +15,13 @@ use Rattle.rules.specs.Name.{Schema}
 use Rattle.decision.specs.Grants.{afterBy, passBy, after-silent, after-beyond}
 use Rattle.scores.specs.Values.{singleAsked}
 
+-- the slot of a digest: its low bits and those above the directory's buckets
+abbrev pub slotAt : ℕ → ℕ
+slotAt d = (d % 1024 + d / 2048 % 1024) % 1024
+
 -- the slot of the digest of item number `k`
 unfoldable pub slotOf : List ℕ → ℕ → ℕ
-slotOf rights k = cond (leb (length rights / 8) k) 0 (getD rights (k * 8 + 1) 0 / 2048 % 1024)
+slotOf rights k = cond (leb (length rights / 8) k) 0 (slotAt (getD rights (k * 8 + 1) 0))
 
 -- the slots with those of the items `ks`
 unfoldable pub slotsFrom : List ℕ → List ℕ → List ℕ → List ℕ
@@ -29,25 +33,25 @@ slotsOf rights ks = slotsFrom rights (replicate 1024 0) ks
 
 -- there is the slot of the digest `d`, and it is free
 unfoldable pub slotFree : List ℕ → ℕ → Bool
-slotFree slots d = cond (leb (length slots) (d / 2048 % 1024)) false (eqb (getD slots (d / 2048 % 1024) 0) 0)
+slotFree slots d = cond (leb (length slots) (slotAt d)) false (eqb (getD slots (slotAt d) 0) 0)
 
 module _ (rights : List ℕ) (k : ℕ) where
   pub slot-beyond : length rights / 8 ≤ k → 0 ≡ slotOf rights k
   unfolding slotOf
   slot-beyond h = rw (le-leb (length rights / 8) k h)
 
-  pub slot-within : k < length rights / 8 → getD rights (k * 8 + 1) 0 / 2048 % 1024 ≡ slotOf rights k
+  pub slot-within : k < length rights / 8 → slotAt (getD rights (k * 8 + 1) 0) ≡ slotOf rights k
   unfolding slotOf
   slot-within h = rw (lt-leb (length rights / 8) k h)
 
 module _ (slots : List ℕ) (d : ℕ) where
-  pub free-beyond : length slots ≤ d / 2048 % 1024 → false ≡ slotFree slots d
+  pub free-beyond : length slots ≤ slotAt d → false ≡ slotFree slots d
   unfolding slotFree
-  free-beyond h = rw (le-leb (length slots) (d / 2048 % 1024) h)
+  free-beyond h = rw (le-leb (length slots) (slotAt d) h)
 
-  pub free-within : d / 2048 % 1024 < length slots → eqb (getD slots (d / 2048 % 1024) 0) 0 ≡ slotFree slots d
+  pub free-within : slotAt d < length slots → eqb (getD slots (slotAt d) 0) 0 ≡ slotFree slots d
   unfolding slotFree
-  free-within h = rw (lt-leb (length slots) (d / 2048 % 1024) h)
+  free-within h = rw (lt-leb (length slots) (slotAt d) h)
 
 module _ (rights slots singles : List ℕ) (j : ℕ) where
   pub slots-on : j < length singles → slotsFrom rights slots (drop j singles) ≡ slotsFrom rights (set slots (slotOf rights (getD singles j 0)) 1) (drop (j + 1) singles)
@@ -83,7 +87,7 @@ module _ (rights : List ℕ) where
   unfolding slotOf
   slot-few k = go (leb (length rights / 8) k)
     where
-      go : (b : Bool) → cond b 0 (getD rights (k * 8 + 1) 0 / 2048 % 1024) < 1024
+      go : (b : Bool) → cond b 0 (slotAt (getD rights (k * 8 + 1) 0)) < 1024
       go true = omega arith
       go false = omega arith
 
@@ -117,9 +121,9 @@ module _ (S : Schema) (w : ℕ) (p : Bytes) (rights : List ℕ) (t : ℕ) (v : B
       go (yes l) = after-silent one rights k b l (silent k (h 0 (omega arith) l))
       go (no l) = after-beyond one rights k b (omega (arith, l))
 
-  free-apart : (slots : List ℕ) → slotFree slots d ≡ true → getD slots (d / 2048 % 1024) 0 ≡ 1 → ⊥
+  free-apart : (slots : List ℕ) → slotFree slots d ≡ true → getD slots (slotAt d) 0 ≡ 1 → ⊥
   unfolding slotFree
-  free-apart slots h e = go (leb (length slots) (d / 2048 % 1024)) (getD slots (d / 2048 % 1024) 0) h e
+  free-apart slots h e = go (leb (length slots) (slotAt d)) (getD slots (slotAt d) 0) h e
     where
       go : (b : Bool) (x : ℕ) → cond b false (eqb x 0) ≡ true → x ≡ 1 → ⊥
       go true x h e = true≢false (sym h)
@@ -129,5 +133,5 @@ module _ (S : Schema) (w : ℕ) (p : Bytes) (rights : List ℕ) (t : ℕ) (v : B
   pass-free singles slots e h b =
       pass-apart singles b
       (λ i l k f. free-apart slots h
-      (ap (λ (s : List ℕ). getD s (d / 2048 % 1024) 0) e ∙ ap (λ (x : ℕ). getD (slotsOf rights singles) x 0) (ap (λ (m : ℕ). m / 2048 % 1024) (sym f) ∙ slot-within rights (getD singles i 0) k)
+      (ap (λ (s : List ℕ). getD s (slotAt d) 0) e ∙ ap (λ (x : ℕ). getD (slotsOf rights singles) x 0) (ap slotAt (sym f) ∙ slot-within rights (getD singles i 0) k)
       ∙ taken rights singles (replicate 1024 0) refl i l))

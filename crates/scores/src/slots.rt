@@ -3,12 +3,19 @@ use permissions::DIGEST;
 use permissions::RIGHTS;
 ghost use mathlib.Core.Path.{_≡_};
 ghost use Prim.Native.Nat.{_+_, _<_};
-ghost use Rattle.scores.specs.Slots.{slotOf, slotsOf, slotFree};
+ghost use Rattle.scores.specs.Slots.{slotAt, slotOf, slotsOf, slotFree};
 
-// How many slots there are. The slot is taken from bits that the directory's buckets do not go by, so that values of one bucket have many slots.
+// How many slots there are, and the buckets of the directory's judge.
 const SLOTS: u64 = 1024;
 
 const BUCKETS: u64 = 2048;
+
+// The slot of a digest: its low bits, in which values that are much alike differ, and those in which values of one bucket do.
+fn slot_at(digest: u64) -> usize
+    ensures { λ r. ⌜ (r < 1024) × (r ≡ slotAt digest) ⌝ }
+{
+    ((digest % SLOTS + digest / BUCKETS % SLOTS) % SLOTS) as usize
+}
 
 // The slot of the digest of item number `k`.
 fn slot_of(rights: &[u64], k: usize) -> usize
@@ -17,7 +24,7 @@ fn slot_of(rights: &[u64], k: usize) -> usize
     if rights.len() / RIGHTS <= k {
         return 0;
     }
-    (rights[k * RIGHTS + DIGEST] / BUCKETS % SLOTS) as usize
+    slot_at(rights[k * RIGHTS + DIGEST])
 }
 
 // The slots with 1 for each digest of the items `singles`.
@@ -38,7 +45,7 @@ pub fn note_digests(rights: &[u64], singles: &[usize]) -> [u8; 1024]
 pub(crate) fn slot_free(slots: &[u8], digest: u64) -> bool
     ensures { λ r. ⌜ r ≡ slotFree (now (slots .entry)) digest ⌝ }
 {
-    let x = (digest / BUCKETS % SLOTS) as usize;
+    let x = slot_at(digest);
     if slots.len() <= x {
         return false;
     }
