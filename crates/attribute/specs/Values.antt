@@ -18,7 +18,7 @@ use Rattle.rules.specs.Places.{linesAt, valuesOf, schemaOf}
 use Rattle.rules.specs.Laws.Sheet.{taken-fits}
 use Rattle.rules.specs.declared.Front.{Front}
 use Rattle.rules.specs.declared.Front.the-variants.{Taken, NotInForm, End}
-use Rattle.schema.specs.Lines.{judgedFrom, lineHere, taken-wide, judged-refused, judged-on, values-on, values-none}
+use Rattle.schema.specs.Lines.{judgedFrom, lineHere, judged-refused, judged-on, values-on, values-none}
 use Rattle.ruling.specs.Mark.{Mark, mark, bucketAt, bucket-bound, slotAt, slot-bound, Within}
 use Rattle.schema.specs.Schema.{rankOf, syntaxOf, Known, allowed-known}
 use Rattle.ruling.specs.Twins.{ownerOf, keyOf, key-bound, any-snoc, last-snoc, Named, Valued, part-same, named-value, valued-more}
@@ -42,7 +42,7 @@ pub record Begun (w : ℕ) (s : Bytes) (ks marks heads slots : List ℕ) (n : �
   pub value : valueOf w (e .length) (drop (e .at) s) ≡ d .naming .value
   pub fit : allowed (schemaOf ks) (d .naming .type) (d .naming .value) ≡ true
   pub within : after w e ≤ length s
-  pub space : 6 * n ≤ after w e
+  pub space : 31 * n ≤ after w e
   pub named : Named w s ks (complete ++ (d ∷ [])) ms
   pub valued : Valued w s ks (ownerOf (e .number)) [] ms
 
@@ -57,7 +57,7 @@ pub record ValuesAsked (w : ℕ) (s : Bytes) (ks marks heads slots : List ℕ) (
 pub record Going (w : ℕ) (s : Bytes) (ks marks heads slots : List ℕ) (n : ℕ) (held : Bool) (last from i : ℕ) (e : Current) (complete : List Stored) (d : Stored) (vs : List Part) (ms : List Mark) : Type 0 where
   pub ready : Ready w s ks marks heads slots ms
   pub count : length ms ≡ n
-  pub space : 6 * n ≤ i
+  pub space : 31 * n ≤ i
   pub start : after w e ≤ i
   pub within : i ≤ length s
   pub newest : last ≡ (lastOr (part 0 []) vs) .type
@@ -72,7 +72,7 @@ pub record Going (w : ℕ) (s : Bytes) (ks marks heads slots : List ℕ) (n : �
 pub record ValuesStopped (w : ℕ) (s : Bytes) (ks marks heads slots : List ℕ) (e : Current) (complete : List Stored) (d : Stored) (r : ValueLines) (ms : List Mark) : Type 0 where
   pub ready : Ready w s ks marks heads slots ms
   pub count : length ms ≡ r .marks
-  pub space : 6 * r .marks ≤ r .at
+  pub space : 31 * r .marks ≤ r .at
   pub start : after w e ≤ r .at
   pub within : r .at ≤ length s
   pub front : r .front ≡ frontOf w (drop (r .at) s)
@@ -164,11 +164,11 @@ module _ {w : ℕ} {s : Bytes} {ks marks₀ heads₀ slots₀ marks heads slots 
     abbrev m : Mark
     m = mark (keyOf ks (ownerOf (e .number)) a) i l
 
-    fits-here : (l ≤ 64) × (i + (5 * w + 1 + l) ≤ length s) × (1 ≤ w)
-    fits-here = (taken-fits w s i f .0, taken-fits w s i f .1, taken-wide w (drop i s) f)
+    fits-here : (l ≤ 64) × (i + (5 * w + 1 + l) ≤ length s) × (6 ≤ w)
+    fits-here = (taken-fits w s i f .0, taken-fits w s i f .1, g .ready .wide)
 
     -- the mark has its place
-    pub going-room : (n < 10923) × (r .bucket < 2048) × (r .slot < 16384) × (r .rank < length ks) × (i + (5 * w + 1 + l) ≤ length s) × (l ≤ 64)
+    pub going-room : (n < 2115) × (r .bucket < 2048) × (r .slot < 16384) × (r .rank < length ks) × (i + (5 * w + 1 + l) ≤ length s) × (l ≤ 64)
     going-room =
         let t = taking z .0 in
         let q = allowed-known 0 ks (g .ready .rising) a here (t .fit) in

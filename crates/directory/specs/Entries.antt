@@ -23,7 +23,7 @@ use Rattle.rules.specs.Laws.Judge.{refused-not, accepted-is}
 use Rattle.rules.specs.declared.Front.{Front}
 use Rattle.rules.specs.declared.Front.the-variants.{Taken, NotInForm, End}
 use Rattle.directory.specs.Judged.{EntryNoted, Noted, Judged}
-use Rattle.schema.specs.Lines.{judgedFrom, lineHere, taken-wide, judged-refused, judged-on, judged-broken, judged-end, entry-columns}
+use Rattle.schema.specs.Lines.{judgedFrom, lineHere, judged-refused, judged-on, judged-broken, judged-end, entry-columns}
 use Rattle.ruling.specs.Mark.{Mark, mark, Within, bucketAt, bucket-bound, slotAt, slot-bound, lastIn}
 use Rattle.schema.specs.Schema.{Rising}
 use Rattle.schema.specs.Types.{typed, TypesStopped}
@@ -60,7 +60,7 @@ pub record Standing (w : ℕ) (s : Bytes) (ks : List ℕ) (notes : Notes) (depth
   pub ready : Ready w s ks marks heads slots ms
   pub sized : Sized ks notes depths
   pub marked : length ms ≡ n
-  pub space : 6 * n ≤ i
+  pub space : 31 * n ≤ i
   pub within : i ≤ length s
   pub stands : front ≡ frontOf w (drop i s)
   pub elsewhere : (k a b c l : ℕ) → front ≡ Taken k a b c l → Elsewhere current k
@@ -172,11 +172,11 @@ module _ {w : ℕ} {s : Bytes} {ks : List ℕ} {notes : Notes} {depths marks hea
         go (inl q) = absurd (q .not z)
         go (inr q) = q
 
-    fits-here : (l ≤ 64) × (i + (5 * w + 1 + l) ≤ length s) × (1 ≤ w)
-    fits-here = (taken-fits w s i here .0, taken-fits w s i here .1, taken-wide w (drop i s) here)
+    fits-here : (l ≤ 64) × (i + (5 * w + 1 + l) ≤ length s) × (6 ≤ w)
+    fits-here = (taken-fits w s i here .0, taken-fits w s i here .1, st .ready .wide)
 
     -- the entry and its mark have their places
-    pub standing-room : (notes .count < 256) × (a ≤ notes .count) × (getD depths a 0 < 8) × (n < 10923) × (r .bucket < 2048) × (r .slot < 16384) × (i + (5 * w + 1 + l) ≤ length s)
+    pub standing-room : (notes .count < 256) × (a ≤ notes .count) × (getD depths a 0 < 8) × (n < 2115) × (r .bucket < 2048) × (r .slot < 16384) × (i + (5 * w + 1 + l) ≤ length s)
     standing-room =
         let t = taking .0 in
         let bucket : r .bucket ≡ bucketAt (keyOf ks a b) (valueOf w l (drop i s)) = ap (λ (y : Ruling). y .bucket) (t .ruling) in
@@ -348,6 +348,7 @@ nothingNoted = record {
 -- the K 1 lines have been read, up to position `i`
 pub record Opened (w : ℕ) (s : Bytes) (ks : List ℕ) (notes : Notes) (i : ℕ) (front : Front) : Type 0 where
   pub sheet : length s ≤ 65536
+  pub wide : 6 ≤ w
   pub width : w ≤ 18
   pub rising : Rising 0 ks
   pub few : length ks ≤ 64
@@ -359,7 +360,7 @@ pub record Opened (w : ℕ) (s : Bytes) (ks : List ℕ) (notes : Notes) (i : ℕ
   pub judged : fold step finish 2 nothing (lines w s) ≡ judgedFrom w s (typed ks) i
 
 module _ {w : ℕ} {s : Bytes} {ks : List ℕ} {notes : Notes} {i : ℕ} {front : Front} (o : Opened w s ks notes i front) where
-  pub standing-start : Standing w s ks notes (replicate 257 0) (replicate 10923 0) (replicate 2048 0) (replicate 16384 0) 0 false i front [] none []
+  pub standing-start : Standing w s ks notes (replicate 257 0) (replicate 2115 0) (replicate 2048 0) (replicate 16384 0) 0 false i front [] none []
   unfolding entriesOf lacksNaming lastIn nameAt
   standing-start = record {
     ready = record {
@@ -368,7 +369,7 @@ module _ {w : ℕ} {s : Bytes} {ks : List ℕ} {notes : Notes} {i : ℕ} {front 
       few = o .few;
       chain = record {
         count = refl;
-        marked = length-replicate {A = ℕ} 10923 0;
+        marked = length-replicate {A = ℕ} 2115 0;
         buckets = length-replicate {A = ℕ} 2048 0;
         chained = tt;
         newest = λ b h. getD-replicate 2048 b 0 0 h;
@@ -376,6 +377,7 @@ module _ {w : ℕ} {s : Bytes} {ks : List ℕ} {notes : Notes} {i : ℕ} {front 
         slotted = tt;
       };
       room = omega arith;
+      wide = o .wide;
     };
     sized = o .sized;
     marked = refl;
@@ -399,12 +401,13 @@ module _ {w : ℕ} {s : Bytes} {ks : List ℕ} {notes : Notes} {i : ℕ} {front 
       level (suc k) h = absurd (omega arith)
 
 -- after the K 1 lines, with nothing else noted
-pub opened : (w : ℕ) (s : Bytes) (schema : List ℕ) (r : TypeLines) (b : Notes) → length s ≤ 65536 → w ≤ 18 → b ≡ nothingNoted → TypesStopped w s schema r
+pub opened : (w : ℕ) (s : Bytes) (schema : List ℕ) (r : TypeLines) (b : Notes) → length s ≤ 65536 → (6 ≤ w) × (w ≤ 18) → b ≡ nothingNoted → TypesStopped w s schema r
     → Opened w s (take (r .count) schema)
     (record { refusal = b .refusal; types = r .count; schema = schema; count = b .count; at = b .at; parents = b .parents; naming = b .naming; lengths = b .lengths }) (r .at) (r .front)
 opened w s schema r b fits width is t = record {
   sheet = fits;
-  width = width;
+  wide = width .0;
+  width = width .1;
   rising = t .read .rising;
   few = rw (length-take-le (r .count) schema (omega (arith, t .read .most, t .read .room))) (t .read .most);
   sized = record {

@@ -71,7 +71,7 @@ fn entries(s: &[u8], w: usize, schema: &[u64], begun: Notes, from: usize, first:
 {
     let mut notes = begun;
     let mut depths: [usize; 257] = [0; 257];
-    let mut marks: [usize; 10923] = [0; 10923];
+    let mut marks: [usize; 2115] = [0; 2115];
     let mut heads: [usize; 2048] = [0; 2048];
     let mut slots: [u8; 16384] = [0; 16384];
     let mut n: usize = 0;
@@ -141,7 +141,7 @@ fn entries(s: &[u8], w: usize, schema: &[u64], begun: Notes, from: usize, first:
 
 // The whole sheet.
 pub fn judge(s: &[u8], w: usize) -> Notes
-    requires { ⌜ w ≤ 18 ⌝ }
+    requires { ⌜ (6 ≤ w) × (w ≤ 18) ⌝ }
     ensures { λ r. ⌜ Judged w (now (s .entry)) r ⌝ }
 {
     let mut notes = blank();

@@ -1,6 +1,8 @@
 // One line at the front of a sheet's rest: read, and shown as parts of the sheet. The width of a column is a parameter of every
 // function.
+use column::brief;
 use column::column_at;
+use column::number_at;
 use rules::Column;
 use rules::Front;
 ghost use mathlib.Core.Path.{_≡_};
@@ -33,8 +35,8 @@ fn framed(s: &[u8], w: usize, kind: u64, a: u64, b: u64, c: u64, n: u64) -> Fron
     }
 }
 
-// The line at the front of a sheet's rest.
-pub fn front(s: &[u8], w: usize) -> Front
+// The line at the front of a sheet's rest, column by column.
+fn by_columns(s: &[u8], w: usize) -> Front
     requires { ⌜ w ≤ 18 ⌝ }
     ensures { λ r. ⌜ r ≡ frontOf w (now (s .entry)) ⌝ }
 {
@@ -60,6 +62,65 @@ pub fn front(s: &[u8], w: usize) -> Front
         return Front::NotInForm;
     };
     framed(s, w, kind, a, b, c, n)
+}
+
+// No number, as `column` has it.
+const NONE: u64 = 18446744073709551615;
+
+// The line at the front, in columns of six bytes: nearly all have one digit or two.
+fn brief_front(s: &[u8]) -> Front
+    requires { ⌜ 30 ≤ length (now s) ⌝ }
+    ensures { λ r. ⌜ r ≡ frontOf 6 (now (s .entry)) ⌝ }
+{
+    let mut kind = brief(s, 0);
+    if 100 <= kind {
+        kind = number_at(s, 0, 6);
+    }
+    if kind == NONE {
+        return Front::NotInForm;
+    }
+    let mut a = brief(s, 6);
+    if 100 <= a {
+        a = number_at(s, 6, 6);
+    }
+    if a == NONE {
+        return Front::NotInForm;
+    }
+    let mut b = brief(s, 12);
+    if 100 <= b {
+        b = number_at(s, 12, 6);
+    }
+    if b == NONE {
+        return Front::NotInForm;
+    }
+    let mut c = brief(s, 18);
+    if 100 <= c {
+        c = number_at(s, 18, 6);
+    }
+    if c == NONE {
+        return Front::NotInForm;
+    }
+    let mut n = brief(s, 24);
+    if 100 <= n {
+        n = number_at(s, 24, 6);
+    }
+    if n == NONE {
+        return Front::NotInForm;
+    }
+    framed(s, 6, kind, a, b, c, n)
+}
+
+// The line at the front of a sheet's rest.
+pub fn front(s: &[u8], w: usize) -> Front
+    requires { ⌜ w ≤ 18 ⌝ }
+    ensures { λ r. ⌜ r ≡ frontOf w (now (s .entry)) ⌝ }
+{
+    if w == 6 {
+        if 30 <= s.len() {
+            return brief_front(s);
+        }
+    }
+    by_columns(s, w)
 }
 
 // The bytes of a line of `len` bytes at the front, as a part of the sheet.

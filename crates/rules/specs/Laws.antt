@@ -8,6 +8,7 @@ pub mod Directory
 pub mod Absent
 pub mod ByNumber
 pub mod Decision
+pub mod First
 pub mod Held
 pub mod Resolve
 pub mod Filter

@@ -121,7 +121,7 @@ Slotted w s slots (m ∷ ms) = (getD slots (slotOf w s m) 0 ≡ 1) × Slotted w 
 -- the first `n` numbers are marks, `heads` has the newest of each bucket, and `slots` has 1 where a mark is
 pub record Chain (w : ℕ) (s : Bytes) (marks heads slots : List ℕ) (n : ℕ) (ms : List Mark) : Type 0 where
   pub count : length ms ≡ n
-  pub marked : length marks ≡ 10923
+  pub marked : length marks ≡ 2115
   pub buckets : length heads ≡ 2048
   pub chained : Chained w s marks ms
   pub newest : (b : ℕ) → b < 2048 → getD heads b 0 ≡ lastIn w s b ms
@@ -152,7 +152,7 @@ slotted-set w s slots k (m ∷ ms) l h = (go (ℕ-discrete (slotOf w s m) k), sl
     go (yes e) = rw e (getD-set-same slots k 1 0 l)
     go (no e) = getD-set-other slots k (slotOf w s m) 1 0 e ∙ h .0
 
-module _ {w : ℕ} {s : Bytes} {marks heads slots : List ℕ} {n : ℕ} {ms : List Mark} (c : Chain w s marks heads slots n ms) (m : Mark) (within : Within w s m) (room : n < 10923) where
+module _ {w : ℕ} {s : Bytes} {marks heads slots : List ℕ} {n : ℕ} {ms : List Mark} (c : Chain w s marks heads slots n ms) (m : Mark) (within : Within w s m) (room : n < 2115) where
   marked-newest : (b′ : ℕ) → b′ < 2048 → getD (set heads (bucketOf w s m) (n + 1)) b′ 0 ≡ lastIn w s b′ (m ∷ ms)
   unfolding lastIn
   marked-newest b′ l = go (ℕ-discrete b′ (bucketOf w s m))
@@ -266,7 +266,7 @@ pub record Walk (w : ℕ) (s : Bytes) (marks : List ℕ) (slotted head label key
   pub without : (slotted ≡ 1 → ⊥) → (syntax : ℕ) → any (twin w s syntax key v) all ≡ false
   pub labelled : label ≡ labelAt key v
   pub small : key < 65536
-  pub most : length all < 10923
+  pub most : length all < 2115
   pub room : length all ≤ length marks
   pub sheet : length s ≤ 65536
 

@@ -43,7 +43,8 @@ pub record Ready (w : ℕ) (s : Bytes) (ks marks heads slots : List ℕ) (ms : L
   pub rising : Rising 0 ks
   pub few : length ks ≤ 64
   pub chain : Chain w s marks heads slots (length ms) ms
-  pub room : length ms < 10923
+  pub room : length ms < 2115
+  pub wide : 6 ≤ w
 
 -- the ruling is what `f` makes of the marks, whatever they are
 abbrev pub Decides : ℕ → Bytes → List ℕ → List ℕ → List ℕ → List ℕ → (List Mark → Ruling) → Ruling → Type 0
@@ -57,7 +58,7 @@ pub record Asked (w : ℕ) (s : Bytes) (ks marks heads slots : List ℕ) (at siz
 
 -- with one mark more
 pub ready-more : {w : ℕ} {s : Bytes} {ks marks heads slots : List ℕ} {ms : List Mark} → Ready w s ks marks heads slots ms → (m : Mark) → Within w s m → (n bucket slot number : ℕ)
-    → length ms ≡ n → bucket ≡ bucketOf w s m → slot ≡ slotOf w s m → number ≡ packed (labelOf w s m) m (getD heads (bucketOf w s m) 0) → n + 1 < 10923
+    → length ms ≡ n → bucket ≡ bucketOf w s m → slot ≡ slotOf w s m → number ≡ packed (labelOf w s m) m (getD heads (bucketOf w s m) 0) → n + 1 < 2115
     → Ready w s ks (set marks n number) (set heads bucket (n + 1)) (set slots slot 1) (m ∷ ms)
 ready-more {w} {s} {ks} {marks} {heads} {slots} {ms} r m within n bucket slot number count is-bucket is-slot is-number room = record {
   sheet = r .sheet;
@@ -65,6 +66,7 @@ ready-more {w} {s} {ks} {marks} {heads} {slots} {ms} r m within n bucket slot nu
   few = r .few;
   chain = rw (← count, is-bucket, is-slot, is-number) (chain-more (r .chain) m within (r .room));
   room = omega arith;
+  wide = r .wide;
 }
 
 -- ---- the ways through the code
@@ -114,11 +116,11 @@ module _ {w : ℕ} {s : Bytes} {ks marks heads slots : List ℕ} {at size : ℕ}
     pub walking : {ms : List Mark} → Ready w s ks marks heads slots ms → Walk w s marks (getD slots (d / 262144 % 16384) 0) (getD heads (d % 2048) 0) label key u ms
     walking ready = walk-of ready key u key-small (d % 2048) (d / 262144 % 16384) label (ap (λ (n : ℕ). n % 2048) digest-is) (ap (λ (n : ℕ). n / 262144 % 16384) digest-is) (ap (λ (n : ℕ). n / 2048 % 2048 * 65536 + key) digest-is)
 
-    head-small : getD heads (d % 2048) 0 < 10923
+    head-small : getD heads (d % 2048) 0 < 2115
     head-small = omega (arith, walking (asked .ready) .newest, last-most w s (bucketAt key u) (asked .all), asked .ready .room)
 
     -- its numbers make one number
-    pub mark-small : (label < 134217728) × (at < 65536) × (size ≤ 64) × (getD heads (d % 2048) 0 < 10923)
+    pub mark-small : (label < 134217728) × (at < 65536) × (size ≤ 64) × (getD heads (d % 2048) 0 < 2115)
     mark-small = (omega (arith, key-small), omega (arith, asked .within .line, asked .ready .sheet), asked .within .size, head-small)
 
     module _ (a : allowed (schemaOf ks) t u ≡ true) (found : Bool)

@@ -22,7 +22,7 @@ use Rattle.attribute.proofs.value_line.Reads as value-line-reads
 use Rattle.sheet.proofs.line_at.Reads as line-at-reads
 
 abbrev Inv-loop : tie.InvT-loop
-Inv-loop s w schema e marked marks₀ heads₀ slots₀ n₀ held₀ last₀ from₀ i₀ marks heads slots n held last from i = (length marks ≡ 10923) × (length heads ≡ 2048) × (length slots ≡ 16384) × ((complete : List Stored) (d : Stored) (ms : List Mark) → Begun w s schema marks₀ heads₀ slots₀ marked e complete d ms
+Inv-loop s w schema e marked marks₀ heads₀ slots₀ n₀ held₀ last₀ from₀ i₀ marks heads slots n held last from i = (length marks ≡ 2115) × (length heads ≡ 2048) × (length slots ≡ 16384) × ((complete : List Stored) (d : Stored) (ms : List Mark) → Begun w s schema marks₀ heads₀ slots₀ marked e complete d ms
     → (vs : List Part) × (ms′ : List Mark) × Going w s schema marks heads slots n held last from i e complete d vs ms′)
 
 abbrev μ-loop : tie.MeasureT-loop
@@ -111,7 +111,7 @@ returns-3 c = λ complete d ms b. let g = c .before .before .before .before .bef
 -- where the line was taken: room for its mark, its type in the schema, and the line within the sheet
 room : (c : tie.Else2 Inv-loop μ-loop) → let A = c .before .before .before .before .before .before .before .before .before .before .before .before .before .before .before .before .before .before .before .args in let L = c .before .before .before .before .before .before .before .before .before .before .before .loop in let x = c .before .before .value-line .result in
     let l = c .before .before .before .before .before .before .before .before .front .given .0 .1 .1 .1 .1 .0 in
-    (L .n < 10923) × (x .bucket < 2048) × (x .slot < 16384) × (x .rank < length (now (A .schema))) × (L .i + (5 * A .w + 1 + l) ≤ length (now (A .s))) × (l ≤ 64)
+    (L .n < 2115) × (x .bucket < 2048) × (x .slot < 16384) × (x .rank < length (now (A .schema))) × (L .i + (5 * A .w + 1 + l) ≤ length (now (A .s))) × (l ≤ 64)
 room c =
     let P = c .before .before .before .before .before .before .before .before .before .before .before .before .before .before .before .before .before .before .before .pre in
     let g = c .before .before .before .before .before .before .before .before .before .before .before .loop .inv .3 (P .complete) (P .entry) (P .all) (P .begun) in

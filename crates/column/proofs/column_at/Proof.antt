@@ -1,30 +1,16 @@
-use denote.Ref.{now}
-use mathlib.Core.Path.{ap, _∙_}
-use Rattle.rules.specs.Sheet.{columnOf}
-use Rattle.rules.specs.Laws.Sheet.{part-of}
+use mathlib.Core.Path.{sym}
 use borrow.Author.Needs.{needs}
 use Rattle.column.proofs.column_at.Statement.{statement}
 use Rattle.column.proofs.column_at.Tie as tie
 
-add-end : tie.Need-add-end
-add-end c = search needs
-
-sub-numeral : tie.Need-sub-numeral
-sub-numeral c = search needs
-
-part-numeral-start : tie.Need-part-numeral-start
-part-numeral-start c = search needs
-
-part-numeral-end : tie.Need-part-numeral-end
-part-numeral-end c = search needs
-
-numeral-requires : tie.Need-numeral-requires
-numeral-requires c κs = search needs
+number-at-requires : tie.Need-number-at-requires
+number-at-requires c κs = search needs
 
 returns : tie.Need-returns
-returns c = let A = c .before .before .before .args in c .numeral .ensures ∙ ap columnOf (part-of (now (A .s)) (A .from) (A .w))
+returns c = sym (c .before .number-at .ensures .malformed (c .if1 .taken))
+
+returns-2 : tie.Need-returns-2
+returns-2 c = sym (c .before .number-at .ensures .number (c .if1 .left))
 
 pub column-at-spec : {M : Type 1} → statement M
-column-at-spec =
-    tie.close
-    (tie.spec add-end sub-numeral part-numeral-start part-numeral-end numeral-requires returns)
+column-at-spec = tie.close (tie.spec number-at-requires returns returns-2)

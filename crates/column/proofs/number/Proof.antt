@@ -4,7 +4,7 @@ use mathlib.Core.Path.{_≡_, refl, sym, _∙_}
 use native.Mathlib.Omega.{arith}
 use lib.ListN.{length, drop}
 use Rattle.rules.specs.Sheet.{digits}
-use Rattle.column.specs.Laws.{digits-low, digits-high, digits-on, digits-end, digit-room, power-room, power-positive}
+use Rattle.column.specs.Laws.{digits-low, digits-high, digits-on, digits-end, digit-room, power-room, power-positive, coded-none, coded-number}
 use borrow.Author.Needs.{needs}
 use Rattle.column.proofs.number.Statement.{statement}
 use Rattle.column.proofs.number.Tie as tie
@@ -22,10 +22,10 @@ shared-slice-read-b : tie.Need-shared-slice-read-b Inv-loop μ-loop
 shared-slice-read-b c = search needs
 
 returns : tie.Need-returns Inv-loop μ-loop
-returns c = sym (digits-low _ _ (c .before .before .loop-test .taken) _ (c .if1 .taken)) ∙ c .before .before .before .loop .inv .2
+returns c = coded-none (sym (c .before .before .before .loop .inv .2) ∙ digits-low _ _ (c .before .before .loop-test .taken) _ (c .if1 .taken))
 
 returns-2 : tie.Need-returns-2 Inv-loop μ-loop
-returns-2 c = sym (digits-high _ _ (c .before .before .before .loop-test .taken) _ (c .if2 .taken)) ∙ c .before .before .before .before .loop .inv .2
+returns-2 c = coded-none (sym (c .before .before .before .before .loop .inv .2) ∙ digits-high _ _ (c .before .before .before .loop-test .taken) _ (c .if2 .taken))
 
 mul-v : tie.Need-mul-v Inv-loop μ-loop
 mul-v c = omega (arith, power-room _ _ 17 (c .before .before .before .before .loop .inv .1) (omega arith))
@@ -46,7 +46,7 @@ loop-again : tie.Need-loop-again Inv-loop μ-loop
 loop-again c = (search needs, digit-room _ _ _ (c .before .before .before .before .loop .inv .1) (omega arith), sym (digits-on _ _ (c .before .before .before .loop-test .taken) _ (c .before .if1 .left) (c .if2 .left)) ∙ c .before .before .before .before .loop .inv .2)
 
 returns-3 : tie.Need-returns-3 Inv-loop μ-loop
-returns-3 c = sym (digits-end _ _ _ (c .loop-test .left)) ∙ c .before .loop .inv .2
+returns-3 c = coded-number (c .before .loop .v) (omega (arith, power-room _ _ 18 (c .before .loop .inv .1) (omega arith))) (sym (c .before .loop .inv .2) ∙ digits-end _ _ _ (c .loop-test .left))
 
 pub number-spec : {M : Type 1} → statement M
 number-spec =

@@ -1,9 +1,9 @@
 -- The three ways of a numeral: nothing after the spaces, a zero with more after it, or digits.
 use denote.Ref.{now}
-use mathlib.Core.Path.{sym, _∙_}
+use mathlib.Core.Path.{sym}
 use mathlib.Core.Logic.{⊎-elim}
 use native.Mathlib.Omega.{arith}
-use Rattle.column.specs.Laws.{column-empty, column-zero, column-one, column-many}
+use Rattle.column.specs.Laws.{column-empty, column-zero, column-one, column-many, coded-none, coded-same}
 use borrow.Author.Needs.{needs}
 use Rattle.column.proofs.numeral.Statement.{statement}
 use Rattle.column.proofs.numeral.Tie as tie
@@ -12,7 +12,7 @@ spaces-requires : tie.Need-spaces-requires
 spaces-requires c κs = search needs
 
 returns : tie.Need-returns
-returns c = sym (column-empty (now (c .before .before .before .args .s)) (c .before .spaces .result) (c .before .spaces .ensures .1) (omega arith))
+returns c = coded-none (column-empty (now (c .before .before .before .args .s)) (c .before .spaces .result) (c .before .spaces .ensures .1) (omega arith))
 
 shared-slice-read-if2 : tie.Need-shared-slice-read-if2
 shared-slice-read-if2 c = search needs
@@ -21,7 +21,7 @@ add-if3 : tie.Need-add-if3
 add-if3 c = search needs
 
 returns-2 : tie.Need-returns-2
-returns-2 c = sym (column-zero _ _ (c .before .before .before .before .spaces .ensures .1) (c .before .if2 .taken) (c .if3 .taken))
+returns-2 c = coded-none (column-zero _ _ (c .before .before .before .before .spaces .ensures .1) (c .before .if2 .taken) (c .if3 .taken))
 
 number-requires : tie.Need-number-requires
 number-requires c κs = search needs
@@ -31,7 +31,7 @@ returns-3 c =
     let l = now (c .before .before .before .before .before .before .args .s) in
     let k = c .before .before .before .before .spaces .result in
     let e = c .before .before .before .before .spaces .ensures .1 in
-    c .number .ensures ∙ sym (⊎-elim (λ w. column-one l k e (omega arith) (w .1 .left)) (λ w. column-many l k e (omega arith) (w .left)) (c .before .if2 .came))
+    coded-same (sym (⊎-elim (λ w. column-one l k e (omega arith) (w .1 .left)) (λ w. column-many l k e (omega arith) (w .left)) (c .before .if2 .came))) (c .number .ensures)
 
 pub numeral-spec : {M : Type 1} → statement M
 numeral-spec =

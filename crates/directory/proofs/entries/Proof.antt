@@ -79,7 +79,7 @@ returns-2 c = let st = c .before .before .before .before .before .before .before
 
 -- where the entry line was taken: room for the entry and for its mark
 room : (c : tie.Else1 Inv-loop μ-loop) → let L = c .before .before .before .before .before .before .before .before .before .before .loop in let a = c .before .before .before .before .before .before .before .before .front .given .0 .1 .0 in
-    (L .notes .count < 256) × (a ≤ L .notes .count) × (getD (L .depths) a 0 < 8) × (L .n < 10923) × (c .before .before .entry-line .result .bucket < 2048) × (c .before .before .entry-line .result .slot < 16384)
+    (L .notes .count < 256) × (a ≤ L .notes .count) × (getD (L .depths) a 0 < 8) × (L .n < 2115) × (c .before .before .entry-line .result .bucket < 2048) × (c .before .before .entry-line .result .slot < 16384)
 room c =
     let L = c .before .before .before .before .before .before .before .before .before .before .loop in
     let st = L .inv .3 in

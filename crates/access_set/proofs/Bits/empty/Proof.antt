@@ -1,0 +1,12 @@
+use Rattle.access_set.specs.Sets.{member-empty}
+use borrow.Author.Needs.{needs}
+use Rattle.access_set.proofs.Bits.empty.Statement.{statement}
+use Rattle.access_set.proofs.Bits.empty.Tie as tie
+use Rattle.access_set.proofs.Bits.empty.Reads as reads
+use Rattle.access_set.proofs.Bits.empty.Lts as lts
+
+returns : tie.Need-returns
+returns c = member-empty
+
+pub empty-spec : {M : Type 1} → statement M
+empty-spec = tie.close (tie.spec returns)

@@ -1,0 +1,12 @@
+use Rattle.access_set.specs.Sets.{member-or}
+use borrow.Author.Needs.{needs}
+use Rattle.access_set.proofs.Bits.or.Statement.{statement}
+use Rattle.access_set.proofs.Bits.or.Tie as tie
+use Rattle.access_set.proofs.Bits.or.Reads as reads
+use Rattle.access_set.proofs.Bits.or.Lts as lts
+
+returns : tie.Need-returns
+returns c = member-or (c .before .before .before .before .before .before .before .before .args .self) (c .before .before .before .before .before .before .before .before .args .o)
+
+pub or-spec : {M : Type 1} → statement M
+or-spec = tie.close (tie.spec returns)

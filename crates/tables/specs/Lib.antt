@@ -1,0 +1,5 @@
+pub mod Book
+pub mod Held
+pub mod Sets
+pub mod World
+pub mod Laws
