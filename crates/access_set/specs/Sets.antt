@@ -7,7 +7,6 @@ use lib.Dec.{eqb}
 use lib.Bits.{bitAnd, bitOr, bitXor}
 use borrow.Author.Tests.{eq-eqb, ne-eqb, eqb-true, eqb-false}
 use Rattle.access_set.specs.declared.Bits.{Bits}
-use Rattle.rules.specs.declared.Found.{Found}
 use Rattle.rules.specs.declared.Found.the-variants.{At, Nothing}
 use Rattle.access_set.specs.Member.{bit, Lowest, wordOf, member, Least}
 use Rattle.access_set.specs.Bit.{bit-and, bit-or, bit-xor, bit-none, bit-pow}

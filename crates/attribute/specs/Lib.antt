@@ -1,2 +1,4 @@
 pub mod ValueLine
+pub mod Rows
 pub mod Values
+pub mod Laws

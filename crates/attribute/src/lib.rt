@@ -4,6 +4,8 @@ use rules::Front;
 use ruling::Ruling;
 use ruling::refusing;
 use ruling::ruled;
+use tables::held::PLACE;
+use tables::held::SIZE;
 ghost use mathlib.Core.Path.{_≡_};
 ghost use mathlib.Core.Bool.{_&&_, _||_};
 ghost use Prim.Native.Nat.{_+_, _*_, _%_, _≤_, _<_};
@@ -14,24 +16,27 @@ ghost use Rattle.rules.specs.Value as Value;
 ghost use Rattle.schema.specs.Schema.{rankOf};
 ghost use Rattle.ruling.specs.Rulings.{Asked, Decides};
 ghost use Rattle.attribute.specs.ValueLine.{valueRuling};
+ghost use Rattle.attribute.specs.Rows.{written};
 ghost use Rattle.attribute.specs.Values.{ValuesAsked, ValuesAnswered};
 
-// The last entry: its number, its naming type, and its line's position and length.
+// The last entry: its number, its naming type, its line's position and length, and the row of its first value.
 pub struct Current {
     pub number: usize,
     pub naming: u64,
     pub at: usize,
     pub length: usize,
+    pub first: usize,
 }
 
 // How an entry's value lines ended: the refusal or 0, the line after them with its position, the number of marks,
-// and whether the naming value is among the values.
+// whether the naming value was found among the values, and the row after the last value.
 pub struct ValueLines {
     pub refusal: u64,
     pub at: usize,
     pub front: Front,
     pub marks: usize,
-    pub held: bool,
+    pub found: bool,
+    pub to: usize,
 }
 
 // A value line of entry `number`, after a value of type `last`, whose rank is at least `from`.
@@ -82,15 +87,15 @@ fn holding(
     schema: &[u64],
     rank: usize,
     e: Current,
-    held: bool,
+    found: bool,
     t: u64,
     at: usize,
     len: usize,
 ) -> bool
     requires { ⌜ (rank < length (now schema)) × (e .at + (5 * w + e .length) ≤ length (now s)) × (at + (5 * w + len) ≤ length (now s)) ⌝ }
-    ensures { λ r. ⌜ r ≡ (held || (eqb (e .naming) t && Value.same (getD (now (schema .entry)) rank 0 % 4) (valueOf w (e .length) (drop (e .at) (now (s .entry)))) (valueOf w len (drop at (now (s .entry)))))) ⌝ }
+    ensures { λ r. ⌜ r ≡ (found || (eqb (e .naming) t && Value.same (getD (now (schema .entry)) rank 0 % 4) (valueOf w (e .length) (drop (e .at) (now (s .entry)))) (valueOf w len (drop at (now (s .entry)))))) ⌝ }
 {
-    if held {
+    if found {
         return true;
     }
     if e.naming != t {
@@ -104,7 +109,17 @@ fn holding(
     )
 }
 
-// The value lines after the line of `e`.
+// Row `i` of the values held.
+fn put_row(held: &mut [u64; 6345], i: usize, rank: usize, place: usize, size: usize)
+    requires { ⌜ (i < 2115) × (length (now held) ≡ 6345) ⌝ }
+    ensures { λ _. ⌜ now (held .exit) ≡ written (now (held .entry)) i rank place size ⌝ }
+{
+    held[i] = rank as u64;
+    held[PLACE + i] = place as u64;
+    held[SIZE + i] = size as u64;
+}
+
+// The value lines after the line of `e`, each with its row.
 pub fn values(
     s: &[u8],
     w: usize,
@@ -114,12 +129,14 @@ pub fn values(
     marks: &mut [usize],
     heads: &mut [usize],
     slots: &mut [u8],
+    held: &mut [u64; 6345],
 ) -> ValueLines
-    requires { ⌜ ValuesAsked w (now s) (now schema) (now marks) (now heads) (now slots) marked e ⌝ }
-    ensures { λ r. ⌜ ValuesAnswered w (now (s .entry)) (now (schema .entry)) (now (marks .entry)) (now (heads .entry)) (now (slots .entry)) marked e (now (marks .exit)) (now (heads .exit)) (now (slots .exit)) r ⌝ }
+    requires { ⌜ ValuesAsked w (now s) (now schema) (now marks) (now heads) (now slots) (now held) marked e ⌝ }
+    ensures { λ r. ⌜ ValuesAnswered w (now (s .entry)) (now (schema .entry)) (now (marks .entry)) (now (heads .entry)) (now (slots .entry)) (now (held .entry)) marked e (now (marks .exit)) (now (heads .exit)) (now (slots .exit)) (now (held .exit)) r ⌝ }
 {
     let mut n = marked;
-    let mut held = false;
+    let mut to = e.first;
+    let mut found = false;
     let mut last: u64 = 0;
     let mut from: usize = 0;
     let mut i = e.at + (5 * w + 1 + e.length);
@@ -138,7 +155,8 @@ pub fn values(
                 at: i,
                 front,
                 marks: n,
-                held,
+                found,
+                to,
             };
         };
         if kind != 3 {
@@ -147,7 +165,8 @@ pub fn values(
                 at: i,
                 front,
                 marks: n,
-                held,
+                found,
+                to,
             };
         }
         let x = value_line(
@@ -172,16 +191,19 @@ pub fn values(
                 at: i,
                 front,
                 marks: n,
-                held,
+                found,
+                to,
             };
         }
-        held = holding(s, w, schema, x.rank, e, held, a, i, length);
+        found = holding(s, w, schema, x.rank, e, found, a, i, length);
+        put_row(held, to, x.rank, i + 5 * w, length);
         let bucket = x.bucket;
         let slot = x.slot;
         marks[n] = x.mark;
         heads[bucket] = n + 1;
         slots[slot] = 1;
         n += 1;
+        to += 1;
         last = a;
         from = x.rank;
         i += 5 * w + 1 + length;

@@ -172,3 +172,25 @@ module _ (s : ℕ) (v w : Bytes) (n : ℕ) (e : n ≡ common (normal s v) (norma
           le-ltb (fold s (getD v n 0)) (fold s (getD w n 0)) h,
           lt-ltb (fold s (getD w n 0)) (fold s (getD v n 0)) (omega arith),
         )
+
+-- ---- first bytes that differ
+
+module _ (a b as′ bs : Bytes) (x y : ℕ) (p : a ≡ x ∷ as′) (q : b ≡ y ∷ bs) where
+  heads-below : x < y → orderBytes a b ≡ Less
+  unfolding orderBytes
+  heads-below h = rw (p, q, lt-ltb x y h)
+
+  heads-above : y < x → orderBytes a b ≡ Greater
+  unfolding orderBytes
+  heads-above h = rw (p, q, le-ltb x y (omega arith), lt-ltb y x h)
+
+module _ (s : ℕ) (v w : Bytes) (hv : 0 < length v) (hw : 0 < length w) where
+  pub first-below : fold s (getD v 0 0) < fold s (getD w 0 0) → orderBytes (normal s v) (normal s w) ≡ Less
+  first-below h =
+      heads-below (normal s v) (normal s w) (drop 1 (normal s v)) (drop 1 (normal s w)) (fold s (getD v 0 0)) (fold s (getD w 0 0))
+      (normal-cons s v 0 hv) (normal-cons s w 0 hw) h
+
+  pub first-above : fold s (getD w 0 0) < fold s (getD v 0 0) → orderBytes (normal s v) (normal s w) ≡ Greater
+  first-above h =
+      heads-above (normal s v) (normal s w) (drop 1 (normal s v)) (drop 1 (normal s w)) (fold s (getD v 0 0)) (fold s (getD w 0 0))
+      (normal-cons s v 0 hv) (normal-cons s w 0 hw) h

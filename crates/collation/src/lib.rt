@@ -96,8 +96,8 @@ pub fn common(syntax: u64, v: &[u8], w: &[u8]) -> usize
     i
 }
 
-// The order by bytes, a prefix first.
-pub fn order_bytes(syntax: u64, v: &[u8], w: &[u8]) -> Order
+// The order by bytes, by what stands after the beginning that the values share.
+fn order_after(syntax: u64, v: &[u8], w: &[u8]) -> Order
     ensures { λ r. ⌜ r ≡ orderBytes (normal syntax (now (v .entry))) (normal syntax (now (w .entry))) ⌝ }
 {
     let i = common(syntax, v, w);
@@ -114,4 +114,23 @@ pub fn order_bytes(syntax: u64, v: &[u8], w: &[u8]) -> Order
         return Order::Less;
     }
     Order::Greater
+}
+
+// The order by bytes, a prefix first; mostly the first bytes tell it.
+pub fn order_bytes(syntax: u64, v: &[u8], w: &[u8]) -> Order
+    ensures { λ r. ⌜ r ≡ orderBytes (normal syntax (now (v .entry))) (normal syntax (now (w .entry))) ⌝ }
+{
+    if 0 < v.len() {
+        if 0 < w.len() {
+            let a = folded(syntax, v[0]);
+            let b = folded(syntax, w[0]);
+            if a < b {
+                return Order::Less;
+            }
+            if b < a {
+                return Order::Greater;
+            }
+        }
+    }
+    order_after(syntax, v, w)
 }

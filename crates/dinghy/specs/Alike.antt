@@ -1,7 +1,5 @@
 -- Demand 3 of two calls: directories that are alike for a requester give that requester the same reply and the same bytes.
-use Prim.Native.Nat.{ℕ, _≤_}
 use mathlib.Core.Path.{_≡_, refl, sym, ap, _∙_}
-use mathlib.Core.List.{List, _++_}
 use lib.ListN.{length, take, drop}
 use lib.Seq.{take-append-seam}
 use Rattle.rules.specs.Sheet.{Bytes}
@@ -9,7 +7,6 @@ use Rattle.rules.specs.Judge.{Verdict, accept, refuse}
 use Rattle.rules.specs.Serve.{width, serve}
 use Rattle.rules.specs.Shown.{Alike}
 use Rattle.rules.specs.Secrecy.Demand3.{demand-3}
-use Rattle.reply.specs.declared.Reply.{Reply}
 use Rattle.reply.specs.Reply.{replyOf, leftOf}
 
 -- two calls, with the sheets `d₁` and `d₂` as directory and buffers that hold `one` and `two`

@@ -16,17 +16,5 @@ pub extern "C" fn dinghy_serve(
     ensures reply { λ r. ⌜ r ≡ replyOf (serve (now (directory .entry)) (now (permissions .entry)) (now (request .entry)) (length (now (out .entry)))) ⌝ }
     ensures left { λ r. ⌜ now (out .exit) ≡ leftOf (serve (now (directory .entry)) (now (permissions .entry)) (now (request .entry)) (length (now (out .entry)))) (now (out .entry)) ⌝ }
 {
-    let mut types: [u64; 2115] = [0; 2115];
-    let mut places: [usize; 2115] = [0; 2115];
-    let mut sizes: [usize; 2115] = [0; 2115];
-    engine::serve(
-        directory,
-        permissions,
-        request,
-        out,
-        6,
-        &mut types,
-        &mut places,
-        &mut sizes,
-    )
+    engine::serve(directory, permissions, request, out, 6)
 }

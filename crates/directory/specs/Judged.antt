@@ -1,12 +1,16 @@
--- What `judge` answers: the refusal number that the rules give, and of an accepted directory what later steps go by.
+-- What `judge` answers: the refusal number that the rules give, and of an accepted directory what later steps go by. `held` is the table of the
+-- values held, as `judge` leaves it.
 use Prim.Native.Nat.{ℕ, _+_, _*_, _≤_, _<_}
 use mathlib.Core.Path.{_≡_}
+use mathlib.Core.List.{List}
 use lib.ListN.{length, getD, take, drop}
 use Rattle.rules.specs.Sheet.{Bytes, frontOf, valueOf}
 use Rattle.rules.specs.Judge.{accept, refusalOf}
 use Rattle.rules.specs.Directory.{Stored, blank, Directory, directoryOf}
 use Rattle.rules.specs.Places.{linesAt, valuesOf, schemaOf}
 use Rattle.rules.specs.declared.Front.the-variants.{Taken}
+use Rattle.schema.specs.Schema.{Rising}
+use Rattle.tables.specs.Held.{HeldAt}
 use Rattle.directory.specs.declared.Notes.{Notes}
 
 -- an entry by the numbers noted of it: the position of its K 2 line, its parent's number, its naming type, the length of its naming value
@@ -18,10 +22,11 @@ pub record EntryNoted (w : ℕ) (s : Bytes) (e : Stored) (at parent naming size 
   pub above : parent ≡ e .parent
   pub type : naming ≡ e .naming .type
 
--- the notes of the directory `d`
-pub record Noted (w : ℕ) (s : Bytes) (d : Directory) (r : Notes) : Type 0 where
+-- the notes of the directory `d`, and the rows of its values
+pub record Noted (w : ℕ) (s : Bytes) (d : Directory) (r : Notes) (held : List ℕ) : Type 0 where
   pub types : r .types ≤ 64
   pub schema : schemaOf (take (r .types) (r .schema)) ≡ d .schema
+  pub rising : Rising 0 (take (r .types) (r .schema))
   pub count : r .count ≡ length (d .entries)
   pub most : r .count ≤ 256
   pub schema-length : length (r .schema) ≡ 64
@@ -29,10 +34,14 @@ pub record Noted (w : ℕ) (s : Bytes) (d : Directory) (r : Notes) : Type 0 wher
   pub parents-length : length (r .parents) ≡ 256
   pub naming-length : length (r .naming) ≡ 256
   pub lengths-length : length (r .lengths) ≡ 256
+  pub first-length : length (r .first) ≡ 257
+  pub held-length : length held ≡ 6345
   pub entry : (k : ℕ) → k < r .count
       → EntryNoted w s (getD (d .entries) k blank) (getD (r .at) k 0) (getD (r .parents) k 0) (getD (r .naming) k 0) (getD (r .lengths) k 0)
+  pub values : (k : ℕ) → k < r .count
+      → HeldAt (take (r .types) (r .schema)) s (getD (d .entries) k blank .values) held (getD (r .first) k 0) (getD (r .first) (k + 1) 0)
 
 -- the answer for the sheet `s`
-pub record Judged (w : ℕ) (s : Bytes) (r : Notes) : Type 0 where
+pub record Judged (w : ℕ) (s : Bytes) (r : Notes) (held : List ℕ) : Type 0 where
   pub refusal : r .refusal ≡ refusalOf (directoryOf w s)
-  pub noted : (d : Directory) → directoryOf w s ≡ accept d → Noted w s d r
+  pub noted : (d : Directory) → directoryOf w s ≡ accept d → Noted w s d r held

@@ -1,2 +1,4 @@
 pub mod Judged
+pub mod Rows
 pub mod Entries
+pub mod Laws

@@ -1,11 +1,13 @@
 // The directory sheet judged line by line: the refusal that the rules give, or 0 with what later steps need of the sheet,
-// noted on the way: the schema as numbers, and each entry line's position, parent, naming type and length.
+// noted on the way: the schema as numbers, each entry line's position, parent, naming type and length, and the values that each entry holds.
 use rules::Front;
 ghost use mathlib.Core.Path.{_≡_};
 ghost use Prim.Native.Nat.{_≤_};
+ghost use lib.ListN.{length};
 ghost use Rattle.directory.specs.Judged.{Judged};
 ghost use Rattle.directory.specs.Entries.{Opened, endNumber, refusedWith, nothingNoted};
 
+// The refusal or 0, and what is noted; `first` has the row of each entry's first value, and then the row after the last value.
 pub struct Notes {
     pub refusal: u64,
     pub types: usize,
@@ -15,6 +17,7 @@ pub struct Notes {
     pub parents: [usize; 256],
     pub naming: [u64; 256],
     pub lengths: [usize; 256],
+    pub first: [usize; 257],
 }
 
 // Nothing noted yet.
@@ -30,6 +33,7 @@ fn blank() -> Notes
         parents: [0; 256],
         naming: [0; 256],
         lengths: [0; 256],
+        first: [0; 257],
     }
 }
 
@@ -65,9 +69,17 @@ fn ended(front: Front, lacks: bool) -> u64
 }
 
 // The entries, from the line `first` at `from` on.
-fn entries(s: &[u8], w: usize, schema: &[u64], begun: Notes, from: usize, first: Front) -> Notes
-    requires { ⌜ Opened w (now s) (now schema) begun from first ⌝ }
-    ensures { λ r. ⌜ Judged w (now (s .entry)) r ⌝ }
+fn entries(
+    s: &[u8],
+    w: usize,
+    schema: &[u64],
+    begun: Notes,
+    from: usize,
+    first: Front,
+    held: &mut [u64; 6345],
+) -> Notes
+    requires { ⌜ Opened w (now s) (now schema) begun (now held) from first ⌝ }
+    ensures { λ r. ⌜ Judged w (now (s .entry)) r (now (held .exit)) ⌝ }
 {
     let mut notes = begun;
     let mut depths: [usize; 257] = [0; 257];
@@ -120,8 +132,19 @@ fn entries(s: &[u8], w: usize, schema: &[u64], begun: Notes, from: usize, first:
             naming: b,
             at: i,
             length,
+            first: notes.first[count],
         };
-        let run = attribute::values(s, w, schema, e, n + 1, &mut marks, &mut heads, &mut slots);
+        let run = attribute::values(
+            s,
+            w,
+            schema,
+            e,
+            n + 1,
+            &mut marks,
+            &mut heads,
+            &mut slots,
+            held,
+        );
         if run.refusal != 0 {
             return refused(notes, run.refusal);
         }
@@ -130,19 +153,20 @@ fn entries(s: &[u8], w: usize, schema: &[u64], begun: Notes, from: usize, first:
         notes.parents[count] = p;
         notes.naming[count] = b;
         notes.lengths[count] = length;
+        notes.first[count + 1] = run.to;
         notes.count = count + 1;
         depths[count + 1] = depths[p] + 1;
         i = run.at;
         front = run.front;
         n = run.marks;
-        lacks = !run.held;
+        lacks = !run.found;
     }
 }
 
-// The whole sheet.
-pub fn judge(s: &[u8], w: usize) -> Notes
-    requires { ⌜ (6 ≤ w) × (w ≤ 18) ⌝ }
-    ensures { λ r. ⌜ Judged w (now (s .entry)) r ⌝ }
+// The whole sheet, and in `held` a row for each value.
+pub fn judge(s: &[u8], w: usize, held: &mut [u64; 6345]) -> Notes
+    requires { ⌜ (6 ≤ w) × (w ≤ 18) × (length (now held) ≡ 6345) ⌝ }
+    ensures { λ r. ⌜ Judged w (now (s .entry)) r (now (held .exit)) ⌝ }
 {
     let mut notes = blank();
     if 65536 < s.len() {
@@ -157,5 +181,5 @@ pub fn judge(s: &[u8], w: usize) -> Notes
     notes.types = types;
     notes.schema = schema;
     let front = t.front;
-    entries(s, w, &schema[0..types], notes, t.at, front)
+    entries(s, w, &schema[0..types], notes, t.at, front, held)
 }

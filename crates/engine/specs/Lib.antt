@@ -1,4 +1,3 @@
-pub mod Refusals
-pub mod Judges
-pub mod Respond
 pub mod Serve
+pub mod Judges
+pub mod Laws

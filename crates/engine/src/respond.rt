@@ -1,13 +1,19 @@
-// An accepted request answered: the reach of the items, the name looked up, the answer concluded.
-use conclude::concluded;
-use lookup::entries::resolve;
-use matched::matched;
+// An accepted request answered: the sets of the items that are for the requester, the name looked up, the answer planned and written.
+use access_covers::note_rights;
+use access_scope::Requester;
+use access_scope::reach_all;
+use answer_choice::choice_of;
+use answer_entry::Target;
+use answer_matched::matched;
+use answer_operation::plan_of;
+use answer_print::write;
+use entry_lookup::find::resolve;
 use reply::Reply;
 use request::Asked;
-use scope::reach_all;
-use selection::wanted;
+use tables::book::WIDTH;
+use tables::book::parents;
+use tables::book::schema;
 ghost use mathlib.Core.Path.{_≡_};
-ghost use Prim.Native.Nat.{ℕ, _+_, _*_, _≤_};
 ghost use mathlib.Core.List.{List, map};
 ghost use lib.ListN.{length};
 ghost use Rattle.rules.specs.Sheet.{print};
@@ -16,242 +22,73 @@ ghost use Rattle.rules.specs.Permission.{Item};
 ghost use Rattle.rules.specs.Decision.{Setting};
 ghost use Rattle.rules.specs.Request.{Request};
 ghost use Rattle.rules.specs.Answer.{answer};
-ghost use Rattle.rules.specs.Serve.{fitting, respond};
-ghost use Rattle.decision.specs.Chosen.{Rows};
-ghost use Rattle.access.specs.World.{Numbers, World};
-ghost use Rattle.plan.specs.Lent.{Lent};
-ghost use Rattle.request.specs.Noted.{Noted};
+ghost use Rattle.rules.specs.Serve.{fitting};
+ghost use Rattle.rules.specs.Serve as Serve;
 ghost use Rattle.reply.specs.Reply.{Replies};
-ghost use Rattle.operation.specs.Selected.{selectionOf};
+ghost use Rattle.request.specs.Noted.{Noted};
+ghost use Rattle.tables.specs.Book.{width};
+ghost use Rattle.tables.specs.World.{World, Known};
+ghost use Rattle.access_items.specs.Sorted.{Sorted};
 ghost use Rattle.engine.specs.Judges.{DirectoryAt};
 
-// The answer, once each item's reach is known: the entry that is named, and the matched name.
-fn looked_up(
+// The answer, once the tables are filled.
+fn respond(
     out: &mut [u8],
-    w: usize,
-    schema: &[u64],
+    book: &[u64; 1353],
+    held: &[u64; 6345],
+    sets: &[u64; 2360],
     d: &[u8],
-    positions: &[usize],
-    parents: &[usize],
-    naming: &[u64],
-    lengths: &[usize],
     p: &[u8],
-    rights: &[u64],
-    reach: &[usize],
     q: &[u8],
     asked: Asked,
-    wanted: &[u64],
-    list: &mut [usize],
-    types: &mut [u64],
-    places: &mut [usize],
-    sizes: &mut [usize],
 ) -> Reply
-    requires { ⌜ Numbers w (now d) (now positions) (now parents) (now naming) (now lengths) × Lent w (now d) (now positions) (now parents) (now lengths) (now reach) (now list) (now types) (now places) (now sizes) × ((x : Request) × Noted w (now q) x asked) ⌝ }
-    ensures { λ r. ⌜ ((σ : Setting) (es : List Stored) (scopes : List ℕ) (x : Request) → World σ es (now (schema .entry)) w (now (d .entry)) (now (positions .entry)) (now (parents .entry)) (now (naming .entry)) (now (lengths .entry)) (now (p .entry)) (now (rights .entry)) scopes (now (reach .entry)) → Noted w (now (q .entry)) x asked → selectionOf (x .operation) .types ≡ now (wanted .entry) → Replies (fitting (length (now (out .entry))) (print w (answer σ (map entryOf es) (x .base) (x .operation)))) (now (out .entry)) r (now (out .exit))) ⌝ }
+    requires { ⌜ Known (now d) (now p) (now book) (now held) (now sets) × ((x : Request) × Noted (width (now book)) (now q) x asked) ⌝ }
+    ensures { λ r. ⌜ ((σ : Setting) (es : List Stored) (x : Request) → World σ es (now (d .entry)) (now (p .entry)) (now (book .entry)) (now (held .entry)) (now (sets .entry)) → Noted (width (now (book .entry))) (now (q .entry)) x asked → Replies (fitting (length (now (out .entry))) (print (width (now (book .entry))) (answer σ (map entryOf es) (x .base) (x .operation)))) (now (out .entry)) r (now (out .exit))) ⌝ }
 {
-    let base = resolve(
-        schema,
-        w,
-        d,
-        positions,
-        parents,
-        naming,
-        lengths,
-        q,
-        asked.base,
-        asked.base_parts,
-    );
-    let missing = matched(
-        schema,
-        w,
-        d,
-        positions,
-        parents,
-        naming,
-        lengths,
-        rights,
-        reach,
-        list,
-        q,
-        asked.base,
-        asked.base_parts,
-    );
-    concluded(
-        out,
-        w,
-        schema,
-        d,
-        positions,
-        parents,
-        naming,
-        lengths,
-        p,
-        rights,
-        reach,
-        q,
-        asked,
-        base,
-        missing,
-        wanted,
-        list,
-        types,
-        places,
-        sizes,
-    )
+    let target = Target {
+        base: resolve(book, d, q, asked.base, asked.base_parts),
+        missing: matched(book, sets, d, q, asked.base, asked.base_parts),
+    };
+    let choice = choice_of(book, q, asked);
+    let mut hits: [usize; 256] = [0; 256];
+    let plan = plan_of(book, held, sets, d, p, q, asked, target, choice, &mut hits);
+    write(out, book, held, sets, d, p, plan, &hits, choice)
 }
 
-// The answer, once each item's reach is known: the types that the request lists are read.
-fn reached(
+// The answer to an accepted request: which items are for the requester, as sets; then the answer. `order` has the items' numbers in order of weight.
+pub fn requested(
     out: &mut [u8],
-    w: usize,
-    schema: &[u64],
+    book: &[u64; 1353],
+    held: &[u64; 6345],
     d: &[u8],
-    positions: &[usize],
-    parents: &[usize],
-    naming: &[u64],
-    lengths: &[usize],
     p: &[u8],
-    rights: &[u64],
-    reach: &[usize],
     q: &[u8],
-    asked: Asked,
-    types: &mut [u64],
-    places: &mut [usize],
-    sizes: &mut [usize],
-) -> Reply
-    requires { ⌜ Numbers w (now d) (now positions) (now parents) (now naming) (now lengths) × (length (now places) ≡ length (now types)) × (length (now sizes) ≡ length (now types)) × (65536 ≤ (5 * w + 1) * length (now types)) × (length (now types) ≤ 65536) × (length (now reach) ≤ 256) × ((x : Request) × Noted w (now q) x asked) ⌝ }
-    ensures { λ r. ⌜ ((σ : Setting) (es : List Stored) (scopes : List ℕ) (x : Request) → World σ es (now (schema .entry)) w (now (d .entry)) (now (positions .entry)) (now (parents .entry)) (now (naming .entry)) (now (lengths .entry)) (now (p .entry)) (now (rights .entry)) scopes (now (reach .entry)) → Noted w (now (q .entry)) x asked → Replies (fitting (length (now (out .entry))) (print w (answer σ (map entryOf es) (x .base) (x .operation)))) (now (out .entry)) r (now (out .exit))) ⌝ }
-{
-    let mut list: [usize; 256] = [0; 256];
-    let mut listed: [u64; 16] = [0; 16];
-    let n = wanted(q, asked.types, asked.types_listed, w, &mut listed);
-    looked_up(
-        out,
-        w,
-        schema,
-        d,
-        positions,
-        parents,
-        naming,
-        lengths,
-        p,
-        rights,
-        reach,
-        q,
-        asked,
-        &listed[0..n],
-        &mut list,
-        types,
-        places,
-        sizes,
-    )
-}
-
-// Which entries each item is for, resolved once; then the answer.
-fn reach_known(
-    out: &mut [u8],
-    w: usize,
-    schema: &[u64],
-    d: &[u8],
-    positions: &[usize],
-    parents: &[usize],
-    naming: &[u64],
-    lengths: &[usize],
-    p: &[u8],
     rights: &[u64],
     scopes: &[u64],
-    count: usize,
-    q: &[u8],
+    order: &[usize],
     asked: Asked,
-    types: &mut [u64],
-    places: &mut [usize],
-    sizes: &mut [usize],
     reach: &mut [usize],
 ) -> Reply
-    requires { ⌜ Numbers w (now d) (now positions) (now parents) (now naming) (now lengths) × (length (now places) ≡ length (now types)) × (length (now sizes) ≡ length (now types)) × (65536 ≤ (5 * w + 1) * length (now types)) × (length (now types) ≤ 65536) ⌝ }
-    requires { ⌜ (count ≤ 256) × (count ≤ length (now reach)) × (count * 8 ≤ length (now rights)) × (count * 7 ≤ length (now scopes)) × ((x : Request) × Noted w (now q) x asked) ⌝ }
-    ensures { λ r. ⌜ ((x : Directory) (is : List Item) (y : Request) → DirectoryAt w (now (d .entry)) x (now (schema .entry)) (now (positions .entry)) (now (parents .entry)) (now (naming .entry)) (now (lengths .entry)) → Rows w (now (p .entry)) is (now (rights .entry)) (now (scopes .entry)) → length is ≡ count → Noted w (now (q .entry)) y asked → Replies (respond w x is y (length (now (out .entry)))) (now (out .entry)) r (now (out .exit))) ⌝ }
+    requires { ⌜ (length (now reach) ≡ 256) × ((x : Directory) × (is : List Item) × (y : Request) × DirectoryAt (now d) x (now book) (now held) × Sorted (width (now book)) (now p) is (now rights) (now scopes) (now order) × Noted (width (now book)) (now q) y asked) ⌝ }
+    ensures { λ r. ⌜ ((x : Directory) (is : List Item) (y : Request) → DirectoryAt (now (d .entry)) x (now (book .entry)) (now (held .entry)) → Sorted (width (now (book .entry))) (now (p .entry)) is (now (rights .entry)) (now (scopes .entry)) (now (order .entry)) → Noted (width (now (book .entry))) (now (q .entry)) y asked → Replies (Serve.respond (width (now (book .entry))) x is y (length (now (out .entry)))) (now (out .entry)) r (now (out .exit))) ⌝ }
 {
-    reach_all(
-        schema,
-        w,
-        d,
-        positions,
-        parents,
-        naming,
-        lengths,
-        p,
+    let count = order.len();
+    let who = Requester {
+        level: asked.level,
+        place: asked.requester,
+        parts: asked.requester_parts,
+    };
+    reach_all(book, d, p, rights, scopes, q, who, &mut reach[0..count]);
+    let mut sets: [u64; 2360] = [0; 2360];
+    let w = book[WIDTH] as usize;
+    note_rights(
         rights,
-        scopes,
-        q,
-        asked.level,
-        asked.requester,
-        asked.requester_parts,
-        &mut reach[0..count],
-    );
-    reached(
-        out,
         w,
-        schema,
-        d,
-        positions,
-        parents,
-        naming,
-        lengths,
-        p,
-        rights,
+        schema(book),
+        order,
         &reach[0..count],
-        q,
-        asked,
-        types,
-        places,
-        sizes,
-    )
-}
-
-// The answer to an accepted request.
-pub fn answered(
-    out: &mut [u8],
-    w: usize,
-    schema: &[u64],
-    d: &[u8],
-    positions: &[usize],
-    parents: &[usize],
-    naming: &[u64],
-    lengths: &[usize],
-    p: &[u8],
-    rights: &[u64],
-    scopes: &[u64],
-    count: usize,
-    q: &[u8],
-    asked: Asked,
-    types: &mut [u64],
-    places: &mut [usize],
-    sizes: &mut [usize],
-) -> Reply
-    requires { ⌜ Numbers w (now d) (now positions) (now parents) (now naming) (now lengths) × (length (now places) ≡ length (now types)) × (length (now sizes) ≡ length (now types)) × (65536 ≤ (5 * w + 1) * length (now types)) × (length (now types) ≤ 65536) ⌝ }
-    requires { ⌜ (count ≤ 256) × (count * 8 ≤ length (now rights)) × (count * 7 ≤ length (now scopes)) × ((x : Request) × Noted w (now q) x asked) ⌝ }
-    ensures { λ r. ⌜ ((x : Directory) (is : List Item) (y : Request) → DirectoryAt w (now (d .entry)) x (now (schema .entry)) (now (positions .entry)) (now (parents .entry)) (now (naming .entry)) (now (lengths .entry)) → Rows w (now (p .entry)) is (now (rights .entry)) (now (scopes .entry)) → length is ≡ count → Noted w (now (q .entry)) y asked → Replies (respond w x is y (length (now (out .entry)))) (now (out .entry)) r (now (out .exit))) ⌝ }
-{
-    let mut reach: [usize; 256] = [0; 256];
-    reach_known(
-        out,
-        w,
-        schema,
-        d,
-        positions,
-        parents,
-        naming,
-        lengths,
-        p,
-        rights,
-        scopes,
-        count,
-        q,
-        asked,
-        types,
-        places,
-        sizes,
-        &mut reach,
-    )
+        parents(book),
+        &mut sets,
+    );
+    respond(out, book, held, &sets, d, p, q, asked)
 }

@@ -1,8 +1,8 @@
 -- Document 01, "Sheets": the kinds of each sheet's lines, and what their columns may hold whatever stands before them.
 -- "A kind or column not allowed" is a line that no form of its sheet takes; a parent's number is judged in `Directory`.
 use Prim.Native.Nat.{ℕ}
-use mathlib.Core.Bool.{Bool, true, false, _&&_}
-use mathlib.Core.List.{List, [], _∷_, _++_}
+use mathlib.Core.Bool.{Bool, true, _&&_}
+use mathlib.Core.List.{List, [], _∷_}
 use lib.Dec.{leb, eqb}
 use lib.ListN.{length}
 use Rattle.rules.specs.Lists.{any}

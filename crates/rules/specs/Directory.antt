@@ -1,6 +1,6 @@
 -- Document 01, "Sheets" and "Who is refused, and why": the directory sheet. Refusals 1 to 6.
 use Prim.Native.Nat.{ℕ, zero, suc}
-use mathlib.Core.Bool.{Bool, true, false, _&&_, _||_, not, cond}
+use mathlib.Core.Bool.{Bool, false, _&&_, _||_, not, cond}
 use mathlib.Core.Option.{Option, none, some}
 use mathlib.Core.List.{List, [], _∷_, _++_, map}
 use lib.Dec.{leb, ltb, eqb}
@@ -8,7 +8,7 @@ use lib.ListN.{length, getD}
 use Rattle.rules.specs.Lists.{any, isEmpty, lastOr, optional}
 use Rattle.rules.specs.Sheet.{Bytes, Line, lines}
 use Rattle.rules.specs.Columns.{inForm, directoryForms}
-use Rattle.rules.specs.Name.{AttributeType, Schema, Part, part, Name, allowed, samePart}
+use Rattle.rules.specs.Name.{Schema, Part, part, Name, allowed, samePart}
 use Rattle.rules.specs.Judge.{Verdict, accept, refuse, refuseIf, fold}
 
 -- ---- what a directory sheet holds

@@ -1,13 +1,12 @@
 -- Document 01, "Filter": the truth of a filter's item for an entry. Undefined goes before all else; what is not held is false.
 use Prim.Native.Nat.{ℕ}
 use mathlib.Core.Bool.{Bool, true, false, _&&_, not, cond}
-use mathlib.Core.List.{List}
 use lib.Dec.{eqb}
 use Rattle.rules.specs.Lists.{any, all}
 use Rattle.rules.specs.Sheet.{Bytes}
 use Rattle.rules.specs.Value.{ordered, order, searchable, contains}
 use Rattle.rules.specs.Name.{known, allowed, ofSyntax, equal}
-use Rattle.rules.specs.Directory.{Held, Entry}
+use Rattle.rules.specs.Directory.{Entry}
 use Rattle.rules.specs.Permission.{FilterMatch}
 use Rattle.rules.specs.Decision.{Setting, ofType, ofValue, granted}
 use Rattle.rules.specs.Filter.{Assertion, equality, atLeast, atMost, present, substrings, truth}

@@ -3,9 +3,9 @@ use Prim.Native.Nat.{ℕ, zero, suc, _+_}
 use mathlib.Core.Bool.{Bool, true, false, not, cond}
 use mathlib.Core.List.{List, [], _∷_}
 use lib.Dec.{eqb}
-use Rattle.rules.specs.Sheet.{Bytes, Line, Sheet, end, broken, row}
+use Rattle.rules.specs.Sheet.{Line, Sheet, end, broken, row}
 use Rattle.rules.specs.Columns.{Form, inForm}
-use Rattle.rules.specs.Name.{Name, Part, part}
+use Rattle.rules.specs.Name.{Name, part}
 
 -- what a judge gives: something, or a refusal number
 pub data Verdict (A : Type 0) : Type 0 where

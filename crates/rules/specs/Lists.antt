@@ -1,5 +1,5 @@
 -- What is gathered from a list, what is found in it, and what is kept of it: the words in which the rules are written.
-use mathlib.Core.Bool.{Bool, true, false, _&&_, _||_, not}
+use mathlib.Core.Bool.{Bool, true, false, _||_, not}
 use mathlib.Core.Option.{Option, none, some}
 use mathlib.Core.List.{List, [], _∷_, _++_}
 

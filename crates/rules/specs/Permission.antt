@@ -1,8 +1,8 @@
 -- Document 01, "Sheets" and "Who is refused, and why": the permission sheet. Refusals 11 to 14.
 use Prim.Native.Nat.{ℕ, zero, suc}
-use mathlib.Core.Bool.{Bool, true, false, cond}
+use mathlib.Core.Bool.{Bool, true, cond}
 use mathlib.Core.List.{List, [], _∷_, _++_}
-use lib.Dec.{leb, ltb, eqb}
+use lib.Dec.{ltb, eqb}
 use lib.ListN.{length}
 use Rattle.rules.specs.Sheet.{Bytes, Line, Sheet, lines}
 use Rattle.rules.specs.Columns.{permissionForms}

@@ -10,7 +10,7 @@ use Rattle.rules.specs.Value.{Piece}
 use Rattle.rules.specs.Name.{Name}
 use Rattle.rules.specs.Judge.{Verdict, refuse, refuseIf, Grammar, misplaced, atEnd, due, dueLines, nameOf}
 use Rattle.rules.specs.Decision.{Requester}
-use Rattle.rules.specs.Filter.{Assertion, equality, atLeast, atMost, present, substrings, Filter, and, or, not′, item, Filters, none, more}
+use Rattle.rules.specs.Filter.{equality, atLeast, atMost, present, substrings, Filter, and, or, not′, item, Filters, none, more}
 
 -- ---- what a request asks
 

@@ -1,6 +1,5 @@
 -- Document 01, "Who is refused, and why": "directory comes first, then permissions, request, answer".
 use Prim.Native.Nat.{ℕ}
-use mathlib.Core.Bool.{Bool}
 use mathlib.Core.List.{List}
 use lib.Dec.{ltb}
 use lib.ListN.{length}

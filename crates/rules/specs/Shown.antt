@@ -9,7 +9,7 @@ use Rattle.rules.specs.Name.{Name}
 use Rattle.rules.specs.Judge.{accept}
 use Rattle.rules.specs.Directory.{Directory, directoryOf, Held, Entry, entries}
 use Rattle.rules.specs.Permission.{Item, permissionsOf, Read, Browse, ReturnDN, DiscloseOnError, Compare, FilterMatch}
-use Rattle.rules.specs.Decision.{Setting, Requester, entry, ofType, ofValue, granted}
+use Rattle.rules.specs.Decision.{Setting, entry, ofType, ofValue, granted}
 use Rattle.rules.specs.Request.{Request, requestOf}
 use Rattle.rules.specs.Serve.{settingOf}
 

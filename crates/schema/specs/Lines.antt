@@ -1,23 +1,20 @@
 -- The judge of a directory at a position of the sheet: what one line, a line not in form and the sheet's end make of it, and what a line's
 -- columns may hold by its kind.
-use Prim.Native.Nat.{ℕ, zero, suc, _+_, _*_, _≤_, _<_}
-use mathlib.Core.Path.{_≡_, refl, sym, ap, _∙_, subst}
-use mathlib.Core.Bool.{Bool, true, false, _&&_, _||_, not, cond, false≢true, or-false}
-use mathlib.Core.Option.{Option, none, some}
-use mathlib.Core.List.{List, [], _∷_, _++_}
+use Prim.Native.Nat.{ℕ, zero, suc, _+_, _*_, _≤_}
+use mathlib.Core.Path.{_≡_, sym, ap, _∙_, subst}
+use mathlib.Core.Bool.{Bool, true, false, _&&_, _||_, not, cond, or-false}
+use mathlib.Core.List.{[], _∷_}
 use native.Mathlib.Omega.{arith}
 use lib.Dec.{eqb, leb, ltb}
 use lib.ListN.{length, drop}
 use borrow.Author.Tests.{eq-eqb, ne-eqb, eqb-true, leb-true}
-use Rattle.rules.specs.Sheet.{Bytes, Line, line, Sheet, end, broken, row, frontOf, columnOf, columnAt, numeral, strip, whole, valueOf, lines}
-use Rattle.rules.specs.Columns.{form, between, directoryForms, inForm}
-use Rattle.rules.specs.Judge.{Verdict, accept, refuse, refuseIf, then, fold}
-use Rattle.rules.specs.Directory.{Reading, Directory, Stored, step, finish, typeLine, entryLine, valueLine}
+use Rattle.rules.specs.Sheet.{Bytes, Line, line, end, frontOf, columnOf, numeral, strip, whole, valueOf}
+use Rattle.rules.specs.Columns.{form, directoryForms, inForm}
+use Rattle.rules.specs.Judge.{Verdict, accept, refuse, then, fold}
+use Rattle.rules.specs.Directory.{Reading, Directory, step, finish, typeLine, entryLine, valueLine}
 use Rattle.rules.specs.Places.{linesAt, valuesOf}
-use Rattle.rules.specs.Laws.Sheet.{lines-taken, lines-broken, lines-end, taken-fits, front-end, front-short}
+use Rattle.rules.specs.Laws.Sheet.{lines-taken, lines-broken, lines-end}
 use Rattle.rules.specs.Laws.Tests.{and-left, and-right}
-use Rattle.rules.specs.declared.Column.{Column}
-use Rattle.rules.specs.declared.Column.the-variants.{Number, Malformed}
 use Rattle.rules.specs.declared.Front.{Front}
 use Rattle.rules.specs.declared.Front.the-variants.{Taken, NotInForm, End}
 use Rattle.form.specs.Columns.{fits, inFormOf}
@@ -142,12 +139,6 @@ module _ (k a b c l : ℕ) (h : inFormOf directoryForms k a b c l ≡ true) wher
       let f = or-none _ (subst (λ (n : ℕ). inFormOf directoryForms n a b c l ≡ true) e h) in
       let rb = between-true 1 999 b (and-left _ _ f) in
       (rb .0, rb .1, eqb-true c 0 (and-left _ _ (and-right (leb 1 b && leb b 999) _ f)))
-
-  pub value-columns : k ≡ 3 → (1 ≤ a) × (a ≤ 999)
-  unfolding inFormOf directoryForms fits
-  value-columns e =
-      let f = or-none _ (subst (λ (n : ℕ). inFormOf directoryForms n a b c l ≡ true) e h) in
-      between-true 1 999 a (and-left _ _ f)
 
   -- no other kind
   pub other-columns : (k ≡ 1 → ⊥) → (k ≡ 2 → ⊥) → k ≡ 3

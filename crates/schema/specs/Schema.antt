@@ -1,21 +1,20 @@
 -- The schema as numbers, one for each attribute type: looked up by rank, and read off the K 1 lines.
 use Prim.Native.Nat.{ℕ, zero, suc, _+_, _-_, _*_, _/_, _%_, _≤_, _<_}
-use mathlib.Core.Path.{_≡_, refl, sym, ap, _∙_, subst}
-use mathlib.Core.Bool.{Bool, true, false, _&&_, _||_, not, cond, false≢true, true≢false}
+use mathlib.Core.Path.{_≡_, refl, sym, ap, _∙_}
+use mathlib.Core.Bool.{Bool, true, false, _&&_, not, cond, false≢true}
 use mathlib.Core.Option.{Option, none, some}
-use mathlib.Core.List.{List, [], _∷_, _++_, map}
+use mathlib.Core.List.{List, [], _∷_, _++_}
 use native.Mathlib.Omega.{arith}
 use native.Mathlib.Numerals.{add-one}
 use lib.Dec.{eqb, leb, leb·suc-suc, leb·suc-zero}
-use lib.ListN.{length, getD, take, drop, set, drop-of-length-le}
+use lib.ListN.{length, getD, drop, drop-of-length-le}
 use lib.Seq.{drop-cons}
-use borrow.Author.Tests.{eq-eqb, ne-eqb, le-leb, lt-leb, lt-ltb, le-ltb, eqb-true, eqb-false, leb-true, leb-false, ltb-true, ltb-false}
+use borrow.Author.Tests.{eq-eqb, ne-eqb, le-leb, lt-leb, eqb-true, leb-true, leb-false}
 use Rattle.rules.specs.Lists.{first, firstOr, lastOr}
-use Rattle.rules.specs.Sheet.{Bytes, Line}
+use Rattle.rules.specs.Sheet.{Bytes}
 use Rattle.rules.specs.Value.{fits, same}
 use Rattle.rules.specs.Name.{AttributeType, Schema, bySyntax, ofSyntax, allowed, equal}
 use Rattle.rules.specs.Places.{attributeOf, schemaOf}
-use Rattle.rules.specs.Laws.Tests.{and-left, and-right, both, contra}
 
 -- how many types of the schema stand before one that is not below `t`
 unfoldable pub rankOf : List ℕ → ℕ → ℕ

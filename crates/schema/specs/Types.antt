@@ -1,6 +1,6 @@
 -- The K 1 lines: what is known of the sheet after some of them, what one more makes of it, and what is known where another line stands.
-use Prim.Native.Nat.{ℕ, zero, suc, _+_, _*_, _/_, _%_, _≤_, _<_}
-use mathlib.Core.Path.{_≡_, refl, sym, ap, _∙_, subst}
+use Prim.Native.Nat.{ℕ, _+_, _*_, _/_, _≤_, _<_}
+use mathlib.Core.Path.{_≡_, refl, sym, ap, _∙_}
 use mathlib.Core.Bool.{Bool, true, false, _||_, cond}
 use mathlib.Core.Option.{none}
 use mathlib.Core.List.{List, [], _∷_, _++_}
@@ -9,12 +9,11 @@ use native.Mathlib.Numerals.{add-one}
 use lib.Dec.{leb}
 use lib.ListN.{length, take, drop, set, length-map, length-set}
 use lib.Seq.{take-suc-set, length-take-le}
-use borrow.Author.Tests.{le-leb, lt-leb, leb-true, leb-false}
-use Rattle.rules.specs.Lists.{isEmpty}
-use Rattle.rules.specs.Sheet.{Bytes, Line, line, frontOf, valueOf, lines}
+use borrow.Author.Tests.{lt-leb, leb-false}
+use Rattle.rules.specs.Sheet.{Bytes, line, frontOf, lines}
 use Rattle.rules.specs.Columns.{directoryForms, inForm}
-use Rattle.rules.specs.Name.{AttributeType, Schema}
-use Rattle.rules.specs.Judge.{Verdict, accept, refuse, refuseIf, fold}
+use Rattle.rules.specs.Name.{AttributeType}
+use Rattle.rules.specs.Judge.{accept, refuse, refuseIf, fold}
 use Rattle.rules.specs.Directory.{Reading, lastType, typeLine, entriesOf, step, finish, nothing}
 use Rattle.rules.specs.Places.{attributeOf, schemaOf}
 use Rattle.rules.specs.Laws.Sheet.{taken-fits}

@@ -1,1 +1,3 @@
 pub mod Book
+pub mod Held
+pub mod World

@@ -17,7 +17,7 @@ use lib.ListN.{length, getD, take, drop}
 use Rattle.rules.specs.Sheet.{Bytes}
 use Rattle.rules.specs.Directory.{Stored, blank}
 use Rattle.rules.specs.Permission.{Item}
-use Rattle.rules.specs.Decision.{Setting, Thing, names, granted}
+use Rattle.rules.specs.Decision.{Setting, Thing, granted}
 use Rattle.rules.specs.Laws.Decision.{concerns}
 use Rattle.rules.specs.Laws.First.{itemAt, Ranked}
 use Rattle.value.specs.Digest.{digest}

@@ -1,5 +1,5 @@
 -- What the numbers of the tables stand for. A function that answers takes them as they are; its contract speaks of the world.
-use Prim.Native.Nat.{ℕ, suc, _+_, _*_, _≤_, _<_}
+use Prim.Native.Nat.{ℕ, suc, _≤_, _<_}
 use mathlib.Core.Path.{_≡_}
 use mathlib.Core.List.{List}
 use lib.ListN.{length, getD}

@@ -3,16 +3,18 @@ ghost use mathlib.Core.Path.{_≡_};
 ghost use Prim.Native.Nat.{_+_, _*_, _≤_};
 ghost use lib.ListN.{length};
 ghost use Rattle.rules.specs.Sheet.{line, leading, column, numbers, lineBytes};
-ghost use Rattle.write.specs.Put.{putAt, leadingByte};
+ghost use Rattle.write.specs.Put.{putAt};
 
-// A byte before a column's last: a space where nothing is left to write.
-fn leading_byte(v: u64) -> u8
-    ensures { λ r. ⌜ r ≡ leadingByte v ⌝ }
+// Spaces in the `w` bytes from `at` on.
+fn put_spaces(out: &mut [u8], at: usize, w: usize)
+    requires { ⌜ at + w ≤ length (now out) ⌝ }
+    ensures { λ _. ⌜ now (out .exit) ≡ putAt (now (out .entry)) at (leading w 0) ⌝ }
 {
-    if v == 0 {
-        return 32;
+    let mut i = w;
+    while 0 < i {
+        i -= 1;
+        out[at + i] = 32;
     }
-    48 + ((v % 10) as u8)
 }
 
 // The digits of `n` in the `w` bytes from `at` on, written from the right; spaces where none is left.
@@ -23,8 +25,12 @@ fn put_leading(out: &mut [u8], at: usize, w: usize, n: u64)
     let mut i = w;
     let mut v = n;
     while 0 < i {
+        if v == 0 {
+            put_spaces(out, at, i);
+            return;
+        }
         i -= 1;
-        out[at + i] = leading_byte(v);
+        out[at + i] = 48 + ((v % 10) as u8);
         v = v / 10;
     }
 }

@@ -1,7 +1,6 @@
 use native.Mathlib.Omega.{arith}
 use lib.Count.{trailing-le}
 use Rattle.access_set.specs.Bit.{lowest-trailing}
-use borrow.Author.Needs.{needs}
 use Rattle.access_set.proofs.lowest.Statement.{statement}
 use Rattle.access_set.proofs.lowest.Tie as tie
 use Rattle.access_set.proofs.lowest.Reads as reads

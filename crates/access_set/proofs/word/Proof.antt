@@ -1,6 +1,5 @@
 use borrow.Author.Tests.{eq-eqb, ne-eqb}
 use Rattle.access_set.specs.Member.{wordOf}
-use borrow.Author.Needs.{needs}
 use Rattle.access_set.proofs.word.Statement.{statement}
 use Rattle.access_set.proofs.word.Tie as tie
 use Rattle.access_set.proofs.word.Reads as reads

@@ -2,7 +2,7 @@ use borrow.Author.Tests.{eq-eqb, ne-eqb}
 use Rattle.rules.specs.Value.{same}
 use Rattle.rules.specs.Sheet.{Bytes}
 use lib.ListN.{getD}
-use mathlib.Core.Path.{_≡_, refl, sym, ap, ap₂, _∙_}
+use mathlib.Core.Path.{ap₂, _∙_}
 use Prim.Native.Nat.{_%_}
 use denote.Ref.{now}
 use borrow.Author.Needs.{needs}
@@ -13,35 +13,27 @@ use Rattle.attribute.proofs.holding.Lts as lts
 use Rattle.sheet.proofs.value_at.Reads as value-at-reads
 use Rattle.value.proofs.same.Reads as same-reads
 
--- src/lib.rt:57:9
 returns : tie.Need-returns
 returns c = rw (c .if1 .taken)
 
--- src/lib.rt:60:9
 returns-2 : tie.Need-returns-2
 returns-2 c = rw (c .before .before .if1 .left, ne-eqb _ _ (c .if2 .taken))
 
--- src/lib.rt:62:13
 mul-k : tie.Need-mul-k
 mul-k c = search needs
 
--- src/lib.rt:62:13
 shared-slice-read-k : tie.Need-shared-slice-read-k
 shared-slice-read-k c = search needs
 
--- src/lib.rt:63:24
 value-at-requires : tie.Need-value-at-requires
 value-at-requires c κs = search needs
 
--- src/lib.rt:63:63
 value-at-requires-2 : tie.Need-value-at-requires-2
 value-at-requires-2 c κs = search needs
 
--- src/lib.rt:63:5
 same-requires : tie.Need-same-requires
 same-requires c κs = search needs
 
--- src/lib.rt:52:1
 returns-3 : tie.Need-returns-3
 returns-3 c = rw (c .before .before .before .before .before .before .if1 .left, eq-eqb _ _ (c .before .before .before .before .if2 .left)) (c .same .ensures ∙ ap₂ (λ (u v : Bytes). same (getD (now (c .before .before .before .before .before .before .before .before .before .args .schema)) (c .before .before .before .before .before .before .before .before .before .args .rank) 0 % 4) u v) (c .before .before .value-at .ensures) (c .before .value-at2 .ensures))
 

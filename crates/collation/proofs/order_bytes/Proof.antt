@@ -1,76 +1,52 @@
--- Where the beginning that two values share ends, one of them ends or they differ.
+-- First bytes that differ tell the order; else it is told by what stands after the shared beginning.
 use mathlib.Core.Path.{sym}
-use native.Mathlib.Omega.{arith}
 use denote.Ref.{now}
-use Rattle.collation.specs.Compare.{within, order-equal, order-less, order-greater, order-below, order-above}
+use Rattle.collation.specs.Compare.{first-below, first-above}
 use borrow.Author.Needs.{needs}
 use Rattle.collation.proofs.order_bytes.Statement.{statement}
 use Rattle.collation.proofs.order_bytes.Tie as tie
 
-common-requires : tie.Need-common-requires
-common-requires c κs = search needs
-
-returns : tie.Need-returns
-returns c =
-    let A = c .before .before .before .before .before .args in
-    let K = c .before .before .common in
-    sym (order-equal (A .syntax) (now (A .v)) (now (A .w)) (K .result) (K .ensures) (c .before .if1 .taken) (c .if2 .taken))
-
-returns-2 : tie.Need-returns-2
-returns-2 c =
-    let A = c .before .before .before .before .before .args in
-    let K = c .before .before .common in
-    sym (order-less (A .syntax) (now (A .v)) (now (A .w)) (K .result) (K .ensures) (c .before .if1 .taken) (c .if2 .left))
-
-returns-3 : tie.Need-returns-3
-returns-3 c =
-    let A = c .before .before .before .before .before .args in
-    let K = c .before .before .common in
-    sym (order-greater (A .syntax) (now (A .v)) (now (A .w)) (K .result) (K .ensures) (c .before .if1 .left) (c .if3 .taken))
-
 shared-slice-read-folded : tie.Need-shared-slice-read-folded
-shared-slice-read-folded c =
-    let A = c .before .before .before .before .before .before .args in
-    let K = c .before .before .before .common in
-    omega (arith, within (A .syntax) (now (A .v)) (now (A .w)) (K .result) (K .ensures))
+shared-slice-read-folded c = search needs
 
 folded-requires : tie.Need-folded-requires
 folded-requires c κs = search needs
 
 shared-slice-read-folded-2 : tie.Need-shared-slice-read-folded-2
-shared-slice-read-folded-2 c =
-    let A = c .before .before .before .before .before .before .before .before .args in
-    let K = c .before .before .before .before .before .common in
-    omega (arith, within (A .syntax) (now (A .v)) (now (A .w)) (K .result) (K .ensures))
+shared-slice-read-folded-2 c = search needs
 
 folded-requires-2 : tie.Need-folded-requires-2
 folded-requires-2 c κs = search needs
 
-returns-4 : tie.Need-returns-4
-returns-4 c =
-    let A = c .before .before .before .before .before .before .before .before .before .before .args in
-    let K = c .before .before .before .before .before .before .before .common in
-    let h = within (A .syntax) (now (A .v)) (now (A .w)) (K .result) (K .ensures) in
-    sym (order-below (A .syntax) (now (A .v)) (now (A .w)) (K .result) (K .ensures) (omega (arith, h)) (omega (arith, h)) (rw (c .before .before .before .folded .ensures, c .before .folded2 .ensures) at (c .if4 .taken)))
+returns : tie.Need-returns
+returns c =
+    let A = c .before .before .before .before .before .before .before .before .before .args in
+    let hv = c .before .before .before .before .before .before .if1 .taken in
+    let hw = c .before .before .before .before .before .if2 .taken in
+    sym (first-below (A .syntax) (now (A .v)) (now (A .w)) hv hw (rw (c .before .before .before .folded .ensures, c .before .folded2 .ensures) at (c .if3 .taken)))
 
-returns-5 : tie.Need-returns-5
-returns-5 c =
+returns-2 : tie.Need-returns-2
+returns-2 c =
     let A = c .before .before .before .before .before .before .before .before .before .before .args in
-    let K = c .before .before .before .before .before .before .before .common in
-    let h = within (A .syntax) (now (A .v)) (now (A .w)) (K .result) (K .ensures) in
-    sym (order-above (A .syntax) (now (A .v)) (now (A .w)) (K .result) (K .ensures) (omega (arith, h)) (omega (arith, h)) (rw (c .before .before .before .folded .ensures, c .before .folded2 .ensures) at (c .if4 .left)))
+    let hv = c .before .before .before .before .before .before .before .if1 .taken in
+    let hw = c .before .before .before .before .before .before .if2 .taken in
+    sym (first-above (A .syntax) (now (A .v)) (now (A .w)) hv hw (rw (c .before .before .before .before .folded .ensures, c .before .before .folded2 .ensures) at (c .if4 .taken)))
+
+order-after-requires : tie.Need-order-after-requires
+order-after-requires c κs = search needs
+
+returns-3 : tie.Need-returns-3
+returns-3 c = search needs
 
 pub order-bytes-spec : {M : Type 1} → statement M
 order-bytes-spec =
     tie.close
     (tie.spec
-    common-requires
-    returns
-    returns-2
-    returns-3
     shared-slice-read-folded
     folded-requires
     shared-slice-read-folded-2
     folded-requires-2
-    returns-4
-    returns-5)
+    returns
+    returns-2
+    order-after-requires
+    returns-3)

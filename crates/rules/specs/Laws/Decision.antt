@@ -1,18 +1,18 @@
 -- Laws of `Decision`: the decision function in one pass over the items, each with a weight, and equal values have equal permissions.
 use mathlib.Core.Path.{_≡_, refl, sym, ap, ap₂, _∙_, subst, fun-ext}
 use mathlib.Core.Logic.{_⊎_, inl, inr}
-use Prim.Native.Nat.{ℕ, zero, suc, _+_, _*_, _≤_, _<_}
+use Prim.Native.Nat.{ℕ, suc, _+_, _*_, _≤_, _<_}
 use native.Mathlib.Omega.{arith}
 use mathlib.Core.Bool.{Bool, true, false, _&&_, _||_, not, cond, true≢false, false≢true}
 use mathlib.Core.List.{List, [], _∷_, _++_, List·Memᴰ, List·Memᴰ·head, List·Memᴰ·tail, List·Memᴰ·not-nil, List·Memᴰ·cases-cons, List·Memᴰ·append-cases, List·Memᴰ·eq-of-singleton, Memᴰ·append-left, Memᴰ·append-right, append-assoc, append-nil}
 use lib.Dec.{ltb, leb, eqb}
-use borrow.Author.Tests.{ltb-true, ltb-false, lt-ltb, eqb-true, eqb-false, leb-true, leb-false}
-use Rattle.rules.specs.Lists.{given, gather, any, all, keep}
+use borrow.Author.Tests.{ltb-true, ltb-false, lt-ltb, eqb-true, eqb-false, leb-false}
+use Rattle.rules.specs.Lists.{given, any, all, keep}
 use Rattle.rules.specs.Sheet.{Bytes}
 use Rattle.rules.specs.Name.{Name, equal}
 use Rattle.rules.specs.Permission.{Item}
 use Rattle.rules.specs.Decision.{Setting, Thing, ofValue, baseCovers, whoFits, whatCovers, names, levelFits, applies, rank, explicit, highest, allGrant, granted}
-use Rattle.rules.specs.Laws.Tests.{and-left, and-right, both, bool-ext, not-of, of-not, or-right}
+use Rattle.rules.specs.Laws.Tests.{and-left, and-right, both, bool-ext, not-of, of-not}
 use Rattle.rules.specs.Laws.Name.{equal-join, equal-sym}
 
 -- ---- what is kept of a list
@@ -341,42 +341,12 @@ granted-in-one-pass σ n x q =
     ap allGrant (by-weight (keep (applies σ n x q) (σ .items)))
     ∙ verdict (keep (applies σ n x q) (σ .items)) (weighAll (applies σ n x q) start (σ .items)) (weighAll-says (applies σ n x q) (σ .items) [] start start-says)
 
--- items that fail a test are passed over
-pub weighAll-keep : (p q : Item → Bool) (s : Standing) (is : List Item) → weighAll (λ i. p i && q i) s is ≡ weighAll q s (keep p is)
-unfolding weighAll
-weighAll-keep p q s [] = refl
-weighAll-keep p q s (i ∷ is) = go (p i) (λ t. weighAll-keep p q t is)
-  where
-    go : (b : Bool) → ((t : Standing) → weighAll (λ i. p i && q i) t is ≡ weighAll q t (keep p is))
-        → weighAll (λ i. p i && q i) (cond (b && q i) (weigh s i) s) is ≡ weighAll q s (given b (i ∷ []) ++ keep p is)
-    go true ih = ih (cond (q i) (weigh s i) s)
-    go false ih = ih s
-
 -- the items whose base covers the entry, whose "who" fits and whose level is enough: what is asked of the entry is decided by these
 unfoldable pub concerns : Setting → Name → Item → Bool
 concerns σ n i = baseCovers σ i n && (whoFits σ i n && levelFits σ i)
 
 unfoldable pub answers : Setting → Thing → ℕ → Item → Bool
 answers σ x q i = whatCovers σ i x && names σ i q
-
-pub granted-among : (σ : Setting) (n : Name) (x : Thing) (q : ℕ) → granted σ n x q ≡ (weighAll (answers σ x q) start (keep (concerns σ n) (σ .items))) .clear
-granted-among σ n x q =
-    granted-in-one-pass σ n x q
-    ∙ ap (λ (f : Item → Bool). (weighAll f start (σ .items)) .clear) (fun-ext regrouped)
-    ∙ ap (λ (s : Standing). s .clear) (weighAll-keep (concerns σ n) (answers σ x q) start (σ .items))
-  where
-    regroup : (a b c d e : Bool) → (a && (b && (c && (d && e)))) ≡ ((a && (b && e)) && (c && d))
-    regroup false b c d e = refl
-    regroup true false c d e = refl
-    regroup true true true true true = refl
-    regroup true true true true false = refl
-    regroup true true true false true = refl
-    regroup true true true false false = refl
-    regroup true true false d true = refl
-    regroup true true false d false = refl
-
-    regrouped : (i : Item) → applies σ n x q i ≡ (concerns σ n i && answers σ x q i)
-    regrouped i = unfold applies concerns answers in regroup (baseCovers σ i n) (whoFits σ i n) (whatCovers σ i x) (names σ i q) (levelFits σ i)
 
 -- ---- equal values have equal permissions
 

@@ -10,15 +10,15 @@ use mathlib.Core.List.{List, [], _∷_, _++_, map, append-nil}
 use lib.ListN.{length, getD, length-append, length-map, List·getD-append, List·getD-map}
 use lib.Seq.{getD-at}
 use lib.Dec.{eqb, ltb, leb}
-use borrow.Author.Tests.{ltb-false, eq-eqb, not-false}
+use borrow.Author.Tests.{ltb-false, eq-eqb}
 use Rattle.rules.specs.Lists.{any, isEmpty, lastOr, optional}
 use Rattle.rules.specs.Sheet.{Bytes, Line, Sheet, end, broken, row, lines}
 use Rattle.rules.specs.Columns.{inForm, directoryForms}
-use Rattle.rules.specs.Name.{AttributeType, Schema, Part, part, Name, allowed, samePart, sameName}
-use Rattle.rules.specs.Judge.{Verdict, accept, refuse, refuseIf, then, fold}
+use Rattle.rules.specs.Name.{Schema, part, Name, allowed, samePart, sameName}
+use Rattle.rules.specs.Judge.{Verdict, accept, refuse, then, fold}
 use Rattle.rules.specs.Directory
 use Rattle.rules.specs.Directory.{Stored, blank, nameAt, Reading, entriesOf, typeLine, lacksNaming, clashes, newEntry, withValue, entryLine, valueLine, step, finish, nothing, directoryOf, Entry, entryOf, entries}
-use Rattle.rules.specs.Laws.Tests.{both, eqb-same}
+use Rattle.rules.specs.Laws.Tests.{both}
 use Rattle.rules.specs.Laws.Lists.{Once, none-at, once-by-index}
 use Rattle.rules.specs.Laws.Name.{samePart-sym, sameName-join, nil-snoc, snoc-nil, snoc-snoc}
 use Rattle.rules.specs.Laws.Judge.{refused-not, accepted-is, not-refused}

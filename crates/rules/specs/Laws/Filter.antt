@@ -8,7 +8,7 @@ use Rattle.rules.specs.Lists.{any}
 use Rattle.rules.specs.Sheet.{Line, Sheet, end, broken, row}
 use Rattle.rules.specs.Columns.{inForm, requestForms}
 use Rattle.rules.specs.Value.{Piece}
-use Rattle.rules.specs.Judge.{Verdict, accept, refuse, refuseIf}
+use Rattle.rules.specs.Judge.{Verdict, accept, refuse}
 use Rattle.rules.specs.Filter.{Assertion, equality, atLeast, atMost, present, substrings, Filter, and, or, not′, item, Filters, none, more, isTrue, isFalse, conjunction, disjunction, negation, evaluate, evaluateAll}
 use Rattle.rules.specs.Request.{requestGrammar, filterLine, pieces, filters, filterOf, filter}
 use Rattle.rules.specs.Laws.Judge.{refused-not, not-refused, misplaced-not}

@@ -1,16 +1,16 @@
 -- List and search by entry numbers: which entries are returned, and what is returned of a child.
-use mathlib.Core.Path.{_≡_, refl, sym, ap, ap₂, _∙_, subst}
+use mathlib.Core.Path.{_≡_, refl, sym, ap, _∙_}
 use Prim.Native.Nat.{ℕ, zero, suc, _≤_, _<_}
 use native.Mathlib.Omega.{arith}
 use mathlib.Core.Bool.{Bool, true, false, _&&_, _||_, cond, false≢true}
-use mathlib.Core.List.{List, [], _∷_, _++_, map}
+use mathlib.Core.List.{List, [], _∷_, map}
 use lib.ListN.{length, getD, drop}
 use lib.Seq.{drop-at}
 use lib.Dec.{eqb}
 use borrow.Author.Tests.{eqb-true}
-use Rattle.rules.specs.Sheet.{Line, line}
+use Rattle.rules.specs.Sheet.{line}
 use Rattle.rules.specs.Name.{Schema, Name, samePart, sameName, covers, childOf}
-use Rattle.rules.specs.Directory.{Stored, blank, nameAt, Entry, entryOf}
+use Rattle.rules.specs.Directory.{Stored, blank, nameAt, entryOf}
 use Rattle.rules.specs.Permission.{Read, Browse, ReturnDN}
 use Rattle.rules.specs.Decision.{Setting, entry, granted}
 use Rattle.rules.specs.Answer.{listed, listHit, inSubset, candidate}

@@ -1,9 +1,9 @@
 -- Laws of `Judge`: what a verdict that accepts tells of its tests.
 use Prim.Native.Nat.{ℕ}
-use mathlib.Core.Path.{_≡_, refl, sym, _∙_}
+use mathlib.Core.Path.{_≡_, refl}
 use mathlib.Core.Bool.{Bool, true, false}
 use native.Mathlib.Omega.{arith}
-use Rattle.rules.specs.Judge.{Verdict, accept, refuse, refuseIf, then, Grammar, misplaced}
+use Rattle.rules.specs.Judge.{Verdict, accept, refuse, refuseIf, Grammar, misplaced}
 use Rattle.rules.specs.Sheet.{Sheet, end, broken, row}
 
 module _ {A : Type 0} where
@@ -17,10 +17,6 @@ module _ {A : Type 0} where
   pub not-refused : (b : Bool) (n : ℕ) (v : Verdict A) (a : A) → refuseIf b n v ≡ accept a → (b ≡ false) × (v ≡ accept a)
   not-refused true n v a e = absurd (refused-not n a e)
   not-refused false n v a e = (refl, e)
-
-pub then-accepts : {A B : Type 0} (v : Verdict A) (next : A → Verdict B) (b : B) → then v next ≡ accept b → (a : A) × (v ≡ accept a) × (next a ≡ accept b)
-then-accepts (accept a) next b e = (a, refl, e)
-then-accepts (refuse n) next b e = absurd (refused-not n b e)
 
 pub misplaced-not : {A : Type 0} (g : Grammar) (s : Sheet) (a : A) → misplaced g s ≡ accept a → ⊥
 unfolding misplaced

@@ -3,11 +3,11 @@
 use Prim.Native.Nat.{ℕ, zero, suc, _<_, suc-le-suc, zero-le}
 use native.Mathlib.Nat.{le-of-suc-le-suc, not-suc-le-zero}
 use mathlib.Core.Path.{_≡_, refl, sym, ap, ap₂, _∙_}
-use mathlib.Core.Bool.{Bool, true, false, _&&_, _||_, true≢false}
+use mathlib.Core.Bool.{Bool, true, false, _||_, true≢false}
 use mathlib.Core.Option.{Option, none, some}
 use mathlib.Core.List.{List, [], _∷_, _++_}
 use lib.ListN.{length, getD}
-use Rattle.rules.specs.Lists.{given, gather, any, first, firstOr, keep, sift}
+use Rattle.rules.specs.Lists.{given, gather, any, first, firstOr, sift}
 use Rattle.rules.specs.Laws.Tests.{contra, or-right}
 
 given-cong {ℓ} : {A : Type ℓ} (b : Bool) {xs ys : List A} → (b ≡ true → xs ≡ ys) → given b xs ≡ given b ys

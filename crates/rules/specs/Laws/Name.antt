@@ -1,17 +1,16 @@
 -- Laws of `Name`: equality of values, parts and names goes from one thing to another, and a child's name is its parent's with one part more.
-use mathlib.Core.Path.{_≡_, refl, sym, ap, ap₂, _∙_, subst}
-use mathlib.Core.Logic.{_⊎_, inl, inr}
+use mathlib.Core.Path.{_≡_, refl, sym, ap, _∙_, subst}
 use Prim.Native.Nat.{ℕ, suc}
 use mathlib.Core.Bool.{Bool, true, false, _&&_, _||_, false≢true}
 use mathlib.Core.Option.{Option, none, some}
-use mathlib.Core.List.{List, [], _∷_, _++_}
+use mathlib.Core.List.{[], _∷_, _++_}
 use lib.ListN.{length}
 use lib.Dec.{eqb, eqb·suc-suc, eqb·suc-zero}
 use borrow.Author.Tests.{eqb-true}
 use Rattle.rules.specs.Lists.{first}
 use Rattle.rules.specs.Sheet.{Bytes}
 use Rattle.rules.specs.Value.{fits, normal, same}
-use Rattle.rules.specs.Name.{AttributeType, Schema, bySyntax, ofSyntax, allowed, equal, Part, Name, samePart, sameName, covers, childOf}
+use Rattle.rules.specs.Name.{AttributeType, Schema, bySyntax, ofSyntax, equal, Part, Name, samePart, sameName, covers, childOf}
 use Rattle.rules.specs.Laws.Tests.{and-left, and-right, both, eqb-same}
 use Rattle.rules.specs.Laws.Value.{identical-refl, identical-eq}
 

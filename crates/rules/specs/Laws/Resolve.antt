@@ -3,7 +3,6 @@ use mathlib.Core.Path.{_≡_, refl, sym, ap, _∙_, subst}
 use mathlib.Core.Logic.{_⊎_, inl, inr}
 use Prim.Native.Nat.{ℕ, zero, suc, _+_, _≤_, _<_, suc-le-suc, zero-le}
 use native.Mathlib.Nat.{not-suc-le-zero, le-of-suc-le-suc}
-use native.Mathlib.Numerals.{add-one}
 use native.Mathlib.Omega.{arith}
 use mathlib.Core.Bool.{Bool, true, false, _&&_, _||_, cond, true≢false, false≢true}
 use mathlib.Core.Option.{Option, none, some}
@@ -14,13 +13,13 @@ use lib.Dec.{eqb}
 use borrow.Author.Tests.{eqb-true, eq-eqb}
 use Rattle.rules.specs.Lists.{any, first, firstOr}
 use Rattle.rules.specs.Name.{Schema, Part, Name, samePart, sameName, covers}
-use Rattle.rules.specs.Directory.{Stored, blank, nameAt, Directory, Entry, entryOf, entries}
+use Rattle.rules.specs.Directory.{Stored, blank, nameAt, Entry, entryOf, entries}
 use Rattle.rules.specs.Permission.{DiscloseOnError}
 use Rattle.rules.specs.Decision.{Setting, entry, granted}
 use Rattle.rules.specs.Answer.{orName, disclosed, matchedName, named}
 use Rattle.rules.specs.Laws.Tests.{and-left, and-right, both}
-use Rattle.rules.specs.Laws.Lists.{Once, any-at, any-none, none-at, first-none, any-weaken}
-use Rattle.rules.specs.Laws.Name.{sameName-join, snoc-snoc, same-covers}
+use Rattle.rules.specs.Laws.Lists.{Once, any-at, any-none, first-none, any-weaken}
+use Rattle.rules.specs.Laws.Name.{sameName-join, snoc-snoc}
 use Rattle.rules.specs.Laws.Directory.{Accepted, one-number, once-named}
 use Rattle.rules.specs.Laws.Absent.{present′, above}
 use Rattle.rules.specs.declared.Found.{Found}

@@ -10,13 +10,13 @@ use Rattle.rules.specs.Lists.{any}
 use Rattle.rules.specs.Sheet.{Bytes, Line, print}
 use Rattle.rules.specs.Name.{Schema, Name}
 use Rattle.rules.specs.Judge.{Verdict, accept, refuse, then}
-use Rattle.rules.specs.Directory.{Directory, Entry, entries, directoryOf}
-use Rattle.rules.specs.Permission.{Item, permissionsOf, Read, Browse, ReturnDN, DiscloseOnError, Compare, FilterMatch}
+use Rattle.rules.specs.Directory.{Directory, entries}
+use Rattle.rules.specs.Permission.{Item, permissionsOf, Read, ReturnDN, DiscloseOnError, Compare, FilterMatch}
 use Rattle.rules.specs.Decision.{Setting, Requester, entry, ofType, ofValue, granted}
 use Rattle.rules.specs.Request.{Operation, Request, requestOf}
 use Rattle.rules.specs.Answer.{answer}
 use Rattle.rules.specs.Serve.{settingOf, fitting, respond, serveAt, serve, width}
-use Rattle.rules.specs.Shown.{Sight, shownBy, ofEntries, ofTypes, ofValues, sight, shown, Alike}
+use Rattle.rules.specs.Shown.{ofEntries, ofTypes, ofValues, sight, shown, Alike}
 use Rattle.rules.specs.Laws.Tests.{or-right}
 use Rattle.rules.specs.Laws.Directory.{Accepted, accepted-means, once-named}
 use Rattle.rules.specs.Secrecy.FromShown.{Enough, answer-shown}

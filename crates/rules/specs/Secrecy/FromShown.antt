@@ -4,16 +4,16 @@ use mathlib.Core.Path.{_≡_, refl, sym, ap, ap₂, _∙_, subst, fun-ext}
 use Prim.Native.Nat.{ℕ, zero, suc, _-_}
 use mathlib.Core.Bool.{Bool, true, false, _&&_, _||_, not, cond}
 use mathlib.Core.Option.{Option, none, some}
-use mathlib.Core.List.{List, [], _∷_, _++_, map}
-use lib.ListN.{length, take, drop}
+use mathlib.Core.List.{List, [], _∷_, _++_}
+use lib.ListN.{length, take}
 use lib.Dec.{eqb}
 use borrow.Author.Tests.{eqb-true}
-use Rattle.rules.specs.Lists.{given, gather, any, first, keep, sift, isEmpty}
+use Rattle.rules.specs.Lists.{given, any, first, keep, isEmpty}
 use Rattle.rules.specs.Sheet.{Bytes, Line, line}
-use Rattle.rules.specs.Name.{Name, allowed, ofSyntax, equal, sameName, covers, childOf}
+use Rattle.rules.specs.Name.{Name, allowed, equal, sameName, childOf}
 use Rattle.rules.specs.Directory.{Held, Entry}
 use Rattle.rules.specs.Permission.{Read, Browse, ReturnDN, DiscloseOnError, Compare, FilterMatch}
-use Rattle.rules.specs.Decision.{Setting, Thing, entry, ofType, ofValue, granted}
+use Rattle.rules.specs.Decision.{Setting, entry, ofType, ofValue, granted}
 use Rattle.rules.specs.Filter.{Assertion, equality, atLeast, atMost, present, substrings, Filter, truth, isTrue, evaluate}
 use Rattle.rules.specs.FilterItem.{assertedType, holds, someValue, defined, satisfied, decidable, itemTruth}
 use Rattle.rules.specs.Request.{Selection, Search, Operation, read, compare, list, search}

@@ -1,10 +1,8 @@
 -- The type is in the schema where the number at its rank is its own.
-use Rattle.schema.specs.Schema.{rankOf, rank-most, allowed-past′, allowed-other′, allowed-fits′}
-use Rattle.rules.specs.Value.{fits}
-use lib.ListN.{length, getD}
-use mathlib.Core.Path.{_≡_, refl, sym, ap, _∙_, subst}
+use Rattle.schema.specs.Schema.{rank-most, allowed-past′, allowed-other′, allowed-fits′}
+use mathlib.Core.Path.{sym, _∙_}
 use native.Mathlib.Omega.{arith}
-use Prim.Native.Nat.{_/_, _≤_, _<_}
+use Prim.Native.Nat.{_/_}
 use denote.Ref.{now}
 use borrow.Author.Needs.{needs}
 use Rattle.schema.proofs.allowed.Statement.{statement}

@@ -2,9 +2,9 @@
 use Rattle.schema.specs.Schema.{rankOf, rank-most, rank-from, rank-stop, rank-on, rank-end}
 use lib.ListN.{length, drop}
 use native.Mathlib.Omega.{arith}
-use mathlib.Core.Path.{_≡_, refl, sym, ap, _∙_}
+use mathlib.Core.Path.{_≡_}
 use denote.Ref.{now}
-use Prim.Native.Nat.{_+_, _-_, _≤_, _<_}
+use Prim.Native.Nat.{_+_, _-_, _≤_}
 use borrow.Author.Needs.{needs}
 use Rattle.schema.proofs.rank.Statement.{statement}
 use Rattle.schema.proofs.rank.Tie as tie

@@ -4,11 +4,10 @@ use Rattle.schema.specs.Types.{TypesRead, types-start, types-refused, ty
 use Rattle.schema.specs.Lines.{one-kind}
 use Rattle.rules.specs.Laws.Sheet.{taken-fits}
 use Rattle.rules.specs.Judge.{refuse}
-use lib.ListN.{length, getD, drop}
-use mathlib.Core.List.{List}
-use mathlib.Core.Path.{_≡_, refl, sym, ap, ap₂, _∙_}
+use lib.ListN.{length}
+use mathlib.Core.Path.{refl, sym, ap, _∙_}
 use native.Mathlib.Omega.{arith}
-use Prim.Native.Nat.{ℕ, _+_, _*_, _/_, _%_, _-_, _≤_, _<_}
+use Prim.Native.Nat.{_/_, _-_}
 use denote.Ref.{now}
 use borrow.Author.Needs.{needs}
 use Rattle.schema.proofs.types.Statement.{statement}

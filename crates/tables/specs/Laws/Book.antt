@@ -1,11 +1,11 @@
 -- Laws of `Book`: a column has as many numbers as are counted, and its numbers are the book's.
-use Prim.Native.Nat.{ℕ, _+_, _-_, _≤_, _<_}
+use Prim.Native.Nat.{ℕ, suc, _+_, _-_, _≤_, _<_}
 use mathlib.Core.Path.{_≡_, _∙_}
 use mathlib.Core.List.{List}
 use native.Mathlib.Omega.{arith}
 use lib.ListN.{length, getD, take, drop, length-drop}
 use lib.Seq.{length-take-le, getD-take, getD-drop}
-use Rattle.tables.specs.Book.{Fits, types, entries, schema, positions, parents, naming, lengths}
+use Rattle.tables.specs.Book.{Fits, types, entries, schema, positions, parents, naming, lengths, firstAt}
 
 cut-length : (b : List ℕ) (at n : ℕ) → at + n ≤ length b → length (take n (drop at b)) ≡ n
 cut-length b at n h = length-take-le n (drop at b) (simp length-drop (omega (arith, h)))
@@ -17,14 +17,14 @@ cut-at b at n k h = getD-take n (drop at b) k 0 h ∙ getD-drop at b k 0
 pub cut-part : (b : List ℕ) (at n : ℕ) → take (at + n - at) (drop at b) ≡ take n (drop at b)
 cut-part b at n = let e : at + n - at ≡ n = omega arith in rw e
 
+-- the row after the values of the entry of index `k`, as the code reads it
+pub end-is : (b : List ℕ) (k : ℕ) → getD b (1097 + k) 0 ≡ firstAt b (suc k)
+end-is b k = let e : 1097 + k ≡ 1096 + suc k = omega arith in rw e
+
 module _ {b : List ℕ} (h : Fits b) where
   pub schema-length : length (schema b) ≡ types b
   unfolding schema
   schema-length = cut-length b 8 (types b) (omega (arith, h .size, h .few-types))
-
-  pub positions-length : length (positions b) ≡ entries b
-  unfolding positions
-  positions-length = cut-length b 72 (entries b) (omega (arith, h .size, h .few-entries))
 
   pub parents-length : length (parents b) ≡ entries b
   unfolding parents

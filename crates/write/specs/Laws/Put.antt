@@ -3,6 +3,7 @@ use Prim.Native.Nat.{ℕ, zero, suc, _+_, _-_, _*_, _/_, _%_, _≤_, _<_}
 use mathlib.Core.Path.{_≡_, refl, sym, _∙_}
 use mathlib.Core.List.{[], _∷_, _++_, append-assoc, append-nil}
 use native.Mathlib.Omega.{arith}
+use borrow.Author.Tests.{ne-eqb}
 use lib.ListN.{length, take, drop, set, length-append, take-append-drop}
 use lib.Seq.{paste, take-length, take-append-seam, drop-append-add, drop-drop, drop-at, length-take-le, take-set-le, set-split, append-snoc}
 use Rattle.rules.specs.Sheet.{Bytes, Line, leading, column, numbers, lineBytes}
@@ -59,6 +60,9 @@ column-on d at zero v g h = absurd (omega arith)
 column-on d at (suc i) v g h =
     let e : suc i - 1 ≡ i = omega arith in
     rw e (put-last d at (leading i (v / 10)) (leadingByte v) i (leading-length i (v / 10)) (omega arith))
+
+pub digit-on : (d : Bytes) (at i v : ℕ) → (v ≡ 0 → ⊥) → 0 < i → at + i ≤ length d → putAt (set d (at + (i - 1)) (48 + v % 10)) at (leading (i - 1) (v / 10)) ≡ putAt d at (leading i v)
+digit-on d at i v f g h = rw (ne-eqb v 0 f) at (column-on d at i v g h)
 
 pub column-done : (d : Bytes) (at i v : ℕ) → i ≤ 0 → putAt d at (leading i v) ≡ d
 unfolding leading

@@ -1,5 +1,4 @@
 use Rattle.access_set.specs.Sets.{member-and}
-use borrow.Author.Needs.{needs}
 use Rattle.access_set.proofs.Bits.and.Statement.{statement}
 use Rattle.access_set.proofs.Bits.and.Tie as tie
 use Rattle.access_set.proofs.Bits.and.Reads as reads

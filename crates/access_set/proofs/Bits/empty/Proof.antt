@@ -1,5 +1,4 @@
 use Rattle.access_set.specs.Sets.{member-empty}
-use borrow.Author.Needs.{needs}
 use Rattle.access_set.proofs.Bits.empty.Statement.{statement}
 use Rattle.access_set.proofs.Bits.empty.Tie as tie
 use Rattle.access_set.proofs.Bits.empty.Reads as reads

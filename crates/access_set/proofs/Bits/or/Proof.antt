@@ -1,5 +1,4 @@
 use Rattle.access_set.specs.Sets.{member-or}
-use borrow.Author.Needs.{needs}
 use Rattle.access_set.proofs.Bits.or.Statement.{statement}
 use Rattle.access_set.proofs.Bits.or.Tie as tie
 use Rattle.access_set.proofs.Bits.or.Reads as reads

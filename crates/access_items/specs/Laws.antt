@@ -1,0 +1,7 @@
+pub mod Rows
+pub mod Mark
+pub mod Types
+pub mod Rank
+pub mod Note
+pub mod Items
+pub mod Sorted

@@ -1,0 +1,236 @@
+-- Laws of `Note`: which rows an item enters, and that it changes nothing else.
+use Prim.Native.Nat.{ℕ, zero, suc, _+_, _/_, _%_, _^_, _≤_, _<_}
+use mathlib.Core.Path.{_≡_, refl, sym, ap, _∙_}
+use mathlib.Core.Bool.{Bool, true, false, _&&_, _||_, cond}
+use mathlib.Core.List.{List}
+use native.Mathlib.Nat.{not-suc-le-zero}
+use native.Mathlib.Omega.{arith}
+use lib.Dec.{eqb}
+use lib.ListN.{length, getD}
+use borrow.Author.Tests.{eq-eqb, ne-eqb, eqb-true, eqb-false}
+use Rattle.permissions.specs.Noted.{DIGEST, GRANTS, WHAT, PERMISSIONS}
+use Rattle.tables.specs.Sets.{inRow, slotOf}
+use Rattle.access_items.specs.Mark.{marked}
+use Rattle.access_items.specs.Note.{Small, present, permitted, grantsNoted, aboutNoted}
+use Rattle.access_items.specs.Laws.Mark.{marked-length, marked-other, marked-in}
+
+-- ---- rows that the item at place `j` enters
+
+-- those that `hit` names, and no word before the rows of items or after them changes
+pub record Entered (j : ℕ) (hit : ℕ → Bool) (s t : List ℕ) : Type 0 where
+  pub size : length t ≡ length s
+  pub front : (i : ℕ) → i < 1028 → getD t i 0 ≡ getD s i 0
+  pub after : (i : ℕ) → 1592 ≤ i → getD t i 0 ≡ getD s i 0
+  pub rows : (f i : ℕ) → inRow t f i ≡ ((eqb i j && hit f) || inRow s f i)
+
+entered-none : (j : ℕ) (t : List ℕ) → Entered j (λ f. false) t t
+entered-none j t = record { size = refl; front = λ i l. refl; after = λ i l. refl; rows = λ f i. go (eqb i j) (inRow t f i) }
+  where
+    go : (x m : Bool) → m ≡ ((x && false) || m)
+    go true m = refl
+    go false m = refl
+
+entered-then : (j : ℕ) (g h : ℕ → Bool) (s t u : List ℕ) → Entered j h s t → Entered j g t u → Entered j (λ f. g f || h f) s u
+entered-then j g h s t u p q = record {
+  size = q .size ∙ p .size;
+  front = λ i l. q .front i l ∙ p .front i l;
+  after = λ i l. q .after i l ∙ p .after i l;
+  rows = λ f i. q .rows f i ∙ ap (λ (m : Bool). (eqb i j && g f) || m) (p .rows f i) ∙ go (eqb i j) (g f) (h f) (inRow s f i);
+}
+  where
+    go : (x a b m : Bool) → ((x && a) || ((x && b) || m)) ≡ ((x && (a || b)) || m)
+    go true true b m = refl
+    go true false b m = refl
+    go false a b m = refl
+
+entered-row : (t : List ℕ) (r j b : ℕ) → length t ≡ 2360 → 257 ≤ r → r < 398 → j < 256 → b < 2 → Entered j (λ f. eqb f r && eqb b 1) t (marked t r j b)
+entered-row t r j b len low high small two = record {
+  size = marked-length t r j b;
+  front = λ i l. marked-other t r j b i (λ e. omega arith);
+  after = λ i l. marked-other t r j b i (λ e. omega arith);
+  rows = marked-in t r j b (omega arith) small two;
+}
+
+-- ---- the permissions
+
+-- does row `f` stand for one of the first permissions of the mask?
+unfoldable pub permits : ℕ → ℕ → ℕ → Bool
+permits zero mask f = false
+permits (suc b) mask f = (eqb f (258 + b) && eqb (mask / 2 ^ b % 2) 1) || permits b mask f
+
+entered-permissions : (n mask j : ℕ) (t : List ℕ) → n ≤ 6 → length t ≡ 2360 → j < 256 → Entered j (permits n mask) t (permitted n mask j t)
+unfolding permits permitted
+entered-permissions zero mask j t h len small = entered-none j t
+entered-permissions (suc b) mask j t h len small =
+    let before = entered-permissions b mask j t (omega arith) len small in
+    let d : mask / 2 ^ b % 2 < 2 = omega arith in
+    entered-then j (λ f. eqb f (258 + b) && eqb (mask / 2 ^ b % 2) 1) (permits b mask) t (permitted b mask j t) (marked (permitted b mask j t) (258 + b) j (mask / 2 ^ b % 2)) before
+    (entered-row (permitted b mask j t) (258 + b) j (mask / 2 ^ b % 2) (before .size ∙ len) (omega arith) (omega arith) small d)
+
+-- no row from 258 + n on, and none before 258
+permits-above : (n mask f : ℕ) → 258 + n ≤ f → permits n mask f ≡ false
+unfolding permits
+permits-above zero mask f h = refl
+permits-above (suc b) mask f h = rw (ne-eqb f (258 + b) (λ e. omega arith)) (permits-above b mask f (omega arith))
+
+permits-below : (n mask f : ℕ) → f < 258 → permits n mask f ≡ false
+unfolding permits
+permits-below zero mask f h = refl
+permits-below (suc b) mask f h = rw (ne-eqb f (258 + b) (λ e. omega arith)) (permits-below b mask f h)
+
+permits-at : (n mask b : ℕ) → b < n → permits n mask (258 + b) ≡ eqb (mask / 2 ^ b % 2) 1
+unfolding permits
+permits-at zero mask b h = absurd (not-suc-le-zero h)
+permits-at (suc n) mask b h = go (eqb b n) refl (λ l. permits-at n mask b l)
+  where
+    none : (x : Bool) → (x || false) ≡ x
+    none true = refl
+    none false = refl
+
+    go : (x : Bool) → eqb b n ≡ x → (b < n → permits n mask (258 + b) ≡ eqb (mask / 2 ^ b % 2) 1)
+        → ((eqb (258 + b) (258 + n) && eqb (mask / 2 ^ n % 2) 1) || permits n mask (258 + b)) ≡ eqb (mask / 2 ^ b % 2) 1
+    go true e ih =
+        let q : b ≡ n = eqb-true b n e in
+        rw (eq-eqb (258 + b) (258 + n) (omega arith), permits-above n mask (258 + b) (omega arith))
+        (none (eqb (mask / 2 ^ n % 2) 1) ∙ ap (λ (m : ℕ). eqb (mask / 2 ^ m % 2) 1) (sym q))
+    go false e ih =
+        let d : b ≡ n → ⊥ = eqb-false b n e in
+        rw (ne-eqb (258 + b) (258 + n) (λ z. d (omega arith))) (ih (omega (arith, d)))
+
+-- ---- the rows of one item
+
+pub slot-small : (d : ℕ) → slotOf d < 64
+unfolding slotOf
+slot-small d = omega arith
+
+pub present-small : (n : ℕ) → present n < 2
+unfolding present
+present-small n = go (eqb n 0)
+  where
+    go : (b : Bool) → cond b 0 1 < 2
+    go true = omega arith
+    go false = omega arith
+
+module _ (rights : List ℕ) (at rank : ℕ) where
+  -- does the item enter row `f`?
+  unfoldable pub belongs : ℕ → Bool
+  belongs f = ((eqb f (334 + slotOf (getD rights (at + DIGEST) 0)) && eqb 1 1)
+      || ((eqb f (269 + rank) && eqb (present rank) 1) || (eqb f (264 + getD rights (at + WHAT) 0) && eqb 1 1)))
+      || (permits 6 (getD rights (at + PERMISSIONS) 0) f || (eqb f 257 && eqb (getD rights (at + GRANTS) 0) 1))
+
+  module _ (small : Small rights at) (low : rank ≤ 64) where
+    entered-grants : (j : ℕ) (t : List ℕ) → length t ≡ 2360 → j < 256
+        → Entered j (λ f. permits 6 (getD rights (at + PERMISSIONS) 0) f || (eqb f 257 && eqb (getD rights (at + GRANTS) 0) 1)) t (grantsNoted rights at j t)
+    unfolding grantsNoted
+    entered-grants j t len h =
+        let t₁ = marked t 257 j (getD rights (at + GRANTS) 0) in
+        let g = entered-row t 257 j (getD rights (at + GRANTS) 0) len (omega arith) (omega arith) h (small .grants) in
+        entered-then j (permits 6 (getD rights (at + PERMISSIONS) 0)) (λ f. eqb f 257 && eqb (getD rights (at + GRANTS) 0) 1) t t₁ (permitted 6 (getD rights (at + PERMISSIONS) 0) j t₁) g
+        (entered-permissions 6 (getD rights (at + PERMISSIONS) 0) j t₁ (omega arith) (g .size ∙ len) h)
+
+    entered-about : (j : ℕ) (t : List ℕ) → length t ≡ 2360 → j < 256
+        → Entered j (λ f. (eqb f (334 + slotOf (getD rights (at + DIGEST) 0)) && eqb 1 1)
+        || ((eqb f (269 + rank) && eqb (present rank) 1) || (eqb f (264 + getD rights (at + WHAT) 0) && eqb 1 1))) t (aboutNoted rights at rank j t)
+    unfolding aboutNoted
+    entered-about j t len h =
+        let t₁ = marked t (264 + getD rights (at + WHAT) 0) j 1 in
+        let t₂ = marked t₁ (269 + rank) j (present rank) in
+        let slot = slotOf (getD rights (at + DIGEST) 0) in
+        let a = entered-row t (264 + getD rights (at + WHAT) 0) j 1 len (omega arith) (omega (arith, small .what)) h (omega arith) in
+        let b = entered-row t₁ (269 + rank) j (present rank) (a .size ∙ len) (omega arith) (omega (arith, low)) h (present-small rank) in
+        let c = entered-row t₂ (334 + slot) j 1 (b .size ∙ a .size ∙ len) (omega arith) (omega (arith, slot-small (getD rights (at + DIGEST) 0))) h (omega arith) in
+        entered-then j (λ f. eqb f (334 + slot) && eqb 1 1) (λ f. (eqb f (269 + rank) && eqb (present rank) 1) || (eqb f (264 + getD rights (at + WHAT) 0) && eqb 1 1)) t t₂
+        (marked t₂ (334 + slot) j 1)
+        (entered-then j (λ f. eqb f (269 + rank) && eqb (present rank) 1) (λ f. eqb f (264 + getD rights (at + WHAT) 0) && eqb 1 1) t t₁ t₂ a b) c
+
+    pub entered-item : (j : ℕ) (t : List ℕ) → length t ≡ 2360 → j < 256 → Entered j belongs t (aboutNoted rights at rank j (grantsNoted rights at j t))
+    unfolding belongs
+    entered-item j t len h =
+        let g = entered-grants j t len h in
+        entered-then j _ _ t (grantsNoted rights at j t) (aboutNoted rights at rank j (grantsNoted rights at j t)) g (entered-about j (grantsNoted rights at j t) (g .size ∙ len) h)
+
+    none : (x : Bool) → (x || false) ≡ x
+    none true = refl
+    none false = refl
+
+    -- a row of the kinds is none of the types'
+    no-type : (f : ℕ) → f < 270 → (eqb f (269 + rank) && eqb (present rank) 1) ≡ false
+    unfolding present
+    no-type f h = go (eqb rank 0) refl
+      where
+        dead : (x : Bool) → (x && false) ≡ false
+        dead true = refl
+        dead false = refl
+
+        go : (b : Bool) → eqb rank 0 ≡ b → (eqb f (269 + rank) && eqb (cond b 0 1) 1) ≡ false
+        go true e = dead (eqb f (269 + rank))
+        go false e = let d : rank ≡ 0 → ⊥ = eqb-false rank 0 e in rw (ne-eqb f (269 + rank) (λ z. d (omega arith)))
+
+    pub belongs-grants : belongs 257 ≡ eqb (getD rights (at + GRANTS) 0) 1
+    unfolding belongs
+    belongs-grants = rw (
+      ne-eqb 257 (334 + slotOf (getD rights (at + DIGEST) 0)) (λ e. omega arith),
+      no-type 257 (omega arith),
+      ne-eqb 257 (264 + getD rights (at + WHAT) 0) (λ e. omega arith),
+      permits-below 6 (getD rights (at + PERMISSIONS) 0) 257 (omega arith),
+    )
+
+    pub belongs-permission : (b : ℕ) → b < 6 → belongs (258 + b) ≡ eqb (getD rights (at + PERMISSIONS) 0 / 2 ^ b % 2) 1
+    unfolding belongs
+    belongs-permission b h = rw (
+      ne-eqb (258 + b) (334 + slotOf (getD rights (at + DIGEST) 0)) (λ e. omega arith),
+      no-type (258 + b) (omega arith),
+      ne-eqb (258 + b) (264 + getD rights (at + WHAT) 0) (λ e. omega arith),
+      permits-at 6 (getD rights (at + PERMISSIONS) 0) b h,
+      ne-eqb (258 + b) 257 (λ e. omega arith),
+    ) (none (eqb (getD rights (at + PERMISSIONS) 0 / 2 ^ b % 2) 1))
+
+    pub belongs-what : (x : ℕ) → x < 6 → belongs (264 + x) ≡ eqb (getD rights (at + WHAT) 0) x
+    unfolding belongs
+    belongs-what x h = rw (
+      ne-eqb (264 + x) (334 + slotOf (getD rights (at + DIGEST) 0)) (λ e. omega arith),
+      no-type (264 + x) (omega arith),
+      permits-above 6 (getD rights (at + PERMISSIONS) 0) (264 + x) (omega arith),
+      ne-eqb (264 + x) 257 (λ e. omega arith),
+    ) (go (eqb (getD rights (at + WHAT) 0) x) refl)
+      where
+        go : (b : Bool) → eqb (getD rights (at + WHAT) 0) x ≡ b → ((eqb (264 + x) (264 + getD rights (at + WHAT) 0) && true) || false) ≡ b
+        go true e = rw (eq-eqb (264 + x) (264 + getD rights (at + WHAT) 0) (omega (arith, eqb-true (getD rights (at + WHAT) 0) x e)))
+        go false e =
+            let d : getD rights (at + WHAT) 0 ≡ x → ⊥ = eqb-false (getD rights (at + WHAT) 0) x e in
+            rw (ne-eqb (264 + x) (264 + getD rights (at + WHAT) 0) (λ z. d (omega arith)))
+
+    pub belongs-type : (r : ℕ) → r < 64 → belongs (270 + r) ≡ eqb rank (suc r)
+    unfolding belongs present
+    belongs-type r h = rw (
+      ne-eqb (270 + r) (334 + slotOf (getD rights (at + DIGEST) 0)) (λ e. omega arith),
+      ne-eqb (270 + r) (264 + getD rights (at + WHAT) 0) (λ e. omega (arith, small .what)),
+      permits-above 6 (getD rights (at + PERMISSIONS) 0) (270 + r) (omega arith),
+      ne-eqb (270 + r) 257 (λ e. omega arith),
+    ) (go (eqb rank (suc r)) refl)
+      where
+        go : (b : Bool) → eqb rank (suc r) ≡ b → (((eqb (270 + r) (269 + rank) && eqb (cond (eqb rank 0) 0 1) 1) || false) || false) ≡ b
+        go true e =
+            let q : rank ≡ suc r = eqb-true rank (suc r) e in
+            rw (eq-eqb (270 + r) (269 + rank) (omega arith), ne-eqb rank 0 (λ z. omega arith))
+        go false e =
+            let d : rank ≡ suc r → ⊥ = eqb-false rank (suc r) e in
+            rw (ne-eqb (270 + r) (269 + rank) (λ z. d (omega arith)))
+
+    pub belongs-slot : (s : ℕ) → s < 64 → belongs (334 + s) ≡ eqb (slotOf (getD rights (at + DIGEST) 0)) s
+    unfolding belongs
+    belongs-slot s h = rw (
+      ne-eqb (334 + s) (269 + rank) (λ e. omega (arith, low)),
+      ne-eqb (334 + s) (264 + getD rights (at + WHAT) 0) (λ e. omega (arith, small .what)),
+      permits-above 6 (getD rights (at + PERMISSIONS) 0) (334 + s) (omega arith),
+      ne-eqb (334 + s) 257 (λ e. omega arith),
+    ) (go (eqb (slotOf (getD rights (at + DIGEST) 0)) s) refl)
+      where
+        D : ℕ
+        D = slotOf (getD rights (at + DIGEST) 0)
+
+        go : (b : Bool) → eqb D s ≡ b → (((eqb (334 + s) (334 + D) && true) || false) || false) ≡ b
+        go true e = rw (eq-eqb (334 + s) (334 + D) (omega (arith, eqb-true D s e)))
+        go false e =
+            let d : D ≡ s → ⊥ = eqb-false D s e in
+            rw (ne-eqb (334 + s) (334 + D) (λ z. d (omega arith)))

@@ -1,0 +1,25 @@
+-- A law of `Sorted`: what the judge of the permission sheet notes, with an order of the items.
+use Prim.Native.Nat.{ℕ, _≤_}
+use mathlib.Core.Path.{_≡_}
+use mathlib.Core.List.{List, []}
+use lib.Dec.{ltb}
+use lib.ListN.{length}
+use borrow.Author.Tests.{ltb-false}
+use Rattle.rules.specs.Sheet.{Bytes, lines}
+use Rattle.rules.specs.Judge.{accept}
+use Rattle.rules.specs.Name.{Schema}
+use Rattle.rules.specs.Permission.{Item, items, permissionsOf}
+use Rattle.rules.specs.Laws.Judge.{not-refused}
+use Rattle.rules.specs.Laws.First.{Ranked}
+use Rattle.permissions.specs.declared.Items.{Items}
+use Rattle.permissions.specs.Noted.{Noted}
+use Rattle.access_items.specs.Sorted.{Sorted}
+
+-- an accepted sheet is not long
+accepted-small : (w : ℕ) (S : Schema) (p : Bytes) (is : List Item) → permissionsOf w S p ≡ accept is → length p ≤ 65536
+unfolding permissionsOf
+accepted-small w S p is e = ltb-false 65536 (length p) (not-refused (ltb 65536 (length p)) 11 (items S 256 [] (lines w p)) is e .0)
+
+pub sorted-of : (w : ℕ) (S : Schema) (p : Bytes) (is : List Item) (r : Items) (order : List ℕ) → permissionsOf w S p ≡ accept is → Noted w p is r → Ranked is order → length order ≡ length is
+    → Sorted w p is (r .rights) (r .scopes) order
+sorted-of w S p is r order e n ranked count = record { small = accepted-small w S p is e; table = n .table; ranked = ranked; count = count }

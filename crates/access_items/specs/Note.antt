@@ -1,0 +1,52 @@
+-- What one item adds to the table: the rows that it enters, and the numbers of its value. `rights` are the items' rows of rights, and the item's
+-- begins at `at`; `j` is its place in the order.
+use Prim.Native.Nat.{ℕ, zero, suc, _+_, _*_, _/_, _%_, _^_, _≤_, _<_}
+use mathlib.Core.Bool.{cond}
+use mathlib.Core.List.{List}
+use lib.Dec.{eqb}
+use lib.ListN.{length, getD, set}
+use Rattle.permissions.specs.Noted.{DIGEST, GRANTS, WHAT, TYPE, PERMISSIONS, VALUE, LENGTH, RIGHTS}
+use Rattle.tables.specs.Sets.{slotOf}
+use Rattle.access_items.specs.Mark.{marked}
+
+-- the row is there, and its numbers are those of an accepted item
+pub record Small (rights : List ℕ) (at : ℕ) : Type 0 where
+  pub within : at + RIGHTS ≤ length rights
+  pub digest : getD rights (at + DIGEST) 0 < 4294967296
+  pub grants : getD rights (at + GRANTS) 0 < 2
+  pub what : getD rights (at + WHAT) 0 < 6
+  pub type : getD rights (at + TYPE) 0 < 1000
+  pub value : getD rights (at + VALUE) 0 ≤ 65536
+
+-- 1 for a number that is not 0
+unfoldable pub present : ℕ → ℕ
+present n = cond (eqb n 0) 0 1
+
+-- the first `n` permissions of a mask
+unfoldable pub permitted : ℕ → ℕ → ℕ → List ℕ → List ℕ
+permitted zero mask j t = t
+permitted (suc b) mask j t = marked (permitted b mask j t) (258 + b) j (mask / 2 ^ b % 2)
+
+-- whether the item grants, and what
+unfoldable pub grantsNoted : List ℕ → ℕ → ℕ → List ℕ → List ℕ
+grantsNoted rights at j t = permitted 6 (getD rights (at + PERMISSIONS) 0) j (marked t 257 j (getD rights (at + GRANTS) 0))
+
+-- what it is about; `rank` is one more than the rank of its type, or 0
+unfoldable pub aboutNoted : List ℕ → ℕ → ℕ → ℕ → List ℕ → List ℕ
+aboutNoted rights at rank j t =
+    marked (marked (marked t (264 + getD rights (at + WHAT) 0) j 1) (269 + rank) j (present rank)) (334 + slotOf (getD rights (at + DIGEST) 0)) j 1
+
+-- the digest, the place and the length of its value
+unfoldable pub valueNoted : List ℕ → ℕ → ℕ → ℕ → List ℕ → List ℕ
+valueNoted rights at w j t =
+    set (set (set t (1592 + j) (getD rights (at + DIGEST) 0)) (1848 + j) (getD rights (at + VALUE) 0 + 5 * w)) (2104 + j) (getD rights (at + LENGTH) 0)
+
+-- the item
+unfoldable pub itemNoted : List ℕ → ℕ → ℕ → List ℕ → ℕ → List ℕ → List ℕ
+itemNoted rights at w ranks j t =
+    valueNoted rights at w j (aboutNoted rights at (getD ranks (getD rights (at + TYPE) 0) 0) j (grantsNoted rights at j t))
+
+-- the first `n` items in their order
+unfoldable pub itemsNoted : List ℕ → ℕ → List ℕ → List ℕ → ℕ → List ℕ → List ℕ
+itemsNoted rights w ranks order zero t = t
+itemsNoted rights w ranks order (suc n) t = itemNoted rights (getD order n 0 * RIGHTS) w ranks n (itemsNoted rights w ranks order n t)

@@ -1,0 +1,4 @@
+pub mod Decided
+pub mod Schema
+pub mod Single
+pub mod Granted

@@ -1,3 +1,0 @@
-pub mod Emit
-pub mod Laws
-pub mod Names

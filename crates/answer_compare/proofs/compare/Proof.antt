@@ -1,0 +1,42 @@
+use Prim.Native.Nat.{_-_}
+use mathlib.Core.Path.{sym, ap, _∙_}
+use denote.Ref.{now}
+use mathlib.Core.Path.{subst}
+use Rattle.rules.specs.Answer.{answer, compareEntry}
+use Rattle.tables.specs.Book.{entries}
+use Rattle.answer_plan.specs.declared.Plan.{Plan}
+use Rattle.answer_plan.specs.Plan.{planned}
+use Rattle.answer_plan.specs.Sound.{Sound}
+use Rattle.answer_plan.specs.Laws.Outcome.{absent-sound}
+use Rattle.answer_entry.specs.Laws.Opening.{opened-none}
+use borrow.Author.Needs.{needs}
+use Rattle.answer_compare.proofs.compare.Statement.{statement}
+use Rattle.answer_compare.proofs.compare.Tie as tie
+use Rattle.answer_compare.proofs.compare.Reads as reads
+use Rattle.answer_compare.proofs.compare.Lts as lts
+use Rattle.answer_compare.proofs.compare_entry.Reads as compare-entry-reads
+use Rattle.answer_plan.proofs.absent.Reads as absent-reads
+
+enum-known-base : tie.Need-enum-known-base
+enum-known-base c = search needs
+
+compare-entry-requires : tie.Need-compare-entry-requires
+compare-entry-requires c κs = (c .before .before .before .before .before .before .pre .0, c .before .before .before .before .before .before .pre .1 .found (c .before .base .given .0 .0) (c .before .base .given .1), c .before .before .before .before .before .before .pre .1 .matched)
+
+enum-told : tie.Need-enum-told
+enum-told c = search needs
+
+absent-requires : tie.Need-absent-requires
+absent-requires c κs = search needs
+
+returns : tie.Need-returns
+returns c = let A = c .before .before .before .before .before .before .before .args in let E = entries (now (A .book)) in (c .compare-entry .ensures .0, λ σ es n s hits w q. c .compare-entry .ensures .1 σ es n (A .target .base) s hits w q (c .before .before .base .given .1))
+
+returns-2 : tie.Need-returns-2
+unfolding answer
+returns-2 c = let A = c .before .before .before .before .before .before .args in let E = entries (now (A .book)) in (λ hits. subst (λ (r : Plan). Sound E r hits) (sym (c .absent .ensures)) (absent-sound E hits 2 (A .target .missing) (c .before .before .before .before .before .before .pre .1 .matched)), λ σ es n s hits w q. ap (λ (r : Plan). planned σ es s r hits) (c .absent .ensures) ∙ opened-none σ es (w .entries .accepted) n (A .target .base) (A .target .missing) q 2 (compareEntry σ (A .t) (now (A .v))) s hits (c .before .enum-told .given .1))
+
+pub compare-spec : {M : Type 1} → statement M
+compare-spec =
+    tie.close
+    (tie.spec enum-known-base compare-entry-requires enum-told absent-requires returns returns-2)

@@ -1,0 +1,117 @@
+// What is decided of an entry by the permissions on the entry alone: whether read and compare open it, whether list and search may return it; and the
+// plan of the entries that were found.
+use access_may::may_entry;
+use answer_plan::Plan;
+use answer_plan::absent;
+use answer_plan::refused;
+use rules::Found;
+use tables::sets::BROWSE;
+use tables::sets::DISCLOSE_ON_ERROR;
+use tables::sets::READ;
+use tables::sets::RETURN_DN;
+ghost use mathlib.Core.Path.{_≡_};
+ghost use mathlib.Core.List.{List};
+ghost use Prim.Native.Nat.{ℕ, _≤_};
+ghost use lib.ListN.{length};
+ghost use Rattle.rules.specs.Sheet.{Bytes};
+ghost use Rattle.rules.specs.Directory.{Stored};
+ghost use Rattle.rules.specs.Decision.{Setting};
+ghost use Rattle.tables.specs.World.{World, Known};
+ghost use Rattle.answer_entry.specs.Opening.{openingAt, withheldPlan};
+ghost use Rattle.answer_entry.specs.Returned.{browsableAt, returnableAt, successPlan, limitedPlan, returnedPlan};
+
+// The entry that a request names: its number, if there is one, and the number of the entry with the matched name.
+pub struct Target {
+    pub base: Found,
+    pub missing: usize,
+}
+
+// The outcome of opening entry number `e`: 0 with Read, else 2 with DiscloseOnError, else 1.
+pub fn opening(sets: &[u64; 2360], e: usize) -> u64
+    requires { ⌜ (e ≤ 256) × ((d p : Bytes) × (book held : List ℕ) × Known d p book held (now sets)) ⌝ }
+    ensures { λ r. ⌜ ((σ : Setting) (es : List Stored) (d p : Bytes) (book held : List ℕ) → World σ es d p book held (now (sets .entry)) → e ≤ length es → r ≡ openingAt σ es e) ⌝ }
+{
+    if may_entry(sets, e, READ) {
+        return 0;
+    }
+    if may_entry(sets, e, DISCLOSE_ON_ERROR) {
+        return 2;
+    }
+    1
+}
+
+// The plan of an operation where the entry is not open, by the outcome of opening it.
+pub fn withheld(operation: u64, outcome: u64, missing: usize) -> Plan
+    ensures { λ r. ⌜ r ≡ withheldPlan operation outcome missing ⌝ }
+{
+    if outcome == 1 {
+        return absent(operation, missing);
+    }
+    refused(operation, 2)
+}
+
+// Browse, or for the base Browse or Read, on entry number `e`.
+fn browsable(sets: &[u64; 2360], e: usize, base: bool) -> bool
+    requires { ⌜ (e ≤ 256) × ((d p : Bytes) × (book held : List ℕ) × Known d p book held (now sets)) ⌝ }
+    ensures { λ r. ⌜ ((σ : Setting) (es : List Stored) (d p : Bytes) (book held : List ℕ) → World σ es d p book held (now (sets .entry)) → e ≤ length es → r ≡ browsableAt σ es e base) ⌝ }
+{
+    if may_entry(sets, e, BROWSE) {
+        return true;
+    }
+    if base {
+        return may_entry(sets, e, READ);
+    }
+    false
+}
+
+// May entry number `e` be returned? It has to be browsable, with ReturnDN.
+pub fn returnable(sets: &[u64; 2360], e: usize, base: bool) -> bool
+    requires { ⌜ (e ≤ 256) × ((d p : Bytes) × (book held : List ℕ) × Known d p book held (now sets)) ⌝ }
+    ensures { λ r. ⌜ ((σ : Setting) (es : List Stored) (d p : Bytes) (book held : List ℕ) → World σ es d p book held (now (sets .entry)) → e ≤ length es → r ≡ returnableAt σ es e base) ⌝ }
+{
+    if browsable(sets, e, base) {
+        return may_entry(sets, e, RETURN_DN);
+    }
+    false
+}
+
+// Success: the first `shown` of the entries found, and whether there are more.
+fn success(operation: u64, more: u64, shown: usize) -> Plan
+    ensures { λ r. ⌜ r ≡ successPlan operation more shown ⌝ }
+{
+    Plan {
+        operation,
+        outcome: 0,
+        more,
+        name: 0,
+        entry: 0,
+        equal: 0,
+        shown,
+    }
+}
+
+// The plan of `count` entries found, within the size limit; 0 is none.
+fn limited(operation: u64, limit: u64, count: usize) -> Plan
+    ensures { λ r. ⌜ r ≡ limitedPlan operation limit count ⌝ }
+{
+    if limit == 0 {
+        return success(operation, 0, count);
+    }
+    if limit < count as u64 {
+        return success(operation, 1, limit as usize);
+    }
+    success(operation, 0, count)
+}
+
+// The plan of `count` entries found; none is "no such object" unless the base is disclosed.
+pub fn returned(operation: u64, missing: usize, disclosed: bool, limit: u64, count: usize) -> Plan
+    ensures { λ r. ⌜ r ≡ returnedPlan operation missing disclosed limit count ⌝ }
+{
+    if disclosed {
+        return limited(operation, limit, count);
+    }
+    if count == 0 {
+        return absent(operation, missing);
+    }
+    limited(operation, limit, count)
+}

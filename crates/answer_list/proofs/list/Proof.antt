@@ -1,0 +1,64 @@
+use Prim.Native.Nat.{_-_, _≤_}
+use native.Mathlib.Omega.{arith}
+use denote.Ref.{now}
+use Rattle.tables.specs.Book.{entries}
+use Rattle.answer_entry.specs.Laws.Whole.{none-sound, some-sound}
+use Rattle.answer_list.specs.Laws.Whole.{list-none, list-some}
+use borrow.Author.Needs.{needs}
+use Rattle.answer_list.proofs.list.Statement.{statement}
+use Rattle.answer_list.proofs.list.Tie as tie
+use Rattle.answer_list.proofs.list.Reads as reads
+use Rattle.answer_list.proofs.list.Lts as lts
+use Rattle.access_may.proofs.may_entry.Reads as may-entry-reads
+use Rattle.answer_entry.proofs.returned.Reads as returned-reads
+use Rattle.answer_list.proofs.children.Reads as children-reads
+use Rattle.answer_plan.proofs.absent.Reads as absent-reads
+
+enum-known-base : tie.Need-enum-known-base
+enum-known-base c = search needs
+
+enum-told : tie.Need-enum-told
+enum-told c = search needs
+
+absent-requires : tie.Need-absent-requires
+absent-requires c κs = search needs
+
+returns : tie.Need-returns
+returns c = let A = c .before .before .before .args in (
+  none-sound (entries (now (A .book))) (A .target .base) (A .target .missing) (c .before .before .before .pre .0) _ _ 3 (c .absent .ensures),
+  λ σ es d p held n s w q. list-none σ es (w .entries .accepted) n (A .target .base) (A .target .missing) q _ _ (c .before .enum-told .given .1) s (A .limit) (c .absent .ensures),
+)
+
+children-requires : tie.Need-children-requires
+children-requires c κs = search needs
+
+may-entry-requires : tie.Need-may-entry-requires
+may-entry-requires c κs = (let K = c .before .before .before .before .before .pre .2 .3 .2 .entries in omega (arith, K .fits .few-entries, c .before .before .before .before .before .pre .0 .found (c .before .before .before .base .given .0 .0) (c .before .before .before .base .given .1)), omega arith, (c .before .before .before .before .before .pre .2 .0, c .before .before .before .before .before .pre .2 .1, now (c .before .before .before .before .before .args .book), c .before .before .before .before .before .pre .2 .2, c .before .before .before .before .before .pre .2 .3))
+
+returned-requires : tie.Need-returned-requires
+returned-requires c κs = search needs
+
+returns-2 : tie.Need-returns-2
+returns-2 c = let A = c .before .before .before .before .before .before .before .args in
+    let told = c .before .before .before .before .before .base .given in
+    let found = c .before .before .children .ensures in
+    let within : told .0 .0 ≤ entries (now (A .book)) = c .before .before .before .before .before .before .before .pre .0 .found (told .0 .0) (told .1) in (
+      some-sound (entries (now (A .book))) (A .target .base) (A .target .missing) (c .before .before .before .before .before .before .before .pre .0) _ _ 3 _ _ (found .0) _ (A .limit) (c .returned .ensures),
+      λ σ es d p held n s w q.
+          list-some σ es (w .entries .accepted) n (A .target .base) (A .target .missing) q _ _ (told .0 .0) (told .1) _
+          (c .before .may-entry .ensures σ es d p (now (A .book)) held w (omega (arith, within, w .entries .count)))
+          _ (found .0 .room) s (A .limit) (found .1 σ es d p held w) (c .returned .ensures),
+    )
+
+pub list-spec : {M : Type 1} → statement M
+list-spec =
+    tie.close
+    (tie.spec
+    enum-known-base
+    enum-told
+    absent-requires
+    returns
+    children-requires
+    may-entry-requires
+    returned-requires
+    returns-2)

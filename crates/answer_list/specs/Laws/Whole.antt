@@ -1,0 +1,50 @@
+-- List as a whole: the plan of the children found stands for the answer of the rules, and so does that of an absent base.
+use Prim.Native.Nat.{ℕ, _≤_}
+use mathlib.Core.Path.{_≡_, refl, sym, ap, _∙_}
+use mathlib.Core.Bool.{Bool}
+use mathlib.Core.List.{List, map}
+use lib.ListN.{length, take}
+use Rattle.rules.specs.Lists.{gather}
+use Rattle.rules.specs.Name.{Name}
+use Rattle.rules.specs.Directory.{Stored, entryOf, entries}
+use Rattle.rules.specs.Permission.{DiscloseOnError}
+use Rattle.rules.specs.Decision.{Setting, entry}
+use Rattle.rules.specs.Request.{Selection, list}
+use Rattle.rules.specs.Answer.{answer, listHits}
+use Rattle.rules.specs.Laws.Absent.{list-absent}
+use Rattle.rules.specs.Laws.Directory.{Accepted}
+use Rattle.rules.specs.declared.Found.{Found}
+use Rattle.rules.specs.declared.Found.the-variants.{At, Nothing}
+use Rattle.answer_plan.specs.declared.Plan.{Plan}
+use Rattle.answer_plan.specs.Plan.{childLines, successLines, planned}
+use Rattle.answer_plan.specs.Sound.{Base}
+use Rattle.answer_plan.specs.Outcome.{absentPlan}
+use Rattle.tables.specs.Sets.{grantedAt}
+use Rattle.answer_entry.specs.Passing.{passing}
+use Rattle.answer_entry.specs.Returned.{successPlan, returnedPlan}
+use Rattle.answer_entry.specs.Laws.Returned.{returned-planned}
+use Rattle.answer_entry.specs.Laws.Whole.{directoryOf, not-root, not-present, planned-absent, there, told-disclosed}
+use Rattle.answer_list.specs.Hits.{listedAt}
+use Rattle.answer_list.specs.Laws.Hits.{list-hits}
+
+module _ (σ : Setting) (es : List Stored) (ok : Accepted (σ .schema) es) (n : Name) (base : Found) (missing : ℕ) (h : Base σ es n base missing) (plan : Plan) (hits : List ℕ) where
+  -- the base is absent
+  pub list-none : base ≡ Nothing → (s : Selection) (limit : ℕ) → plan ≡ absentPlan 3 missing → planned σ es s plan hits ≡ answer σ (map entryOf es) n (list limit)
+  unfolding entries directoryOf
+  list-none e s limit q =
+      planned-absent σ es ok n base missing h plan hits s 3 q
+      ∙ sym (list-absent σ (directoryOf σ es) refl ok n (not-root σ es ok n base missing h e) (not-present σ es ok n base missing h e) limit)
+
+  -- the base has number `b`
+  module _ (b : ℕ) (e : base ≡ At b) (d : Bool) (told : d ≡ grantedAt σ es b entry DiscloseOnError) (count : ℕ) (room : count ≤ length hits) where
+    child-success : (s : Selection) (more shown : ℕ) → successLines σ es s (successPlan 3 more shown) hits ≡ gather (childLines es) (take shown hits)
+    unfolding successLines
+    child-success s more shown = refl
+
+    pub list-some : (s : Selection) (limit : ℕ) → take count hits ≡ passing (listedAt σ es b) (length es) → plan ≡ returnedPlan 3 missing d limit count
+        → planned σ es s plan hits ≡ answer σ (map entryOf es) n (list limit)
+    unfolding answer
+    list-some s limit taken q =
+        ap (λ (r : Plan). planned σ es s r hits) q
+        ∙ returned-planned σ es s hits count room 3 (childLines es) (child-success s) n base missing h d (told-disclosed σ es ok n base missing h b e d told) limit (listHits σ (map entryOf es) n)
+        (list-hits σ es ok n b (there σ es ok n base missing h b e) ∙ ap (map (childLines es)) (sym taken))

@@ -1,0 +1,77 @@
+// List: the children of the base, by number. The parent's number is compared before any permission is asked for.
+use access_may::may_entry;
+use answer_entry::Target;
+use answer_entry::returnable;
+use answer_entry::returned;
+use answer_plan::Plan;
+use answer_plan::absent;
+use rules::Found;
+use tables::book::ENTRIES;
+use tables::book::PARENT;
+use tables::sets::DISCLOSE_ON_ERROR;
+ghost use mathlib.Core.Path.{_≡_};
+ghost use mathlib.Core.List.{List, map};
+ghost use Prim.Native.Nat.{ℕ, _≤_, _<_};
+ghost use lib.ListN.{length, take};
+ghost use Rattle.rules.specs.Sheet.{Bytes};
+ghost use Rattle.rules.specs.Name.{Name};
+ghost use Rattle.rules.specs.Directory.{Stored, entryOf};
+ghost use Rattle.rules.specs.Decision.{Setting};
+ghost use Rattle.rules.specs.Request as Request;
+ghost use Rattle.rules.specs.Request.{Selection};
+ghost use Rattle.rules.specs.Answer.{answer};
+ghost use Rattle.tables.specs.Book.{entries};
+ghost use Rattle.tables.specs.World.{World, Known};
+ghost use Rattle.answer_plan.specs.Plan.{planned};
+ghost use Rattle.answer_plan.specs.Sound.{Base, Numbered, Sound};
+ghost use Rattle.answer_entry.specs.Passing.{Indices, passing};
+ghost use Rattle.answer_list.specs.Hits.{listedAt};
+
+// Is the entry of index `k` a child of number `b` that may be returned?
+fn child(book: &[u64; 1353], sets: &[u64; 2360], b: usize, k: usize) -> bool
+    requires { ⌜ (k < entries (now book)) × (entries (now book) ≤ 256) × ((d p : Bytes) × (held : List ℕ) × Known d p (now book) held (now sets)) ⌝ }
+    ensures { λ r. ⌜ ((σ : Setting) (es : List Stored) (d p : Bytes) (held : List ℕ) → World σ es d p (now (book .entry)) held (now (sets .entry)) → r ≡ listedAt σ es b k) ⌝ }
+{
+    if book[PARENT + k] as usize != b {
+        return false;
+    }
+    returnable(sets, k + 1, false)
+}
+
+// Notes the indices of the children of number `b` that may be returned, in order; how many they are.
+fn children(book: &[u64; 1353], sets: &[u64; 2360], b: usize, hits: &mut [usize; 256]) -> usize
+    requires { ⌜ (entries (now book) ≤ 256) × (length (now hits) ≡ 256) × ((d p : Bytes) × (held : List ℕ) × Known d p (now book) held (now sets)) ⌝ }
+    ensures { λ n. ⌜ Indices (entries (now (book .entry))) n (now (hits .entry)) (now (hits .exit)) × ((σ : Setting) (es : List Stored) (d p : Bytes) (held : List ℕ) → World σ es d p (now (book .entry)) held (now (sets .entry)) → take n (now (hits .exit)) ≡ passing (listedAt σ es b) (length es)) ⌝ }
+{
+    let count = book[ENTRIES] as usize;
+    let mut n: usize = 0;
+    let mut k: usize = 0;
+    while k < count {
+        if child(book, sets, b, k) {
+            hits[n] = k;
+            n += 1;
+        }
+        k += 1;
+    }
+    n
+}
+
+// The plan of a list: the children of the base that may be returned, within the size limit.
+pub fn list(
+    book: &[u64; 1353],
+    sets: &[u64; 2360],
+    target: Target,
+    limit: u64,
+    hits: &mut [usize; 256],
+) -> Plan
+    requires { ⌜ Numbered (entries (now book)) (target .base) (target .missing) × (length (now hits) ≡ 256) × ((d p : Bytes) × (held : List ℕ) × Known d p (now book) held (now sets)) ⌝ }
+    ensures { λ r. ⌜ Sound (entries (now (book .entry))) r (now (hits .exit)) × ((σ : Setting) (es : List Stored) (d p : Bytes) (held : List ℕ) (n : Name) (s : Selection) → World σ es d p (now (book .entry)) held (now (sets .entry)) → Base σ es n (target .base) (target .missing) → planned σ es s r (now (hits .exit)) ≡ answer σ (map entryOf es) n (Request.list limit)) ⌝ }
+{
+    let base = target.base;
+    let Found::At(b) = base else {
+        return absent(3, target.missing);
+    };
+    let count = children(book, sets, b, hits);
+    let open = may_entry(sets, b, DISCLOSE_ON_ERROR);
+    returned(3, target.missing, open, limit, count)
+}

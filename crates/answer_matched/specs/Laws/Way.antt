@@ -1,0 +1,85 @@
+-- The ways through the loop that looks for the matched name.
+use Prim.Native.Nat.{ℕ, zero, suc, _-_, _≤_}
+use mathlib.Core.Path.{_≡_, refl, sym, ap, _∙_}
+use mathlib.Core.List.{List, map}
+use native.Mathlib.Omega.{arith}
+use lib.ListN.{length, drop}
+use Rattle.rules.specs.Sheet.{Bytes, Sheet, frontOf}
+use Rattle.rules.specs.Name.{Name}
+use Rattle.rules.specs.Directory.{Stored, nameAt, entryOf}
+use Rattle.rules.specs.Decision.{Setting}
+use Rattle.rules.specs.Answer.{matchedName}
+use Rattle.rules.specs.Places.{linesAt, partsOf}
+use Rattle.tables.specs.Book.{entries, width}
+use Rattle.tables.specs.World.{Entries, World}
+use Rattle.entry_lookup.specs.Names.{nextOf}
+use Rattle.entry_lookup.specs.Find.{stepOf}
+use Rattle.entry_lookup.specs.Laws.Find.{byStep, name-step}
+use Rattle.answer_matched.specs.Matched.{lastOf}
+use Rattle.answer_matched.specs.Laws.Matched.{descend, descend-matched}
+use Rattle.entry_lookup.specs.declared.find.Step.{Step}
+use Rattle.entry_lookup.specs.declared.find.Step.the-variants.{To, Lost, Ended}
+
+descend-end : (σ : Setting) (es : List Stored) (from last left : ℕ) (s : Sheet) → left ≤ 0 → descend σ es from last (partsOf left s) ≡ last
+unfolding descend partsOf
+descend-end σ es from last zero s h = refl
+descend-end σ es from last (suc n) s h = absurd (omega arith)
+
+descend-step : (σ : Setting) (es : List Stored) (from last w : ℕ) (s : Bytes) (j n : ℕ)
+    → descend σ es from last (partsOf n (linesAt w s j))
+    ≡ byStep last last (λ k next. descend σ es k (lastOf σ es k last) (partsOf (n - 1) (linesAt w s next))) (stepOf (σ .schema) es from w s j (nextOf n (frontOf w (drop j s))))
+unfolding descend
+descend-step σ es from last w s j n =
+    name-step (σ .schema) es from w s j n (descend σ es from last) last last (λ k ps. descend σ es k (lastOf σ es k last) ps) refl (λ p ps. refl)
+
+module _ (book sets : List ℕ) (d q : Bytes) (place parts : ℕ) where
+  -- number `r` has the matched name
+  abbrev pub Matched : ℕ → Type 0
+  Matched r = (σ : Setting) (es : List Stored) (p : Bytes) (held : List ℕ) (n : Name) → World σ es d p book held sets
+      → partsOf parts (linesAt (width book) q place) ≡ n → length n ≡ parts → (r ≤ length es) × (nameAt es r ≡ matchedName σ (map entryOf es) n (parts - 1))
+
+  -- the way from here leads where the whole way leads
+  pub record Way (left last from j : ℕ) : Type 0 where
+    pub leads : (σ : Setting) (es : List Stored) (p : Bytes) (held : List ℕ) → World σ es d p book held sets
+        → descend σ es from last (partsOf left (linesAt (width book) q j)) ≡ descend σ es 0 0 (partsOf (parts - 1) (linesAt (width book) q place))
+
+  pub way-start : Way (parts - 1) 0 0 place
+  way-start = record { leads = λ σ es p held h. refl }
+
+  module _ (left last from j : ℕ) (way : Way left last from j) where
+    reached : last ≤ entries book
+        → ((σ : Setting) (es : List Stored) (p : Bytes) (held : List ℕ) → World σ es d p book held sets → descend σ es from last (partsOf left (linesAt (width book) q j)) ≡ last)
+        → Matched last
+    reached l e σ es p held n h m c = (
+      omega (arith, l, h .entries .count),
+      descend-matched σ es (h .entries .accepted) n (linesAt (width book) q place) parts m c last (sym (e σ es p held h) ∙ way .leads σ es p held h),
+    )
+
+    pub way-end : left ≤ 0 → last ≤ entries book → Matched last
+    way-end e l = reached l (λ σ es p held h. descend-end σ es from last left (linesAt (width book) q j) e)
+
+    module _ (x : Step)
+        (is : (σ : Setting) (es : List Stored) (held : List ℕ) → Entries σ es d book held → x ≡ stepOf (σ .schema) es from (width book) q j (nextOf left (frontOf (width book) (drop j q))))
+      where
+        turn : (y : Step) → x ≡ y → (σ : Setting) (es : List Stored) (p : Bytes) (held : List ℕ) → World σ es d p book held sets
+            → descend σ es from last (partsOf left (linesAt (width book) q j))
+            ≡ byStep last last (λ k next. descend σ es k (lastOf σ es k last) (partsOf (left - 1) (linesAt (width book) q next))) y
+        turn y e σ es p held h =
+            descend-step σ es from last (width book) q j left
+            ∙ ap (byStep last last (λ k next. descend σ es k (lastOf σ es k last) (partsOf (left - 1) (linesAt (width book) q next)))) (sym (is σ es held (h .entries)) ∙ e)
+
+        pub way-lost : x ≡ Lost → last ≤ entries book → Matched last
+        way-lost e l = reached l (turn Lost e)
+
+        pub way-ended : x ≡ Ended → last ≤ entries book → Matched last
+        way-ended e l = reached l (turn Ended e)
+
+        pub way-on : (k next l : ℕ) → x ≡ To k next → k ≤ entries book
+            → ((σ : Setting) (es : List Stored) (d p : Bytes) (book held : List ℕ) → World σ es d p book held sets → k ≤ length es → l ≡ lastOf σ es k last)
+            → Way (left - 1) l k next
+        way-on k next l e b last-is = record {
+          leads = λ σ es p held h.
+              ap (λ (m : ℕ). descend σ es k m (partsOf (left - 1) (linesAt (width book) q next))) (last-is σ es d p book held h (omega (arith, b, h .entries .count)))
+              ∙ sym (turn (To k next) e σ es p held h)
+              ∙ way .leads σ es p held h;
+        }

@@ -1,0 +1,66 @@
+// The plan of the answer, by the operation that is asked for.
+use answer_compare::compare;
+use answer_entry::Target;
+use answer_list::list;
+use answer_plan::Choice;
+use answer_plan::Plan;
+use answer_read::read;
+use answer_search::search;
+use request::Asked;
+use tables::book::WIDTH;
+ghost use mathlib.Core.Path.{_≡_};
+ghost use mathlib.Core.List.{List, map};
+ghost use lib.ListN.{length};
+ghost use Rattle.rules.specs.Directory.{Stored, entryOf};
+ghost use Rattle.rules.specs.Decision.{Setting};
+ghost use Rattle.rules.specs.Request.{Request};
+ghost use Rattle.rules.specs.Answer.{answer};
+ghost use Rattle.request.specs.Noted.{Noted};
+ghost use Rattle.tables.specs.Book.{width, entries, schema};
+ghost use Rattle.tables.specs.World.{World, Known};
+ghost use Rattle.answer_plan.specs.Choice.{Chooses};
+ghost use Rattle.answer_plan.specs.Plan.{planned};
+ghost use Rattle.answer_plan.specs.Sound.{Base, Numbered, Sound};
+ghost use Rattle.answer_choice.specs.Selected.{selectionOf};
+
+// The plan of the answer; the indices of the entries that list and search find are noted in `hits`.
+pub fn plan_of(
+    book: &[u64; 1353],
+    held: &[u64; 6345],
+    sets: &[u64; 2360],
+    d: &[u8],
+    p: &[u8],
+    q: &[u8],
+    asked: Asked,
+    target: Target,
+    choice: Choice,
+    hits: &mut [usize; 256],
+) -> Plan
+    requires { ⌜ Known (now d) (now p) (now book) (now held) (now sets) × Numbered (entries (now book)) (target .base) (target .missing) × (length (now hits) ≡ 256) × ((x : Request) × Noted (width (now book)) (now q) x asked) ⌝ }
+    ensures { λ r. ⌜ Sound (entries (now (book .entry))) r (now (hits .exit)) × ((σ : Setting) (es : List Stored) (x : Request) → World σ es (now (d .entry)) (now (p .entry)) (now (book .entry)) (now (held .entry)) (now (sets .entry)) → Noted (width (now (book .entry))) (now (q .entry)) x asked → Chooses (schema (now (book .entry))) (selectionOf (x .operation)) choice → Base σ es (x .base) (target .base) (target .missing) → planned σ es (selectionOf (x .operation)) r (now (hits .exit)) ≡ answer σ (map entryOf es) (x .base) (x .operation)) ⌝ }
+{
+    if asked.operation == 1 {
+        return read(book, held, sets, d, p, choice, target);
+    }
+    if asked.operation == 2 {
+        let w = book[WIDTH] as usize;
+        let v = sheet::value_at(q, asked.value, asked.length, w);
+        return compare(book, held, sets, d, p, asked.attribute, v, target);
+    }
+    if asked.operation == 3 {
+        return list(book, sets, target, asked.limit, hits);
+    }
+    search(
+        book,
+        held,
+        sets,
+        d,
+        p,
+        q,
+        target,
+        asked.limit,
+        asked.subset,
+        asked.filter,
+        hits,
+    )
+}

@@ -1,0 +1,5 @@
+pub mod Plan
+pub mod Sound
+pub mod Outcome
+pub mod Choice
+pub mod Laws

@@ -1,0 +1,42 @@
+-- What a plan stands for: the lines of the answer, from the numbers of its entries.
+use Prim.Native.Nat.{ℕ, zero, suc}
+use mathlib.Core.Bool.{cond}
+use mathlib.Core.List.{List, [], _∷_, _++_}
+use lib.Dec.{eqb}
+use lib.ListN.{getD, take}
+use Rattle.rules.specs.Lists.{gather}
+use Rattle.rules.specs.Sheet.{Line, line}
+use Rattle.rules.specs.Directory.{Stored, blank, nameAt, entryOf}
+use Rattle.rules.specs.Decision.{Setting}
+use Rattle.rules.specs.Request.{Selection}
+use Rattle.rules.specs.Answer.{nameLines, entryLines, information}
+use Rattle.answer_plan.specs.declared.Plan.{Plan}
+
+-- K 32: the entry of index `k` as a child
+unfoldable pub childLines : List Stored → ℕ → List Line
+childLines es k = line 32 (getD es k blank .naming .type) 0 0 (getD es k blank .naming .value) ∷ []
+
+module _ (σ : Setting) (es : List Stored) (s : Selection) where
+  -- what is returned of the entry number `e`; the root, 0, has nothing
+  unfoldable pub informationAt : ℕ → List Line
+  informationAt zero = []
+  informationAt (suc k) = information σ s (entryOf (getD es k blank))
+
+  -- the entry of index `k` as a search returns it
+  unfoldable pub foundLines : ℕ → List Line
+  foundLines k = entryLines (nameAt es (suc k)) ++ informationAt (suc k)
+
+  -- after line 30 of an outcome 0, by the operation
+  unfoldable pub successLines : Plan → List ℕ → List Line
+  successLines r hits =
+      cond (eqb (r .operation) 1) (entryLines (nameAt es (r .name)) ++ informationAt (r .entry))
+      (cond (eqb (r .operation) 2) (line 31 (r .equal) 0 0 [] ∷ [])
+      (cond (eqb (r .operation) 3) (gather (childLines es) (take (r .shown) hits))
+      (gather foundLines (take (r .shown) hits))))
+
+  -- the whole answer; `hits` are the indices of the entries found
+  unfoldable pub planned : Plan → List ℕ → List Line
+  planned r hits =
+      line 30 (r .operation) (r .outcome) (r .more) []
+      ∷ cond (eqb (r .outcome) 0) (successLines r hits)
+      (cond (eqb (r .outcome) 1) (nameLines (nameAt es (r .name))) [])

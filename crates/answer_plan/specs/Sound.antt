@@ -1,0 +1,30 @@
+-- The numbers that a plan is made from, and what the writer of a plan may rely on.
+use Prim.Native.Nat.{ℕ, _-_, _≤_, _<_}
+use mathlib.Core.Path.{_≡_}
+use mathlib.Core.List.{List, map}
+use lib.ListN.{length, getD}
+use Rattle.rules.specs.Name.{Name}
+use Rattle.rules.specs.Directory.{Stored, nameAt, entryOf}
+use Rattle.rules.specs.Decision.{Setting}
+use Rattle.rules.specs.Answer.{matchedName}
+use Rattle.rules.specs.Laws.Resolve.{walk}
+use Rattle.rules.specs.declared.Found.{Found}
+use Rattle.rules.specs.declared.Found.the-variants.{At}
+use Rattle.answer_plan.specs.declared.Plan.{Plan}
+
+-- the name asked for: the number that it is found at, and the number of the entry with the matched name
+pub record Base (σ : Setting) (es : List Stored) (n : Name) (base : Found) (missing : ℕ) : Type 0 where
+  pub walked : walk (σ .schema) es 0 n ≡ base
+  pub matched : nameAt es missing ≡ matchedName σ (map entryOf es) n (length n - 1)
+
+-- they are numbers of the `count` entries, or the root's, 0
+pub record Numbered (count : ℕ) (base : Found) (missing : ℕ) : Type 0 where
+  pub found : (b : ℕ) → base ≡ At b → b ≤ count
+  pub matched : missing ≤ count
+
+-- the numbers of a plan are numbers of the `count` entries
+pub record Sound (count : ℕ) (r : Plan) (hs : List ℕ) : Type 0 where
+  pub name : r .name ≤ count
+  pub entry : r .entry ≤ count
+  pub shown : r .shown ≤ length hs
+  pub hits : (i : ℕ) → i < r .shown → getD hs i 0 < count

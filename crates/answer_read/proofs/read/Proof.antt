@@ -1,0 +1,42 @@
+use Prim.Native.Nat.{_-_}
+use mathlib.Core.Path.{sym, ap, _∙_}
+use denote.Ref.{now}
+use mathlib.Core.Path.{subst}
+use Rattle.rules.specs.Answer.{answer, readEntry}
+use Rattle.answer_plan.specs.declared.Plan.{Plan}
+use Rattle.answer_plan.specs.Plan.{planned}
+use Rattle.answer_plan.specs.Sound.{Sound}
+use Rattle.answer_plan.specs.Laws.Outcome.{absent-sound}
+use Rattle.answer_entry.specs.Laws.Opening.{opened-none}
+use Rattle.tables.specs.Book.{entries}
+use borrow.Author.Needs.{needs}
+use Rattle.answer_read.proofs.read.Statement.{statement}
+use Rattle.answer_read.proofs.read.Tie as tie
+use Rattle.answer_read.proofs.read.Reads as reads
+use Rattle.answer_read.proofs.read.Lts as lts
+use Rattle.answer_plan.proofs.absent.Reads as absent-reads
+use Rattle.answer_read.proofs.read_entry.Reads as read-entry-reads
+
+enum-known-base : tie.Need-enum-known-base
+enum-known-base c = search needs
+
+read-entry-requires : tie.Need-read-entry-requires
+read-entry-requires c κs = (c .before .before .before .before .before .pre .0, c .before .before .before .before .before .pre .1 .found (c .before .base .given .0 .0) (c .before .base .given .1), c .before .before .before .before .before .pre .1 .matched)
+
+enum-told : tie.Need-enum-told
+enum-told c = search needs
+
+absent-requires : tie.Need-absent-requires
+absent-requires c κs = search needs
+
+returns : tie.Need-returns
+returns c = let A = c .before .before .before .before .before .before .args in let E = entries (now (A .book)) in (c .read-entry .ensures .0, λ σ es n s hits w ch q. c .read-entry .ensures .1 σ es n (A .target .base) s hits w ch q (c .before .before .base .given .1))
+
+returns-2 : tie.Need-returns-2
+unfolding answer
+returns-2 c = let A = c .before .before .before .before .before .args in let E = entries (now (A .book)) in (λ hits. subst (λ (r : Plan). Sound E r hits) (sym (c .absent .ensures)) (absent-sound E hits 1 (A .target .missing) (c .before .before .before .before .before .pre .1 .matched)), λ σ es n s hits w ch q. ap (λ (r : Plan). planned σ es s r hits) (c .absent .ensures) ∙ opened-none σ es (w .entries .accepted) n (A .target .base) (A .target .missing) q 1 (readEntry σ s) s hits (c .before .enum-told .given .1))
+
+pub read-spec : {M : Type 1} → statement M
+read-spec =
+    tie.close
+    (tie.spec enum-known-base read-entry-requires enum-told absent-requires returns returns-2)

@@ -1,0 +1,93 @@
+use Prim.Native.Nat.{ℕ, _-_, _≤_}
+use mathlib.Core.Path.{ap, _∙_}
+use native.Mathlib.Omega.{arith}
+use denote.Ref.{now}
+use mathlib.Core.List.{List}
+use Rattle.tables.specs.Book.{width, entries, schema}
+use Rattle.rules.specs.Places.{linesAt}
+use Rattle.rules.specs.Request as Request
+use Rattle.rules.specs.Judge.{accept}
+use mathlib.Core.Path.{subst}
+use Rattle.answer_entry.specs.Laws.Whole.{none-sound, some-sound}
+use Rattle.answer_search.specs.Laws.Whole.{search-none, search-some}
+use Rattle.filter_lines.specs.Lines.{Typed}
+use borrow.Author.Needs.{needs}
+use Rattle.answer_search.proofs.search.Statement.{statement}
+use Rattle.answer_search.proofs.search.Tie as tie
+use Rattle.answer_search.proofs.search.Reads as reads
+use Rattle.answer_search.proofs.search.Lts as lts
+use Rattle.access_may.proofs.may_entry.Reads as may-entry-reads
+use Rattle.answer_entry.proofs.returned.Reads as returned-reads
+use Rattle.answer_plan.proofs.absent.Reads as absent-reads
+use Rattle.answer_search.proofs.found.Reads as found-reads
+use Rattle.filter_item.proofs.mask.mask.Reads as mask-reads
+use Rattle.filter_lines.proofs.lines.note.Reads as note-reads
+use Rattle.tables.proofs.book.schema.Reads as schema-reads
+
+enum-known-base : tie.Need-enum-known-base
+enum-known-base c = search needs
+
+enum-told : tie.Need-enum-told
+enum-told c = search needs
+
+absent-requires : tie.Need-absent-requires
+absent-requires c κs = search needs
+
+returns : tie.Need-returns
+returns c = let A = c .before .before .before .before .before .before .args in let b = now (A .book) in let K = c .before .before .before .before .before .before .pre .0 .2 .entries in (
+  none-sound (entries b) (A .target .base) (A .target .missing) (c .before .before .before .before .before .before .pre .1) _ _ 4 (c .absent .ensures),
+  λ σ es n s w q l u h. search-none σ es (w .entries .accepted) n (A .target .base) (A .target .missing) q _ _ (c .before .enum-told .given .1) s (c .absent .ensures),
+)
+
+schema-requires : tie.Need-schema-requires
+schema-requires c κs = let A = c .before .before .before .before .before .before .before .args in let b = now (A .book) in let K = c .before .before .before .before .before .before .before .pre .0 .2 .entries in K .fits
+
+element-copy-out-note : tie.Need-element-copy-out-note
+element-copy-out-note c = let A = c .before .before .before .before .before .before .before .before .args in let b = now (A .book) in let K = c .before .before .before .before .before .before .before .before .pre .0 .2 .entries in omega (arith, K .fits .size)
+
+slice-aggregate-note : tie.Need-slice-aggregate-note
+slice-aggregate-note c = search needs
+
+note-requires : tie.Need-note-requires
+note-requires c κs = let A = c .before .before .before .before .before .before .before .before .before .before .args in let b = now (A .book) in let K = c .before .before .before .before .before .before .before .before .before .before .pre .0 .2 .entries in (K .fits .wide, c .before .before .before .before .before .before .before .before .before .before .pre .3, search needs)
+
+mask-requires : tie.Need-mask-requires
+mask-requires c κs = c .before .before .note .ensures .0 .few
+
+found-requires : tie.Need-found-requires
+found-requires c κs = let A = c .before .before .before .before .before .before .before .before .before .before .before .before .before .before .before .before .args in let b = now (A .book) in let K = c .before .before .before .before .before .before .before .before .before .before .before .before .before .before .before .before .pre .0 .2 .entries in (c .before .before .before .before .before .before .before .before .before .before .before .before .before .before .before .before .pre .0, c .before .before .before .before .before .before .before .before .before .before .before .before .before .before .before .before .pre .2, c .before .before .before .before .before .note .ensures .0, (subst (λ (x : List ℕ). Typed x (c .before .before .before .before .before .note .last .1 .1 .1 .1 .0) (c .before .before .before .before .before .note .result)) (c .before .before .before .before .before .before .before .before .schema .ensures) (c .before .before .before .before .before .note .ensures .1)), c .before .before .mask .ensures)
+
+may-entry-requires : tie.Need-may-entry-requires
+may-entry-requires c κs = let A = c .before .before .before .before .before .before .before .before .before .before .before .before .before .before .before .before .before .args in let b = now (A .book) in let K = c .before .before .before .before .before .before .before .before .before .before .before .before .before .before .before .before .before .pre .0 .2 .entries in (omega (arith, K .fits .few-entries, c .before .before .before .before .before .before .before .before .before .before .before .before .before .before .before .before .before .pre .1 .found (c .before .before .before .before .before .before .before .before .before .before .before .before .base .given .0 .0) (c .before .before .before .before .before .before .before .before .before .before .before .before .base .given .1)), omega arith, (now (A .d), now (A .p), b, now (A .held), c .before .before .before .before .before .before .before .before .before .before .before .before .before .before .before .before .before .pre .0))
+
+returned-requires : tie.Need-returned-requires
+returned-requires c κs = search needs
+
+returns-2 : tie.Need-returns-2
+returns-2 c = let A = c .before .before .before .before .before .before .before .before .before .before .before .before .before .before .before .before .before .before .before .args in let b = now (A .book) in let K = c .before .before .before .before .before .before .before .before .before .before .before .before .before .before .before .before .before .before .before .pre .0 .2 .entries in let told = c .before .before .before .before .before .before .before .before .before .before .before .before .before .before .base .given in
+    let found = c .before .before .found .ensures in
+    let within : told .0 .0 ≤ entries b = c .before .before .before .before .before .before .before .before .before .before .before .before .before .before .before .before .before .before .before .pre .1 .found (told .0 .0) (told .1) in (
+      some-sound (entries b) (A .target .base) (A .target .missing) (c .before .before .before .before .before .before .before .before .before .before .before .before .before .before .before .before .before .before .before .pre .1) _ _ 4 _ _ (found .0) _ (A .limit) (c .returned .ensures),
+      λ σ es n s w q l u h.
+          search-some σ es (w .entries .accepted) n (A .target .base) (A .target .missing) q _ _ (told .0 .0) (told .1) _
+          (c .before .may-entry .ensures σ es (now (A .d)) (now (A .p)) b (now (A .held)) w (omega (arith, within, w .entries .count)))
+          _ (found .0 .room) s (A .limit) (A .subset) l u (found .1 σ es (s .filter) w (ap (λ (i : ℕ). Request.filter 16 128 (linesAt (width b) (now (A .q)) i) (λ f left rest. accept f)) (c .before .before .before .before .before .before .before .before .note .ensures .2) ∙ h)) (c .returned .ensures),
+    )
+
+pub search-spec : {M : Type 1} → statement M
+search-spec =
+    tie.close
+    (tie.spec
+    enum-known-base
+    enum-told
+    absent-requires
+    returns
+    schema-requires
+    element-copy-out-note
+    slice-aggregate-note
+    note-requires
+    mask-requires
+    found-requires
+    may-entry-requires
+    returned-requires
+    returns-2)

@@ -1,0 +1,82 @@
+-- Laws of `Hits`: the tests of the rules at an index, and the hits as indices that pass.
+use Prim.Native.Nat.{ℕ, suc, _+_, _≤_, _<_}
+use mathlib.Core.Path.{_≡_, refl, ap, _∙_}
+use mathlib.Core.Bool.{Bool, true, false, _&&_, and-assoc}
+use mathlib.Core.List.{List, map}
+use native.Mathlib.Numerals.{add-one}
+use lib.Dec.{eqb}
+use borrow.Author.Tests.{eq-eqb, ne-eqb}
+use lib.ListN.{length, getD, length-map}
+use Rattle.rules.specs.Name.{Name, sameName}
+use Rattle.rules.specs.Directory.{Stored, blank, nameAt, entryOf}
+use Rattle.rules.specs.Decision.{Setting}
+use Rattle.rules.specs.Filter.{Filter}
+use Rattle.rules.specs.Request.{Search}
+use Rattle.rules.specs.Answer as Answer
+use Rattle.rules.specs.Laws.Directory.{Accepted}
+use Rattle.rules.specs.Laws.ByNumber.{climbs}
+use Rattle.rules.specs.Laws.Hits.{withinNumber, candidate-number}
+use Rattle.rules.specs.Laws.Resolve.{walk}
+use Rattle.rules.specs.declared.Found.the-variants.{At}
+use Rattle.tables.specs.Sets.{grantedAt}
+use Rattle.answer_plan.specs.Plan.{foundLines, informationAt}
+use Rattle.answer_entry.specs.Returned.{browsableAt, returnableAt}
+use Rattle.answer_entry.specs.Passing.{passing}
+use Rattle.answer_entry.specs.Laws.Passing.{gather-passing}
+use Rattle.answer_entry.specs.Laws.Returned.{base-found, entry-at, entry-inside}
+use Rattle.filter_tree.specs.Tree.{matchesAt}
+use Rattle.answer_search.specs.Hits.{foundAt}
+
+-- ---- what the code finds of an entry
+
+module _ (es : List Stored) (subset b k : ℕ) where
+  pub within-base : subset ≡ 0 → eqb (k + 1) b ≡ withinNumber es subset b (suc k)
+  unfolding withinNumber
+  within-base e = rw (add-one k, eq-eqb subset 0 e)
+
+  pub within-children : (subset ≡ 0 → ⊥) → subset ≡ 1 → eqb (getD es k blank .parent) b ≡ withinNumber es subset b (suc k)
+  unfolding withinNumber
+  within-children h e = rw (ne-eqb subset 0 h, eq-eqb subset 1 e)
+
+  pub within-below : (subset ≡ 0 → ⊥) → (subset ≡ 1 → ⊥) → climbs es (k + 1) b (k + 1) ≡ withinNumber es subset b (suc k)
+  unfolding withinNumber
+  within-below h e = rw (add-one k, ne-eqb subset 0 h, ne-eqb subset 1 e)
+
+module _ (σ : Setting) (es : List Stored) (b subset : ℕ) (f : Filter) (k : ℕ) where
+  pub found-outside : withinNumber es subset b (suc k) ≡ false → false ≡ foundAt σ es b subset f k
+  unfolding foundAt
+  found-outside e = rw e
+
+  pub found-withheld : withinNumber es subset b (suc k) ≡ true → returnableAt σ es (k + 1) (eqb (k + 1) b) ≡ false → false ≡ foundAt σ es b subset f k
+  unfolding foundAt
+  found-withheld e h = rw (e, ← add-one k, h)
+
+  pub found-asked : withinNumber es subset b (suc k) ≡ true → returnableAt σ es (k + 1) (eqb (k + 1) b) ≡ true → matchesAt σ es f k ≡ foundAt σ es b subset f k
+  unfolding foundAt
+  found-asked e h = rw (e, ← add-one k, h)
+
+-- ---- they are the tests of the rules
+
+module _ (σ : Setting) (es : List Stored) (ok : Accepted (σ .schema) es) (n : Name) (b : ℕ) (walked : walk (σ .schema) es 0 n ≡ At b) where
+  base : (b ≤ length es) × (sameName (σ .schema) n (nameAt es b) ≡ true)
+  base = base-found σ es ok n b walked
+
+  module _ (k : ℕ) (l : k < length es) where
+    found-at : (r : Search) → Answer.found σ n r (entryOf (getD es k blank)) ≡ foundAt σ es b (r .subset) (r .filter) k
+    unfolding Answer.found foundAt matchesAt returnableAt browsableAt grantedAt
+    found-at r =
+        ap (λ (x : Bool). x && matchesAt σ es (r .filter) k) (candidate-number σ es ok n b (base .0) (base .1) k l (r .subset))
+        ∙ and-assoc (withinNumber es (r .subset) b (suc k)) (returnableAt σ es (suc k) (eqb (suc k) b)) (matchesAt σ es (r .filter) k)
+
+    found-lines : (r : Search) → Answer.searchHit σ r (entryOf (getD es k blank)) ≡ foundLines σ es (r .selection) k
+    unfolding Answer.searchHit foundLines informationAt entryOf nameAt
+    found-lines r = refl
+
+  -- the hits, by their indices
+  pub search-hits : (r : Search) → Answer.searchHits σ (map entryOf es) n r ≡ map (foundLines σ es (r .selection)) (passing (foundAt σ es b (r .subset) (r .filter)) (length es))
+  unfolding Answer.searchHits
+  search-hits r =
+      gather-passing (Answer.found σ n r) (Answer.searchHit σ r) (entryOf blank) (map entryOf es) (foundAt σ es b (r .subset) (r .filter)) (foundLines σ es (r .selection))
+      (λ k l. ap (Answer.found σ n r) (entry-at es k) ∙ found-at k (entry-inside es k l) r)
+      (λ k l e. ap (Answer.searchHit σ r) (entry-at es k) ∙ found-lines k (entry-inside es k l) r)
+      ∙ ap (λ (m : ℕ). map (foundLines σ es (r .selection)) (passing (foundAt σ es b (r .subset) (r .filter)) m)) (length-map es entryOf)

@@ -1,0 +1,150 @@
+// Search: the entries of the subset that the filter is true of, by number. The filter's lines are read once; permissions are asked before it is judged.
+use access_may::may_entry;
+use answer_entry::Target;
+use answer_entry::returnable;
+use answer_entry::returned;
+use answer_plan::Plan;
+use answer_plan::absent;
+use entry_lookup::climb::climbs;
+use filter_item::mask::mask;
+use filter_lines::lines::note;
+use filter_tree::tree::matches;
+use rules::Found;
+use tables::book::ENTRIES;
+use tables::book::PARENT;
+use tables::book::WIDTH;
+use tables::book::schema;
+use tables::sets::DISCLOSE_ON_ERROR;
+ghost use mathlib.Core.Path.{_≡_};
+ghost use mathlib.Core.List.{List, map};
+ghost use Prim.Native.Nat.{ℕ, suc, _+_, _*_, _≤_, _<_};
+ghost use lib.ListN.{length, take};
+ghost use Rattle.rules.specs.Sheet.{Bytes};
+ghost use Rattle.rules.specs.Name.{Name};
+ghost use Rattle.rules.specs.Directory.{Stored, entryOf};
+ghost use Rattle.rules.specs.Decision.{Setting};
+ghost use Rattle.rules.specs.Filter.{Filter};
+ghost use Rattle.rules.specs.Judge.{accept};
+ghost use Rattle.rules.specs.Request as Request;
+ghost use Rattle.rules.specs.Request.{Search};
+ghost use Rattle.rules.specs.Places.{linesAt};
+ghost use Rattle.rules.specs.Answer.{answer};
+ghost use Rattle.rules.specs.Laws.Hits.{withinNumber};
+ghost use Rattle.tables.specs.Book.{width, entries};
+ghost use Rattle.tables.specs.Book as Book;
+ghost use Rattle.tables.specs.World.{World, Entries, Known};
+ghost use Rattle.answer_plan.specs.Plan.{planned};
+ghost use Rattle.answer_plan.specs.Sound.{Base, Numbered, Sound};
+ghost use Rattle.answer_entry.specs.Passing.{Indices, passing};
+ghost use Rattle.filter_lines.specs.Lines.{Lines, Typed, positionAt};
+ghost use Rattle.filter_item.specs.Mask.{Masks};
+ghost use Rattle.answer_search.specs.Hits.{foundAt};
+
+// What is sought: the base's number, the subset (0 the base, 1 its children, 2 the base and all below), and of the filter how many lines it has and the
+// ranks of its types.
+pub struct Scope {
+    pub base: usize,
+    pub subset: u64,
+    pub lines: usize,
+    pub ranks: u64,
+}
+
+// Is the entry of index `k` in the subset of base number `b`?
+fn within(book: &[u64; 1353], b: usize, subset: u64, k: usize) -> bool
+    requires { ⌜ (k < entries (now book)) × ((σ : Setting) × (es : List Stored) × (d : Bytes) × (held : List ℕ) × Entries σ es d (now book) held) ⌝ }
+    ensures { λ r. ⌜ ((σ : Setting) (es : List Stored) (d : Bytes) (held : List ℕ) → Entries σ es d (now (book .entry)) held → r ≡ withinNumber es subset b (suc k)) ⌝ }
+{
+    if subset == 0 {
+        return k + 1 == b;
+    }
+    if subset == 1 {
+        return book[PARENT + k] as usize == b;
+    }
+    climbs(book, b, k + 1)
+}
+
+// Does search return the entry of index `k`? It is within the subset, may be returned, and the filter is true of it.
+fn found_at(
+    book: &[u64; 1353],
+    held: &[u64; 6345],
+    sets: &[u64; 2360],
+    d: &[u8],
+    p: &[u8],
+    q: &[u8],
+    rows: &[u64; 1596],
+    scope: Scope,
+    k: usize,
+) -> bool
+    requires { ⌜ Known (now d) (now p) (now book) (now held) (now sets) × (k < entries (now book)) × Lines (width (now book)) (now q) (now rows) (scope .lines) × Typed (Book.schema (now book)) (now rows) (scope .lines) × Masks (now rows) (scope .lines) (scope .ranks) ⌝ }
+    ensures { λ r. ⌜ ((σ : Setting) (es : List Stored) (f : Filter) → World σ es (now (d .entry)) (now (p .entry)) (now (book .entry)) (now (held .entry)) (now (sets .entry)) → Request.filter 16 128 (linesAt (width (now (book .entry))) (now (q .entry)) (positionAt (now (rows .entry)) 0)) (λ f left rest. accept f) ≡ accept f → r ≡ foundAt σ es (scope .base) (scope .subset) f k) ⌝ }
+{
+    if !within(book, scope.base, scope.subset, k) {
+        return false;
+    }
+    if !returnable(sets, k + 1, k + 1 == scope.base) {
+        return false;
+    }
+    matches(book, held, sets, d, p, q, rows, scope.lines, scope.ranks, k)
+}
+
+// Notes the indices of the entries that search returns, in order; how many they are.
+fn found(
+    book: &[u64; 1353],
+    held: &[u64; 6345],
+    sets: &[u64; 2360],
+    d: &[u8],
+    p: &[u8],
+    q: &[u8],
+    rows: &[u64; 1596],
+    scope: Scope,
+    hits: &mut [usize; 256],
+) -> usize
+    requires { ⌜ Known (now d) (now p) (now book) (now held) (now sets) × (length (now hits) ≡ 256) × Lines (width (now book)) (now q) (now rows) (scope .lines) × Typed (Book.schema (now book)) (now rows) (scope .lines) × Masks (now rows) (scope .lines) (scope .ranks) ⌝ }
+    ensures { λ n. ⌜ Indices (entries (now (book .entry))) n (now (hits .entry)) (now (hits .exit)) × ((σ : Setting) (es : List Stored) (f : Filter) → World σ es (now (d .entry)) (now (p .entry)) (now (book .entry)) (now (held .entry)) (now (sets .entry)) → Request.filter 16 128 (linesAt (width (now (book .entry))) (now (q .entry)) (positionAt (now (rows .entry)) 0)) (λ f left rest. accept f) ≡ accept f → take n (now (hits .exit)) ≡ passing (foundAt σ es (scope .base) (scope .subset) f) (length es)) ⌝ }
+{
+    let count = book[ENTRIES] as usize;
+    let mut n: usize = 0;
+    let mut k: usize = 0;
+    while k < count {
+        if found_at(book, held, sets, d, p, q, rows, scope, k) {
+            hits[n] = k;
+            n += 1;
+        }
+        k += 1;
+    }
+    n
+}
+
+// The plan of a search: the entries of the subset that may be returned and that the filter at position `filter` of `q` is true of, within the size limit.
+pub fn search(
+    book: &[u64; 1353],
+    held: &[u64; 6345],
+    sets: &[u64; 2360],
+    d: &[u8],
+    p: &[u8],
+    q: &[u8],
+    target: Target,
+    limit: u64,
+    subset: u64,
+    filter: usize,
+    hits: &mut [usize; 256],
+) -> Plan
+    requires { ⌜ Known (now d) (now p) (now book) (now held) (now sets) × Numbered (entries (now book)) (target .base) (target .missing) × (length (now hits) ≡ 256) × (length (now q) ≤ (5 * width (now book) + 1) * 265) ⌝ }
+    ensures { λ r. ⌜ Sound (entries (now (book .entry))) r (now (hits .exit)) × ((σ : Setting) (es : List Stored) (n : Name) (s : Search) → World σ es (now (d .entry)) (now (p .entry)) (now (book .entry)) (now (held .entry)) (now (sets .entry)) → Base σ es n (target .base) (target .missing) → s .limit ≡ limit → s .subset ≡ subset → Request.filter 16 128 (linesAt (width (now (book .entry))) (now (q .entry)) filter) (λ f left rest. accept f) ≡ accept (s .filter) → planned σ es (s .selection) r (now (hits .exit)) ≡ answer σ (map entryOf es) n (Request.search s)) ⌝ }
+{
+    let base = target.base;
+    let Found::At(b) = base else {
+        return absent(4, target.missing);
+    };
+    let mut rows: [u64; 1596] = [0; 1596];
+    let lines = note(schema(book), book[WIDTH] as usize, q, filter, &mut rows);
+    let scope = Scope {
+        base: b,
+        subset,
+        lines,
+        ranks: mask(&rows, lines),
+    };
+    let count = found(book, held, sets, d, p, q, &rows, scope, hits);
+    let open = may_entry(sets, b, DISCLOSE_ON_ERROR);
+    returned(4, target.missing, open, limit, count)
+}

@@ -1,0 +1,14 @@
+-- The values of the entries that are noted, each entry's in its rows.
+use Prim.Native.Nat.{ℕ, _+_, _≤_, _<_}
+use mathlib.Core.Path.{_≡_}
+use mathlib.Core.List.{List}
+use lib.ListN.{length, getD}
+use Rattle.rules.specs.Sheet.{Bytes}
+use Rattle.rules.specs.Directory.{Stored, blank}
+use Rattle.tables.specs.Held.{HeldAt}
+
+-- the values of `count` entries are in the rows that `first` tells
+pub record AllHeld (ks : List ℕ) (s : Bytes) (es : List Stored) (first held : List ℕ) (count : ℕ) : Type 0 where
+  pub table : length held ≡ 6345
+  pub below : (k : ℕ) → k ≤ count → getD first k 0 ≤ getD first count 0
+  pub values : (k : ℕ) → k < count → HeldAt ks s (getD es k blank .values) held (getD first k 0) (getD first (k + 1) 0)

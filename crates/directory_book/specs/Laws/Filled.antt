@@ -1,0 +1,173 @@
+-- Laws of `filled`: the counts and the columns of the book are the notes'.
+use Prim.Native.Nat.{ℕ, _+_, _≤_, _<_}
+use mathlib.Core.Path.{_≡_, sym, ap, _∙_}
+use mathlib.Core.List.{List}
+use native.Mathlib.Omega.{arith}
+use lib.ListN.{length, getD, take, drop, set, length-set}
+use lib.Seq.{getD-set-same, getD-set-other, getD-take, getD-drop}
+use Rattle.tables.specs.Book.{width, types, entries, schema, positions, parents, naming, lengths, firstAt}
+use Rattle.directory.specs.declared.Notes.{Notes}
+use Rattle.directory_book.specs.Filled.{put, filled}
+use Rattle.directory_book.specs.Laws.Put.{put-length, put-here, put-before, number-at}
+
+-- the notes' arrays have their lengths, and no more is counted than they hold
+pub record Fit (r : Notes) : Type 0 where
+  pub types : r .types ≤ 64
+  pub count : r .count ≤ 256
+  pub schema : length (r .schema) ≡ 64
+  pub at : length (r .at) ≡ 256
+  pub parents : length (r .parents) ≡ 256
+  pub naming : length (r .naming) ≡ 256
+  pub lengths : length (r .lengths) ≡ 256
+  pub first : length (r .first) ≡ 257
+
+-- the numbers of the notes, in the book
+pub record Copied (w : ℕ) (r : Notes) (b : List ℕ) : Type 0 where
+  pub size : length b ≡ 1353
+  pub width-is : width b ≡ w
+  pub types-are : types b ≡ r .types
+  pub entries-are : entries b ≡ r .count
+  pub schema-is : schema b ≡ take (r .types) (r .schema)
+  pub positions-are : positions b ≡ take (r .count) (r .at)
+  pub parents-are : parents b ≡ take (r .count) (r .parents)
+  pub naming-is : naming b ≡ take (r .count) (r .naming)
+  pub lengths-are : lengths b ≡ take (r .count) (r .lengths)
+  pub first-is : (k : ℕ) → k ≤ r .count → firstAt b k ≡ getD (r .first) k 0
+
+module _ (w : ℕ) (r : Notes) (b : List ℕ) (fit : Fit r) (size : length b ≡ 1353) where
+  -- ---- the book after each column
+
+  abbrev n : ℕ
+  n = r .count
+
+  abbrev b₀ : List ℕ
+  b₀ = set (set (set b 0 w) 1 (r .types)) 2 n
+
+  abbrev b₁ : List ℕ
+  b₁ = put b₀ 8 (r .schema) (r .types)
+
+  abbrev b₂ : List ℕ
+  b₂ = put b₁ 72 (r .at) n
+
+  abbrev b₃ : List ℕ
+  b₃ = put b₂ 328 (r .parents) n
+
+  abbrev b₄ : List ℕ
+  b₄ = put b₃ 584 (r .naming) n
+
+  abbrev b₅ : List ℕ
+  b₅ = put b₄ 840 (r .lengths) n
+
+  size₀ : length b₀ ≡ 1353
+  size₀ = simp length-set size
+
+  size₁ : length b₁ ≡ 1353
+  size₁ = put-length b₀ 8 (r .schema) (r .types) (omega (arith, size₀)) (omega arith) ∙ size₀
+
+  size₂ : length b₂ ≡ 1353
+  size₂ = put-length b₁ 72 (r .at) n (omega (arith, size₁)) (omega arith) ∙ size₁
+
+  size₃ : length b₃ ≡ 1353
+  size₃ = put-length b₂ 328 (r .parents) n (omega (arith, size₂)) (omega arith) ∙ size₂
+
+  size₄ : length b₄ ≡ 1353
+  size₄ = put-length b₃ 584 (r .naming) n (omega (arith, size₃)) (omega arith) ∙ size₃
+
+  size₅ : length b₅ ≡ 1353
+  size₅ = put-length b₄ 840 (r .lengths) n (omega (arith, size₄)) (omega arith) ∙ size₄
+
+  size₆ : length (filled w r b) ≡ 1353
+  unfolding filled
+  size₆ = put-length b₅ 1096 (r .first) (n + 1) (omega (arith, size₅)) (omega arith) ∙ size₅
+
+  -- ---- a part before the columns that come later
+
+  before₁ : (j m : ℕ) → j + m ≤ 8 → take m (drop j b₁) ≡ take m (drop j b₀)
+  before₁ j m h = put-before b₀ 8 (r .schema) (r .types) (omega (arith, size₀)) (omega arith) j m h
+
+  before₂ : (j m : ℕ) → j + m ≤ 72 → take m (drop j b₂) ≡ take m (drop j b₁)
+  before₂ j m h = put-before b₁ 72 (r .at) n (omega (arith, size₁)) (omega arith) j m h
+
+  before₃ : (j m : ℕ) → j + m ≤ 328 → take m (drop j b₃) ≡ take m (drop j b₂)
+  before₃ j m h = put-before b₂ 328 (r .parents) n (omega (arith, size₂)) (omega arith) j m h
+
+  before₄ : (j m : ℕ) → j + m ≤ 584 → take m (drop j b₄) ≡ take m (drop j b₃)
+  before₄ j m h = put-before b₃ 584 (r .naming) n (omega (arith, size₃)) (omega arith) j m h
+
+  before₅ : (j m : ℕ) → j + m ≤ 840 → take m (drop j b₅) ≡ take m (drop j b₄)
+  before₅ j m h = put-before b₄ 840 (r .lengths) n (omega (arith, size₄)) (omega arith) j m h
+
+  before₆ : (j m : ℕ) → j + m ≤ 1096 → take m (drop j (filled w r b)) ≡ take m (drop j b₅)
+  unfolding filled
+  before₆ j m h = put-before b₅ 1096 (r .first) (n + 1) (omega (arith, size₅)) (omega arith) j m h
+
+  -- ---- the columns
+
+  lengths-at : take n (drop 840 (filled w r b)) ≡ take n (r .lengths)
+  lengths-at = before₆ 840 n (omega arith) ∙ put-here b₄ 840 (r .lengths) n (omega (arith, size₄)) (omega arith)
+
+  naming-at : take n (drop 584 (filled w r b)) ≡ take n (r .naming)
+  naming-at = before₆ 584 n (omega arith) ∙ before₅ 584 n (omega arith) ∙ put-here b₃ 584 (r .naming) n (omega (arith, size₃)) (omega arith)
+
+  parents-at : take n (drop 328 (filled w r b)) ≡ take n (r .parents)
+  parents-at =
+      before₆ 328 n (omega arith) ∙ before₅ 328 n (omega arith) ∙ before₄ 328 n (omega arith)
+      ∙ put-here b₂ 328 (r .parents) n (omega (arith, size₂)) (omega arith)
+
+  -- a part before the columns of the entries, and those after the positions
+  head-at : (j m : ℕ) → j + m ≤ 328 → take m (drop j (filled w r b)) ≡ take m (drop j b₂)
+  head-at j m h = before₆ j m (omega arith) ∙ before₅ j m (omega arith) ∙ before₄ j m (omega arith) ∙ before₃ j m h
+
+  positions-at : take n (drop 72 (filled w r b)) ≡ take n (r .at)
+  positions-at = head-at 72 n (omega arith) ∙ put-here b₁ 72 (r .at) n (omega (arith, size₁)) (omega arith)
+
+  schema-at : take (r .types) (drop 8 (filled w r b)) ≡ take (r .types) (r .schema)
+  schema-at =
+      head-at 8 (r .types) (omega arith) ∙ before₂ 8 (r .types) (omega arith)
+      ∙ put-here b₀ 8 (r .schema) (r .types) (omega (arith, size₀)) (omega arith)
+
+  first-at : (k : ℕ) → k ≤ n → firstAt (filled w r b) k ≡ getD (r .first) k 0
+  unfolding filled
+  first-at k h =
+      sym (getD-take (n + 1) (drop 1096 (filled w r b)) k 0 (omega arith) ∙ getD-drop 1096 (filled w r b) k 0)
+      ∙ ap (λ (x : List ℕ). getD x k 0) (put-here b₅ 1096 (r .first) (n + 1) (omega (arith, size₅)) (omega arith))
+      ∙ getD-take (n + 1) (r .first) k 0 (omega arith)
+
+  -- ---- the counts
+
+  count-at : (k : ℕ) → k < 8 → getD (filled w r b) k 0 ≡ getD b₀ k 0
+  count-at k h =
+      sym (number-at (filled w r b) k)
+      ∙ ap (λ (x : List ℕ). getD x 0 0) (head-at k 1 (omega arith) ∙ before₂ k 1 (omega arith) ∙ before₁ k 1 (omega arith))
+      ∙ number-at b₀ k
+
+  width-at : width (filled w r b) ≡ w
+  width-at =
+      count-at 0 (omega arith)
+      ∙ getD-set-other (set (set b 0 w) 1 (r .types)) 2 0 n 0 (λ e. omega arith)
+      ∙ getD-set-other (set b 0 w) 1 0 (r .types) 0 (λ e. omega arith)
+      ∙ getD-set-same b 0 w 0 (omega arith)
+
+  types-at : types (filled w r b) ≡ r .types
+  types-at =
+      count-at 1 (omega arith)
+      ∙ getD-set-other (set (set b 0 w) 1 (r .types)) 2 1 n 0 (λ e. omega arith)
+      ∙ getD-set-same (set b 0 w) 1 (r .types) 0 (simp length-set (omega arith))
+
+  entries-at : entries (filled w r b) ≡ n
+  entries-at = count-at 2 (omega arith) ∙ getD-set-same (set (set b 0 w) 1 (r .types)) 2 n 0 (simp length-set (omega arith))
+
+  pub copied : Copied w r (filled w r b)
+  unfolding schema positions parents naming lengths
+  copied = record {
+    size = size₆;
+    width-is = width-at;
+    types-are = types-at;
+    entries-are = entries-at;
+    schema-is = rw types-at schema-at;
+    positions-are = rw entries-at positions-at;
+    parents-are = rw entries-at parents-at;
+    naming-is = rw entries-at naming-at;
+    lengths-are = rw entries-at lengths-at;
+    first-is = first-at;
+  }

@@ -1,0 +1,56 @@
+-- Laws of `put`: the loop that copies, the column that is put, and what stands beside it.
+use Prim.Native.Nat.{ℕ, _+_, _≤_, _<_}
+use mathlib.Core.Path.{_≡_, sym, ap, _∙_}
+use mathlib.Core.List.{List, _++_, append-assoc}
+use native.Mathlib.Numerals.{add-one}
+use native.Mathlib.Omega.{arith}
+use lib.ListN.{length, getD, take, drop, set, length-drop, take-append-drop}
+use lib.Seq.{paste-zero, paste-suc, length-paste, length-take-le, take-append-le, drop-append-le, drop-at, take-at, getD-take, getD-drop}
+use Rattle.directory_book.specs.Filled.{put}
+
+-- ---- the loop that copies
+
+pub put-start : (b : List ℕ) (at : ℕ) (column : List ℕ) → b ≡ put b at column 0
+unfolding put
+put-start b at column = paste-zero b at column
+
+pub put-on : (b : List ℕ) (at : ℕ) (column : List ℕ) (i : ℕ) {now : List ℕ} → now ≡ put b at column i → at + i < length b → i < length column
+    → set now (at + i) (getD column i 0) ≡ put b at column (i + 1)
+unfolding put
+put-on b at column i e h l = ap (λ (x : List ℕ). set x (at + i) (getD column i 0)) e ∙ rw add-one (paste-suc b at column i 0 h l)
+
+-- ---- a part of the table
+
+part-front : (p q : List ℕ) (j m : ℕ) → j + m ≤ length p → take m (drop j (p ++ q)) ≡ take m (drop j p)
+part-front p q j m h =
+    ap (take m) (drop-append-le j p q (omega arith))
+    ∙ take-append-le m (drop j p) q (simp length-drop (omega arith))
+
+module _ (b : List ℕ) (at : ℕ) (column : List ℕ) (n : ℕ) (room : at + n ≤ length b) (enough : n ≤ length column) where
+  pub put-length : length (put b at column n) ≡ length b
+  unfolding put
+  put-length = length-paste b at column n room enough
+
+  front-length : length (take at b) ≡ at
+  front-length = length-take-le at b (omega arith)
+
+  -- the column
+  pub put-here : take n (drop at (put b at column n)) ≡ take n column
+  unfolding put
+  put-here =
+      ap (λ (x : List ℕ). take n (drop at x)) (append-assoc (take at b) (take n column) (drop (at + n) b))
+      ∙ ap (take n) (drop-at (take at b) (take n column ++ drop (at + n) b) at front-length)
+      ∙ take-at (take n column) (drop (at + n) b) n (length-take-le n column enough)
+
+  -- a part before it
+  pub put-before : (j m : ℕ) → j + m ≤ at → take m (drop j (put b at column n)) ≡ take m (drop j b)
+  unfolding put
+  put-before j m h =
+      ap (λ (x : List ℕ). take m (drop j x)) (append-assoc (take at b) (take n column) (drop (at + n) b))
+      ∙ part-front (take at b) (take n column ++ drop (at + n) b) j m (omega (arith, front-length))
+      ∙ sym (part-front (take at b) (drop at b) j m (omega (arith, front-length)))
+      ∙ ap (λ (x : List ℕ). take m (drop j x)) (take-append-drop at b)
+
+-- one number as a part
+pub number-at : (b : List ℕ) (k : ℕ) → getD (take 1 (drop k b)) 0 0 ≡ getD b k 0
+number-at b k = let e : k + 0 ≡ k = omega arith in getD-take 1 (drop k b) 0 0 (omega arith) ∙ rw e at (getD-drop k b 0 0)

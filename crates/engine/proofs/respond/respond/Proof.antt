@@ -1,0 +1,62 @@
+use Rattle.engine.specs.Laws.Respond.{numbered-of, base-of}
+use Prim.Native.Nat.{_-_}
+use mathlib.Core.Path.{ap}
+use lib.ListN.{length}
+use denote.Ref.{now}
+use mathlib.Core.List.{List}
+use Rattle.rules.specs.Sheet.{Line, print}
+use Rattle.rules.specs.Serve.{fitting}
+use Rattle.tables.specs.Book.{width, entries}
+use Rattle.answer_choice.specs.Selected.{selectionOf}
+use Rattle.answer_choice.specs.Laws.Selected.{selection-noted}
+use Rattle.engine.specs.Laws.Serve.{replies-same}
+use Rattle.engine.specs.Laws.Respond.{numbered-of, base-of}
+use borrow.Author.Needs.{needs}
+use Rattle.engine.proofs.respond.respond.Statement.{statement}
+use Rattle.engine.proofs.respond.respond.Tie as tie
+use Rattle.engine.proofs.respond.respond.Reads as reads
+use Rattle.engine.proofs.respond.respond.Lts as lts
+use Rattle.answer_choice.proofs.choice_of.Reads as choice-of-reads
+use Rattle.answer_matched.proofs.matched.Reads as matched-reads
+use Rattle.answer_operation.proofs.plan_of.Reads as plan-of-reads
+use Rattle.answer_print.proofs.write.Reads as write-reads
+use Rattle.entry_lookup.proofs.find.resolve.Reads as resolve-reads
+
+resolve-requires : tie.Need-resolve-requires
+resolve-requires c κs = search needs
+
+matched-requires : tie.Need-matched-requires
+matched-requires c κs = search needs
+
+choice-of-requires : tie.Need-choice-of-requires
+choice-of-requires c κs = search needs
+
+plan-of-requires : tie.Need-plan-of-requires
+plan-of-requires c κs = let A = c .before .before .before .before .before .before .before .before .args in let b = now (A .book) in (c .before .before .before .before .before .before .before .before .pre .0, numbered-of (entries b) _ _ (c .before .before .before .resolve .ensures .0) (c .before .before .matched .ensures .0), search needs, c .before .before .before .before .before .before .before .before .pre .1)
+
+write-requires : tie.Need-write-requires
+write-requires c κs = (c .before .before .before .before .before .before .before .before .before .before .before .pre .0, c .before .before .plan-of .ensures .0)
+
+same-length : tie.Need-same-length
+same-length c = search needs
+
+returns : tie.Need-returns
+returns c = let A = c .before .before .before .before .before .before .before .before .before .before .before .before .before .before .args in let b = now (A .book) in λ σ es x w N.
+    let B = base-of σ es (width b) (now (A .q)) (x .base) (A .asked .base) (A .asked .«base_parts») (N .base) (c .before .before .before .before .before .before .before .before .before .resolve .result) (c .before .before .before .before .before .before .before .before .matched .result)
+    (c .before .before .before .before .before .before .before .before .before .resolve .ensures .1 σ es (now (A .held)) (w .entries))
+    (c .before .before .before .before .before .before .before .before .matched .ensures .1 σ es (now (A .p)) (now (A .held)) (x .base) w (N .base .parts) (N .base .count) .1) in
+    let ch = c .before .before .before .before .before .before .before .choice-of .ensures (selectionOf (x .operation)) (selection-noted (width b) (now (A .q)) (A .asked) (x .operation) (N .operation)) in
+    replies-same (ap (λ (ls : List Line). fitting (length (now (A .out))) (print (width b) ls)) (c .before .before .before .before .before .plan-of .ensures .1 σ es x w N ch B))
+    (c .before .before .write .ensures σ es (selectionOf (x .operation)) w ch)
+
+pub respond-spec : {M : Type 1} → statement M
+respond-spec =
+    tie.close
+    (tie.spec
+    resolve-requires
+    matched-requires
+    choice-of-requires
+    plan-of-requires
+    write-requires
+    same-length
+    returns)

@@ -1,0 +1,3 @@
+pub mod Serve
+pub mod Refusals
+pub mod Respond

@@ -1,0 +1,87 @@
+-- The refusals of a directory are not 0, so that 0 tells an accepted one.
+use Prim.Native.Nat.{ℕ, _<_}
+use mathlib.Core.Path.{_≡_, refl, sym, _∙_}
+use mathlib.Core.Bool.{Bool, true, false, not, _||_, cond}
+use mathlib.Core.List.{List, []}
+use mathlib.Core.Option.{Option, none, some}
+use native.Mathlib.Omega.{arith}
+use lib.Dec.{ltb, leb, eqb}
+use lib.ListN.{length}
+use Rattle.rules.specs.Lists.{isEmpty, any, lastOr}
+use Rattle.rules.specs.Name.{part, allowed, samePart}
+use Rattle.rules.specs.Sheet.{Bytes, Line, Sheet, end, broken, row, lines}
+use Rattle.rules.specs.Columns.{inForm, directoryForms}
+use Rattle.rules.specs.Judge.{Verdict, accept, refuse, refusalOf, refuseIf, then, fold}
+use Rattle.rules.specs.Directory.{Stored, Directory, Reading, directoryOf, step, finish, nothing, typeLine, entryLine, valueLine, lacksNaming, entriesOf, lastType, newEntry, clashes}
+use Rattle.directory.specs.Judged as Directories
+use Rattle.directory.specs.declared.Notes.{Notes}
+
+-- the verdict refuses with no 0
+abbrev Told : {A : Type 0} → Verdict A → Type 0
+Told v = refusalOf v ≡ 0 → (a : _) × (v ≡ accept a)
+
+told-if : {A : Type 0} (b : Bool) (n : ℕ) (v : Verdict A) → 0 < n → Told v → Told (refuseIf b n v)
+told-if true n v h t e = absurd (omega arith)
+told-if false n v h t e = t e
+
+told-accept : {A : Type 0} (a : A) → Told (accept a)
+told-accept a e = (a, refl)
+
+told-then : {A B : Type 0} (v : Verdict A) (next : A → Verdict B) → Told v → ((a : A) → Told (next a)) → Told (then v next)
+told-then (accept a) next t u e = u a e
+told-then (refuse n) next t u e = let r = t e in absurd (let z : _≡_ {A = ℕ} 0 1 = cc in omega arith)
+
+told-value : (st : Reading) (o : Option Stored) (x : Line) → Told (valueLine st o x)
+unfolding valueLine
+told-value st none x = λ e. absurd (let z : 3 ≡ 0 = e in omega arith)
+told-value st (some e) x =
+    go (ltb (x .a) ((lastOr (part 0 []) (e .values)) .type)) (not (allowed (st .schema) (x .a) (x .bytes))) (any (samePart (st .schema) (part (x .a) (x .bytes))) (e .values)) _
+  where
+    go : {A : Type 0} (b c d : Bool) (r : A) → Told (refuseIf b 3 (refuseIf c 4 (refuseIf d 5 (accept r))))
+    go b c d r = told-if b 3 _ (omega arith) (told-if c 4 _ (omega arith) (told-if d 5 _ (omega arith) (told-accept r)))
+
+told-type : (st : Reading) (x : Line) → Told (typeLine st x)
+unfolding typeLine
+told-type st x = told-if (not (isEmpty (entriesOf st)) || (leb (x .a) (lastType (st .schema)) || leb 64 (length (st .schema)))) 3 _ (omega arith) (told-accept _)
+
+told-entry : (st : Reading) (x : Line) → Told (entryLine st x)
+unfolding entryLine
+told-entry st x =
+    go (ltb (length (entriesOf st)) (x .a)) (lacksNaming (st .schema) (st .current)) (leb 256 (length (entriesOf st)) || ltb 8 (length (newEntry (entriesOf st) x .name)))
+    (not (allowed (st .schema) (x .b) (x .bytes))) (clashes (st .schema) (entriesOf st) (newEntry (entriesOf st) x .parent) (newEntry (entriesOf st) x .naming)) _
+  where
+    go : {A : Type 0} (a b c d e : Bool) (r : A) → Told (refuseIf a 2 (refuseIf b 6 (refuseIf c 3 (refuseIf d 4 (refuseIf e 5 (accept r))))))
+    go a b c d e r =
+        told-if a 2 _ (omega arith) (told-if b 6 _ (omega arith) (told-if c 3 _ (omega arith) (told-if d 4 _ (omega arith) (told-if e 5 _ (omega arith) (told-accept r)))))
+
+told-step : (st : Reading) (x : Line) → Told (step st x)
+unfolding step
+told-step st x = told-if (not (inForm directoryForms x)) 2 _ (omega arith) (go (eqb (x .kind) 1) (eqb (x .kind) 2))
+  where
+    go : (b c : Bool) → Told (cond b (typeLine st x) (cond c (entryLine st x) (valueLine st (st .current) x)))
+    go true c = told-type st x
+    go false true = told-entry st x
+    go false false = told-value st (st .current) x
+
+told-fold : (s : Sheet) (st : Reading) → Told (fold step finish 2 st s)
+unfolding fold finish
+told-fold end st = told-if (lacksNaming (st .schema) (st .current)) 6 _ (omega arith) (told-accept _)
+told-fold broken st = λ e. absurd (let z : 2 ≡ 0 = e in omega arith)
+told-fold (row x rest) st = told-then (step st x) (λ next. fold step finish 2 next rest) (told-step st x) (λ next. told-fold rest next)
+
+told-directory : (w : ℕ) (s : Bytes) → Told (directoryOf w s)
+unfolding directoryOf
+told-directory w s = told-if (ltb 65536 (length s)) 1 _ (omega arith) (told-fold (lines w s) nothing)
+
+module _ (w : ℕ) (s : Bytes) (r : Notes) {held : List ℕ} (j : Directories.Judged w s r held) where
+  -- a refusal is the one that the rules give
+  pub directory-refused : (r .refusal ≡ 0 → ⊥) → directoryOf w s ≡ refuse (r .refusal)
+  directory-refused n = by (directoryOf w s) (j .refusal)
+    where
+      by : (v : Verdict Directory) → r .refusal ≡ refusalOf v → v ≡ refuse (r .refusal)
+      by (accept x) e = absurd (n e)
+      by (refuse m) e = rw e
+
+  -- without one, the directory that the rules accept is noted
+  pub directory-accepted : r .refusal ≡ 0 → (x : Directory) × (directoryOf w s ≡ accept x) × Directories.Noted w s x r held
+  directory-accepted z = let a = told-directory w s (sym (j .refusal) ∙ z) in (a .0, a .1, j .noted (a .0) (a .1))

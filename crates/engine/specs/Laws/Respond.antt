@@ -1,0 +1,131 @@
+-- Laws for an accepted request: from what is noted of it to the reply.
+use Prim.Native.Nat.{ℕ, _+_, _-_, _≤_}
+use mathlib.Core.Path.{_≡_, refl, sym, ap, _∙_, subst}
+use mathlib.Core.List.{List, _++_, map}
+use native.Mathlib.Omega.{arith}
+use lib.ListN.{length, getD, take, replicate, length-replicate}
+use lib.Seq.{take-append-seam, length-take-le}
+use Rattle.rules.specs.Sheet.{Bytes, print}
+use Rattle.rules.specs.Name.{Name}
+use Rattle.rules.specs.Judge.{accept}
+use Rattle.rules.specs.Directory.{Stored, Directory, directoryOf, entries, entryOf, nameAt}
+use Rattle.rules.specs.Permission.{Item}
+use Rattle.rules.specs.Decision.{Setting, Requester}
+use Rattle.rules.specs.Request.{Request}
+use Rattle.rules.specs.Answer.{answer, matchedName}
+use Rattle.rules.specs.Serve.{settingOf, fitting, respond}
+use Rattle.rules.specs.Places.{linesAt, partsOf}
+use Rattle.rules.specs.Laws.First.{Ranked}
+use Rattle.rules.specs.Laws.Resolve.{walk}
+use Rattle.rules.specs.Laws.Reach.{reachOf}
+use Rattle.rules.specs.declared.Found.{Found}
+use Rattle.request.specs.Noted as Requests
+use Rattle.request.specs.declared.Asked.{Asked}
+use Rattle.tables.specs.Book as Book
+use Rattle.schema.specs.Schema.{Rising}
+use Rattle.directory.specs.declared.Notes.{Notes}
+use Rattle.directory.specs.Judged as Directories
+use Rattle.directory_book.specs.Filled.{filled, StandsFor}
+use Rattle.directory_book.specs.Laws.Filled.{Copied, copied}
+use Rattle.tables.specs.Sets.{Rights}
+use Rattle.tables.specs.World.{Entries, World}
+use Rattle.tables.specs.Laws.Book.{parents-length, parent-at}
+use Rattle.tables.specs.Laws.World.{parent-is}
+use Rattle.entry_lookup.specs.Find.{UpTo}
+use Rattle.entry_lookup.specs.Laws.Find.{up-to}
+use Rattle.access_scope.specs.Scopes.{Asker}
+use Rattle.access_scope.specs.declared.Requester as Scopes
+use Rattle.access_items.specs.Sorted.{Sorted}
+use Rattle.access_items.specs.Laws.Rank.{ranked-front}
+use Rattle.access_covers.specs.Reached.{Reached}
+use Rattle.answer_plan.specs.Sound.{Base, Numbered}
+use Rattle.engine.specs.Judges.{DirectoryAt}
+
+pub numbered-of : (n : ℕ) (base : Found) (missing : ℕ) → UpTo n base → missing ≤ n → Numbered n base missing
+numbered-of n base missing u h = record { found = λ b e. up-to n base b u e; matched = h }
+
+-- ---- the name asked for
+
+module _ (σ : Setting) (es : List Stored) (w : ℕ) (q : Bytes) (n : Name) (place parts : ℕ) (noted : Requests.NotedName w q n place parts) where
+  pub base-of : (base : Found) (missing : ℕ) → base ≡ walk (σ .schema) es 0 (partsOf parts (linesAt w q place)) → nameAt es missing ≡ matchedName σ (map entryOf es) n (parts - 1)
+      → Base σ es n base missing
+  base-of base missing e m = record {
+    walked = ap (λ (k : Name). walk (σ .schema) es 0 k) (sym (noted .parts)) ∙ sym e;
+    matched = m ∙ ap (λ (k : ℕ). matchedName σ (map entryOf es) n (k - 1)) (sym (noted .count));
+  }
+
+-- ---- the requester
+
+pub asker-of : (σ : Setting) (w : ℕ) (q : Bytes) (y : Request) (a : Asked) → σ .requester ≡ y .requester → Requests.Noted w q y a
+    → Asker σ w q (record { level = a .level; place = a .requester; parts = a .«requester_parts» })
+asker-of σ w q y a u n = record {
+  level-is = ap (λ (r : Requester). r .level) u ∙ sym (n .level);
+  name-is = n .requester .parts ∙ ap (λ (r : Requester). r .name) (sym u);
+  parts-are = sym (n .requester .count) ∙ ap (λ (r : Requester). length (r .name)) (sym u);
+}
+
+-- ---- the items that are for the requester
+
+pub reached-of : {σ : Setting} {es : List Stored} {d : Bytes} {book held : List ℕ} → Entries σ es d book held → (w : ℕ) (p : Bytes) (rights scopes order parents : List ℕ) {reach : List ℕ}
+    → parents ≡ Book.parents book → Sorted w p (σ .items) rights scopes order → reach ≡ map (reachOf σ es) (σ .items) → Reached σ es reach order parents
+reached-of {σ} {es} {book = book} E w p rights scopes order parents q s r = record {
+  accepted = E .accepted;
+  few = omega (arith, E .count, E .fits .few-entries);
+  few-items = s .table .few;
+  reach-is = r;
+  ranked = s .ranked;
+  count = s .count;
+  parents-noted = ap length q ∙ parents-length (E .fits) ∙ E .count;
+  parent = λ k l. ap (λ (x : List ℕ). getD x k 0) q ∙ parent-at book k (omega (arith, l, E .count)) ∙ parent-is E k (omega (arith, l, E .count));
+}
+
+-- a part that was lent and given back, taken again
+pub front-again : (x rest : List ℕ) (n : ℕ) → length x ≡ n → take (n - 0) (x ++ rest) ≡ x
+front-again x rest n e = let z : n - 0 ≡ length x = omega (arith, e) in rw (z, take-append-seam x rest)
+
+pub cut-count : (n : ℕ) (l : List ℕ) → n ≤ length l → length (take (n - 0) l) ≡ n
+cut-count n l h = let z : n - 0 ≡ n = omega arith in rw z (length-take-le n l h)
+
+pub respond-is : (w : ℕ) (x : Directory) (is : List Item) (y : Request) (room : ℕ)
+    → fitting room (print w (answer (settingOf x is (y .requester)) (map entryOf (x .entries)) (y .base) (y .operation))) ≡ respond w x is y room
+unfolding respond entries
+respond-is w x is y room = refl
+
+-- ---- the tables
+
+-- the filled book stands for the directory that was judged
+module _ (w : ℕ) (d : Bytes) (x : Directory) (r : Notes) (held b book : List ℕ) (ok : directoryOf w d ≡ accept x) (noted : Directories.Noted w d x r held)
+    (size : length b ≡ 1353) (is : book ≡ filled w r b) where
+  copy : Copied w r book
+  copy = subst (Copied w r) (sym is) (copied w r b (record {
+    types = noted .types;
+    count = noted .most;
+    schema = noted .schema-length;
+    at = noted .at-length;
+    parents = noted .parents-length;
+    naming = noted .naming-length;
+    lengths = noted .lengths-length;
+    first = noted .first-length;
+  }) size)
+
+  pub directory-at : StandsFor w r book → DirectoryAt d x book held
+  directory-at stands = record { entries = λ σ e. stands σ d x held ok noted e; rising = subst (Rising 0) (sym (copy .schema-is)) (noted .rising) }
+
+  pub width-is : Book.width book ≡ w
+  width-is = copy .width-is
+
+-- the sets stand for what the requester may
+pub world-of : {σ : Setting} {es : List Stored} {d p : Bytes} {book held : List ℕ} (schema sets : List ℕ) → Entries σ es d book held → length sets ≡ 2360 → schema ≡ Book.schema book
+    → Rights σ es schema p sets → World σ es d p book held sets
+world-of {σ} {es} {p = p} schema sets E size s rights = record { entries = E; size = size; rights = subst (λ (x : List ℕ). Rights σ es x p sets) s rights }
+
+-- the numbers of the items in order, as far as there are items
+pub order-front : (is : List Item) (order : List ℕ) (n : ℕ) → Ranked is order → n ≡ length is → length order ≡ 256 → length is ≤ 256
+    → Ranked is (take (n - 0) order) × (length (take (n - 0) order) ≡ length is)
+order-front is order n ranked e size few =
+    let z : n - 0 ≡ length is = omega (arith, e) in
+    rw z (ranked-front is order ranked, length-take-le (length is) order (omega (arith, size, few)))
+
+-- a cleared table has its length
+pub cleared : (n : ℕ) → length {A = ℕ} (replicate n 0) ≡ n
+cleared n = length-replicate {A = ℕ} n 0

@@ -1,0 +1,4 @@
+pub mod Names
+pub mod Entry
+pub mod Find
+pub mod Climb

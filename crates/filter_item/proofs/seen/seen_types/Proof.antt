@@ -1,0 +1,60 @@
+use mathlib.Core.Path.{_≡_, subst}
+use native.Mathlib.Omega.{arith}
+use Prim.Native.Nat.{ℕ, _-_, _≤_, _<_}
+use mathlib.Core.List.{List}
+use lib.ListN.{length}
+use Rattle.rules.specs.Sheet.{Bytes}
+use Rattle.rules.specs.Directory.{Stored}
+use Rattle.rules.specs.Decision.{Setting}
+use Rattle.tables.specs.Book.{schema}
+use Rattle.tables.specs.World.{World}
+use Rattle.filter_item.specs.Seen.{SeenTypes}
+use Rattle.filter_item.specs.Laws.Seen.{Clear, clear-none, clear-on, types-none, types-on}
+use borrow.Author.Needs.{needs}
+use Rattle.filter_item.proofs.seen.seen_types.Statement.{statement}
+use Rattle.filter_item.proofs.seen.seen_types.Tie as tie
+use Rattle.filter_item.proofs.seen.seen_types.Reads as reads
+use Rattle.filter_item.proofs.seen.seen_types.Lts as lts
+use Rattle.filter_item.proofs.seen.bit_if.Reads as bit-if-reads
+use Rattle.filter_item.proofs.seen.type_seen.Reads as type-seen-reads
+
+abbrev Inv-loop : tie.InvT-loop
+Inv-loop sets n e asked x₀ r₀ x r = (r ≤ n) × Clear x r × ((σ : Setting) (es : List Stored) (d p : Bytes) (book held : List ℕ) → World σ es d p book held sets → e ≤ length es → n ≤ length (schema book) → SeenTypes σ es book e asked r x)
+
+abbrev μ-loop : tie.MeasureT-loop
+μ-loop sets n e asked x₀ r₀ x r = n - r
+
+loop-holds : tie.Need-loop-holds Inv-loop μ-loop
+loop-holds c = (omega arith, clear-none, λ σ es d p book held w l m. types-none σ es book (c .args .e) (c .args .asked))
+
+type-seen-requires : tie.Need-type-seen-requires Inv-loop μ-loop
+type-seen-requires c κs = let n = c .before .before .pre .1 in let t = c .loop-test .taken in (c .before .before .pre .0, omega (arith, n, t), c .before .before .pre .2)
+
+bit-if-requires : tie.Need-bit-if-requires Inv-loop μ-loop
+bit-if-requires c κs = search needs
+
+add-r : tie.Need-add-r Inv-loop μ-loop
+add-r c = search needs
+
+loop-less : tie.Need-loop-less Inv-loop μ-loop
+loop-less c = search needs
+
+loop-again : tie.Need-loop-again Inv-loop μ-loop
+loop-again c = let r = c .before .before .before .loop .r in let s : r < 64 = omega (arith, c .before .before .before .before .pre .1, c .before .before .loop-test .taken) in (omega (arith, c .before .before .loop-test .taken), clear-on (c .before .before .before .loop .x) (c .bit-if .result) (c .before .type-seen .result) r s (c .bit-if .ensures) (c .before .before .before .loop .inv .1), λ σ es d p book held w l m. types-on (c .before .before .before .loop .x) (c .bit-if .result) (c .before .type-seen .result) r s (c .bit-if .ensures) σ es book (c .before .before .before .before .args .e) (c .before .before .before .before .args .asked) (c .before .before .before .loop .inv .1) (c .before .type-seen .ensures σ es d p book held w l (omega (arith, m, c .before .before .loop-test .taken))) (c .before .before .before .loop .inv .2 σ es d p book held w l m))
+
+returns : tie.Need-returns Inv-loop μ-loop
+returns c = λ σ es d p book held w l m. let z : c .before .loop .r ≡ c .before .before .args .n = omega (arith, c .before .loop .inv .0, c .loop-test .left) in subst (λ (r : ℕ). SeenTypes σ es book (c .before .before .args .e) (c .before .before .args .asked) r (c .before .loop .x)) z (c .before .loop .inv .2 σ es d p book held w l m)
+
+pub seen-types-spec : {M : Type 1} → statement M
+seen-types-spec =
+    tie.close
+    (tie.spec
+    Inv-loop
+    μ-loop
+    loop-holds
+    type-seen-requires
+    bit-if-requires
+    add-r
+    loop-less
+    loop-again
+    returns)

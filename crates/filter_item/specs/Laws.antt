@@ -1,0 +1,6 @@
+pub mod Bits
+pub mod Seen
+pub mod Mask
+pub mod Rows
+pub mod Items
+pub mod Entry

@@ -1,0 +1,38 @@
+-- Laws of `Rows`: a law for each way through the code.
+use Prim.Native.Nat.{ℕ, suc, _+_, _-_, _/_, _%_, _^_, _≤_, _<_}
+use mathlib.Core.Path.{_≡_, ap, _∙_}
+use mathlib.Core.Bool.{Bool, true, false, _||_}
+use mathlib.Core.List.{List}
+use native.Mathlib.Numerals.{add-one}
+use native.Mathlib.Omega.{arith}
+use lib.Dec.{eqb}
+use lib.ListN.{getD}
+use borrow.Author.Tests.{eq-eqb, ne-eqb}
+use Rattle.access_set.specs.Member.{bit}
+use Rattle.tables.specs.Held.{rankAt}
+use Rattle.filter_item.specs.Seen.{bitAt}
+use Rattle.filter_item.specs.Rows.{someFrom, seenAt}
+
+module _ (held values : List ℕ) (first rank i : ℕ) where
+  pub seen-other : (rankAt held i ≡ rank → ⊥) → false ≡ seenAt held values first rank i
+  unfolding seenAt
+  seen-other d = rw (ne-eqb (rankAt held i) rank d)
+
+  pub seen-same : rankAt held i ≡ rank → eqb (getD values ((i - first) / 64) 0 / 2 ^ ((i - first) % 64) % 2) 1 ≡ seenAt held values first rank i
+  unfolding seenAt bitAt bit
+  seen-same e = rw (eq-eqb (rankAt held i) rank e)
+
+module _ (p : ℕ → Bool) (i end : ℕ) where
+  step : i < end → someFrom p i (end - i) ≡ (p i || someFrom p (i + 1) (end - (i + 1)))
+  unfolding someFrom
+  step l = let z : end - i ≡ suc (end - (i + 1)) = omega arith in rw (z, add-one i)
+
+  pub some-here : i < end → p i ≡ true → someFrom p i (end - i) ≡ true
+  some-here l e = step l ∙ ap (λ (b : Bool). b || someFrom p (i + 1) (end - (i + 1))) e
+
+  pub some-on : i < end → p i ≡ false → someFrom p i (end - i) ≡ someFrom p (i + 1) (end - (i + 1))
+  some-on l e = step l ∙ ap (λ (b : Bool). b || someFrom p (i + 1) (end - (i + 1))) e
+
+  pub some-end : end ≤ i → someFrom p i (end - i) ≡ false
+  unfolding someFrom
+  some-end l = let z : end - i ≡ 0 = omega arith in rw z

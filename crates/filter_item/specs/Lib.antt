@@ -1,0 +1,5 @@
+pub mod Seen
+pub mod Mask
+pub mod Rows
+pub mod Items
+pub mod Laws

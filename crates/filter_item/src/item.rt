@@ -1,0 +1,147 @@
+// The truth of one item for an entry. Undefined goes before all else; what is not held is false.
+use super::rows::Sought;
+use super::rows::holds;
+use super::rows::some_containing;
+use super::rows::some_equal;
+use super::rows::some_ordered;
+use super::seen::END;
+use super::seen::in_word;
+use filter_lines::AT_LEAST;
+use filter_lines::AT_MOST;
+use filter_lines::EQUALITY;
+use filter_lines::PRESENT;
+use filter_lines::lines::LINE;
+use filter_lines::lines::PLACE;
+use filter_lines::lines::SECOND;
+use filter_lines::lines::value_of;
+use filter_lines::pieces::pieces_fit;
+use filter_lines::truth::truth_of;
+use rules::Truth;
+use tables::book::FIRST;
+use tables::book::SCHEMA;
+use tables::book::TYPES;
+use tables::book::WIDTH;
+ghost use mathlib.Core.Path.{_≡_};
+ghost use mathlib.Core.Bool.{true, _&&_};
+ghost use mathlib.Core.List.{List};
+ghost use Prim.Native.Nat.{ℕ, _<_};
+ghost use lib.ListN.{getD};
+ghost use Rattle.rules.specs.Directory.{Stored, blank, entryOf};
+ghost use Rattle.rules.specs.Decision.{Setting};
+ghost use Rattle.rules.specs.FilterItem.{itemTruth};
+ghost use Rattle.access_set.specs.Member.{bit};
+ghost use Rattle.tables.specs.Book as Book;
+ghost use Rattle.tables.specs.Book.{width, entries, schema};
+ghost use Rattle.tables.specs.World.{Entries};
+ghost use Rattle.filter_lines.specs.Lines.{Lines, Typed, kindAt, firstAt, placeAt, valueAt, piecesAt};
+ghost use Rattle.filter_item.specs.Items.{assertionBy, definedBy, satisfiedIn};
+ghost use Rattle.filter_item.specs.Rows.{Within};
+ghost use Rattle.filter_item.specs.Seen.{SeenAt};
+
+// Do the value or the pieces of the item in line `k` fit the syntax `s`, and has the syntax the item's rule?
+fn defined(s: u64, w: usize, q: &[u8], rows: &[u64; 1596], lines: usize, k: usize) -> bool
+    requires { ⌜ Lines w (now q) (now rows) lines × (k < lines) ⌝ }
+    ensures { λ r. ⌜ r ≡ definedBy s (kindAt (now (rows .entry)) k) (piecesAt w (now (q .entry)) (now (rows .entry)) k) (valueAt w (now (q .entry)) (now (rows .entry)) k) ⌝ }
+{
+    let kind = rows[k * LINE];
+    let v = value_of(w, q, rows, k);
+    if kind == EQUALITY {
+        return value::fits(s, v);
+    }
+    if kind == AT_LEAST {
+        return value::ordered(s) & value::fits(s, v);
+    }
+    if kind == AT_MOST {
+        return value::ordered(s) & value::fits(s, v);
+    }
+    if kind == PRESENT {
+        return true;
+    }
+    value::searchable(s) & pieces_fit(s, w, q, rows, lines, k + 1, rows[k * LINE + SECOND])
+}
+
+// Is FilterMatch granted on the type of the item in line `k`, held or not, and is the item defined?
+fn decidable(
+    types: u64,
+    rank: usize,
+    s: u64,
+    w: usize,
+    q: &[u8],
+    rows: &[u64; 1596],
+    lines: usize,
+    k: usize,
+) -> bool
+    requires { ⌜ (rank < 64) × Lines w (now q) (now rows) lines × (k < lines) ⌝ }
+    ensures { λ r. ⌜ r ≡ (bit types rank && definedBy s (kindAt (now (rows .entry)) k) (piecesAt w (now (q .entry)) (now (rows .entry)) k) (valueAt w (now (q .entry)) (now (rows .entry)) k)) ⌝ }
+{
+    if in_word(types, rank) {
+        return defined(s, w, q, rows, lines, k);
+    }
+    false
+}
+
+// Is the item in line `k`, which is defined, true: is its rank held (kind 26), or does some value with FilterMatch granted pass its test?
+fn satisfied(
+    held: &[u64; 6345],
+    values: &[u64; 34],
+    d: &[u8],
+    sought: Sought,
+    s: u64,
+    w: usize,
+    q: &[u8],
+    rows: &[u64; 1596],
+    lines: usize,
+    k: usize,
+) -> bool
+    requires { ⌜ Within (now d) (now held) (sought .first) (sought .end) × Lines w (now q) (now rows) lines × (k < lines) ⌝ }
+    ensures { λ r. ⌜ r ≡ satisfiedIn (now (d .entry)) (now (held .entry)) (now (values .entry)) (sought .first) (sought .end) (sought .rank) s (kindAt (now (rows .entry)) k) (piecesAt w (now (q .entry)) (now (rows .entry)) k) (valueAt w (now (q .entry)) (now (rows .entry)) k) ⌝ }
+{
+    let kind = rows[k * LINE];
+    if kind == PRESENT {
+        return holds(held, sought);
+    }
+    let v = value_of(w, q, rows, k);
+    if kind == EQUALITY {
+        return some_equal(held, values, d, sought, s, v);
+    }
+    if kind == AT_LEAST {
+        return some_ordered(held, values, d, sought, s, true, v);
+    }
+    if kind == AT_MOST {
+        return some_ordered(held, values, d, sought, s, false, v);
+    }
+    some_containing(held, values, d, sought, w, q, rows, lines, k)
+}
+
+// The truth of the item in line `line` for the entry of index `k`. `types` and `values` are what was seen of the entry.
+pub fn item(
+    book: &[u64; 1353],
+    held: &[u64; 6345],
+    d: &[u8],
+    types: u64,
+    values: &[u64; 34],
+    k: usize,
+    q: &[u8],
+    rows: &[u64; 1596],
+    lines: usize,
+    line: usize,
+) -> Truth
+    requires { ⌜ ((σ : Setting) × (es : List Stored) × Entries σ es (now d) (now book) (now held)) × (k < entries (now book)) × Lines (width (now book)) (now q) (now rows) lines × Typed (schema (now book)) (now rows) lines × (line < lines) ⌝ }
+    ensures { λ r. ⌜ ((σ : Setting) (es : List Stored) (asked : ℕ) → Entries σ es (now (d .entry)) (now (book .entry)) (now (held .entry)) → SeenAt σ es (now (d .entry)) (now (book .entry)) (now (held .entry)) k asked types (now (values .entry)) → (placeAt (now (rows .entry)) line < Book.types (now (book .entry)) → bit asked (placeAt (now (rows .entry)) line) ≡ true) → r ≡ itemTruth σ (entryOf (getD es k blank)) (assertionBy (kindAt (now (rows .entry)) line) (firstAt (now (rows .entry)) line) (valueAt (width (now (book .entry))) (now (q .entry)) (now (rows .entry)) line) (piecesAt (width (now (book .entry))) (now (q .entry)) (now (rows .entry)) line))) ⌝ }
+{
+    let rank = rows[line * LINE + PLACE] as usize;
+    if book[TYPES] as usize <= rank {
+        return Truth::Undefined;
+    }
+    let w = book[WIDTH] as usize;
+    let s = book[SCHEMA + rank] % 4;
+    if decidable(types, rank, s, w, q, rows, lines, line) {
+        let sought = Sought {
+            first: book[FIRST + k] as usize,
+            end: book[END + k] as usize,
+            rank,
+        };
+        return truth_of(satisfied(held, values, d, sought, s, w, q, rows, lines, line));
+    }
+    Truth::Undefined
+}

@@ -1,0 +1,42 @@
+// The ranks of the types that occur in a filter, as the bits of a word: made once for a search.
+use super::seen::bit_if;
+use filter_lines::AND;
+use filter_lines::NOT;
+use filter_lines::OR;
+use filter_lines::lines::LINE;
+use filter_lines::lines::PLACE;
+ghost use mathlib.Core.Path.{_≡_};
+ghost use mathlib.Core.Bool.{not, _&&_};
+ghost use Prim.Native.Nat.{_≤_, _<_};
+ghost use lib.Dec.{ltb};
+ghost use Rattle.filter_lines.specs.Lines.{placeAt};
+ghost use Rattle.filter_item.specs.Mask.{operatorAt, Masks};
+
+// Is line `k` an item, of a type with a bit?
+fn sought(rows: &[u64; 1596], k: usize) -> bool
+    requires { ⌜ k < 265 ⌝ }
+    ensures { λ r. ⌜ r ≡ (not (operatorAt (now (rows .entry)) k) && ltb (placeAt (now (rows .entry)) k) 64) ⌝ }
+{
+    let kind = rows[k * LINE];
+    if (kind == AND) | (kind == OR) {
+        return false;
+    }
+    if kind == NOT {
+        return false;
+    }
+    rows[k * LINE + PLACE] < 64
+}
+
+// The mask of the ranks that occur in the filter.
+pub fn mask(rows: &[u64; 1596], lines: usize) -> u64
+    requires { ⌜ lines ≤ 265 ⌝ }
+    ensures { λ r. ⌜ Masks (now (rows .entry)) lines r ⌝ }
+{
+    let mut x: u64 = 0;
+    let mut k: usize = 0;
+    while k < lines {
+        x = x | bit_if(sought(rows, k), rows[k * LINE + PLACE] as usize);
+        k += 1;
+    }
+    x
+}

@@ -1,0 +1,241 @@
+// The rows of an entry's values, gone through for one item: those of the item's rank on whose values FilterMatch is granted are tested, in their
+// order, up to the first that passes.
+use filter_lines::lines::LINE;
+use filter_lines::lines::SECOND;
+use filter_lines::pieces::substrings;
+use filter_lines::truth::not_below;
+use rules::Order;
+use tables::held::PLACE;
+use tables::held::SIZE;
+ghost use mathlib.Core.Path.{_≡_};
+ghost use mathlib.Core.Bool.{_&&_, not};
+ghost use Prim.Native.Nat.{_+_, _-_, _≤_, _<_};
+ghost use lib.ListN.{length};
+ghost use Rattle.rules.specs.Value as Value;
+ghost use Rattle.rules.specs.FilterItem.{isLess};
+ghost use Rattle.rules.specs.Laws.Value.{reversed};
+ghost use Rattle.name.specs.Schema.{equalBy};
+ghost use Rattle.tables.specs.Held as Held;
+ghost use Rattle.tables.specs.Held.{bytesAt};
+ghost use Rattle.filter_lines.specs.Lines.{Lines, piecesAt};
+ghost use Rattle.filter_item.specs.Rows.{seenAt, heldRow, someRow, Within, besideBy};
+
+// The rows of an entry, and the rank of an item's type.
+pub struct Sought {
+    pub first: usize,
+    pub end: usize,
+    pub rank: usize,
+}
+
+// Is row `i` of the rank that is sought, and FilterMatch granted on its value?
+fn seen_row(held: &[u64; 6345], values: &[u64; 34], sought: Sought, i: usize) -> bool
+    requires { ⌜ (sought .first ≤ i) × (i < 2115) ⌝ }
+    ensures { λ r. ⌜ r ≡ seenAt (now (held .entry)) (now (values .entry)) (sought .first) (sought .rank) i ⌝ }
+{
+    if held[i] as usize != sought.rank {
+        return false;
+    }
+    let j = i - sought.first;
+    (values[j / 64] >> (j % 64)) % 2 == 1
+}
+
+// The bytes of the value in row `i`, as a part of the directory.
+fn bytes_of<'a>(held: &[u64; 6345], d: &'a [u8], i: usize) -> &'a [u8]
+    requires { ⌜ (i < 2115) × (Held.placeAt (now held) i + Held.sizeAt (now held) i ≤ length (now d)) ⌝ }
+    ensures { λ r. ⌜ now r ≡ bytesAt (now (d .entry)) (now (held .entry)) i ⌝ }
+{
+    let from = held[PLACE + i] as usize;
+    let size = held[SIZE + i] as usize;
+    &d[from..from + size]
+}
+
+// Is the rank held?
+pub(crate) fn holds(held: &[u64; 6345], sought: Sought) -> bool
+    requires { ⌜ sought .end ≤ 2115 ⌝ }
+    ensures { λ r. ⌜ r ≡ heldRow (now (held .entry)) (sought .first) (sought .end) (sought .rank) ⌝ }
+{
+    let rank = sought.rank;
+    let end = sought.end;
+    let mut i = sought.first;
+    while i < end {
+        if held[i] as usize == rank {
+            return true;
+        }
+        i += 1;
+    }
+    false
+}
+
+// Are two values of the syntax `s` allowed and equal? Those that differ are told apart with no further call.
+fn equal(s: u64, v: &[u8], u: &[u8]) -> bool
+    ensures { λ r. ⌜ r ≡ equalBy s (now (v .entry)) (now (u .entry)) ⌝ }
+{
+    if value::same(s, v, u) {
+        return name::equal_by(s, v, u);
+    }
+    false
+}
+
+// Does row `i` count, with a value equal to `v` under the syntax `s`?
+fn equal_row(
+    held: &[u64; 6345],
+    values: &[u64; 34],
+    d: &[u8],
+    sought: Sought,
+    s: u64,
+    v: &[u8],
+    i: usize,
+) -> bool
+    requires { ⌜ Within (now d) (now held) (sought .first) (sought .end) × (sought .first ≤ i) × (i < sought .end) ⌝ }
+    ensures { λ r. ⌜ r ≡ (seenAt (now (held .entry)) (now (values .entry)) (sought .first) (sought .rank) i && equalBy s (now (v .entry)) (bytesAt (now (d .entry)) (now (held .entry)) i)) ⌝ }
+{
+    if seen_row(held, values, sought, i) {
+        return equal(s, v, bytes_of(held, d, i));
+    }
+    false
+}
+
+// Does some row count, with a value equal to `v`?
+pub(crate) fn some_equal(
+    held: &[u64; 6345],
+    values: &[u64; 34],
+    d: &[u8],
+    sought: Sought,
+    s: u64,
+    v: &[u8],
+) -> bool
+    requires { ⌜ Within (now d) (now held) (sought .first) (sought .end) ⌝ }
+    ensures { λ r. ⌜ r ≡ someRow (now (d .entry)) (now (held .entry)) (now (values .entry)) (sought .first) (sought .end) (sought .rank) (equalBy s (now (v .entry))) ⌝ }
+{
+    let end = sought.end;
+    let mut i = sought.first;
+    while i < end {
+        if equal_row(held, values, d, sought, s, v, i) {
+            return true;
+        }
+        i += 1;
+    }
+    false
+}
+
+// Equal or less.
+fn not_above(order: Order) -> bool
+    ensures { λ r. ⌜ r ≡ not (isLess (reversed order)) ⌝ }
+{
+    match order {
+        Order::Less => true,
+        Order::Equal => true,
+        Order::Greater => false,
+    }
+}
+
+// Is `u` not below `v`, or not above it?
+fn beside(s: u64, least: bool, v: &[u8], u: &[u8]) -> bool
+    ensures { λ r. ⌜ r ≡ besideBy s least (now (v .entry)) (now (u .entry)) ⌝ }
+{
+    let order = value::order(s, u, v);
+    if least {
+        return not_below(order);
+    }
+    not_above(order)
+}
+
+// Does row `i` count, with a value not below `v`, or not above it?
+fn ordered_row(
+    held: &[u64; 6345],
+    values: &[u64; 34],
+    d: &[u8],
+    sought: Sought,
+    s: u64,
+    least: bool,
+    v: &[u8],
+    i: usize,
+) -> bool
+    requires { ⌜ Within (now d) (now held) (sought .first) (sought .end) × (sought .first ≤ i) × (i < sought .end) ⌝ }
+    ensures { λ r. ⌜ r ≡ (seenAt (now (held .entry)) (now (values .entry)) (sought .first) (sought .rank) i && besideBy s least (now (v .entry)) (bytesAt (now (d .entry)) (now (held .entry)) i)) ⌝ }
+{
+    if seen_row(held, values, sought, i) {
+        return beside(s, least, v, bytes_of(held, d, i));
+    }
+    false
+}
+
+// Does some row count, with a value not below `v`, or not above it?
+pub(crate) fn some_ordered(
+    held: &[u64; 6345],
+    values: &[u64; 34],
+    d: &[u8],
+    sought: Sought,
+    s: u64,
+    least: bool,
+    v: &[u8],
+) -> bool
+    requires { ⌜ Within (now d) (now held) (sought .first) (sought .end) ⌝ }
+    ensures { λ r. ⌜ r ≡ someRow (now (d .entry)) (now (held .entry)) (now (values .entry)) (sought .first) (sought .end) (sought .rank) (besideBy s least (now (v .entry))) ⌝ }
+{
+    let end = sought.end;
+    let mut i = sought.first;
+    while i < end {
+        if ordered_row(held, values, d, sought, s, least, v, i) {
+            return true;
+        }
+        i += 1;
+    }
+    false
+}
+
+// Does row `i` count, with a value in which the pieces of the item in line `k` stand?
+fn containing_row(
+    held: &[u64; 6345],
+    values: &[u64; 34],
+    d: &[u8],
+    sought: Sought,
+    w: usize,
+    q: &[u8],
+    rows: &[u64; 1596],
+    lines: usize,
+    k: usize,
+    i: usize,
+) -> bool
+    requires { ⌜ Within (now d) (now held) (sought .first) (sought .end) × (sought .first ≤ i) × (i < sought .end) × Lines w (now q) (now rows) lines × (k < lines) ⌝ }
+    ensures { λ r. ⌜ r ≡ (seenAt (now (held .entry)) (now (values .entry)) (sought .first) (sought .rank) i && Value.contains Value.text (piecesAt w (now (q .entry)) (now (rows .entry)) k) (bytesAt (now (d .entry)) (now (held .entry)) i)) ⌝ }
+{
+    if seen_row(held, values, sought, i) {
+        return substrings(
+            w,
+            q,
+            rows,
+            lines,
+            k + 1,
+            rows[k * LINE + SECOND],
+            bytes_of(held, d, i),
+        );
+    }
+    false
+}
+
+// Does some row count, with a value in which the pieces of the item in line `k` stand?
+pub(crate) fn some_containing(
+    held: &[u64; 6345],
+    values: &[u64; 34],
+    d: &[u8],
+    sought: Sought,
+    w: usize,
+    q: &[u8],
+    rows: &[u64; 1596],
+    lines: usize,
+    k: usize,
+) -> bool
+    requires { ⌜ Within (now d) (now held) (sought .first) (sought .end) × Lines w (now q) (now rows) lines × (k < lines) ⌝ }
+    ensures { λ r. ⌜ r ≡ someRow (now (d .entry)) (now (held .entry)) (now (values .entry)) (sought .first) (sought .end) (sought .rank) (Value.contains Value.text (piecesAt w (now (q .entry)) (now (rows .entry)) k)) ⌝ }
+{
+    let end = sought.end;
+    let mut i = sought.first;
+    while i < end {
+        if containing_row(held, values, d, sought, w, q, rows, lines, k, i) {
+            return true;
+        }
+        i += 1;
+    }
+    false
+}

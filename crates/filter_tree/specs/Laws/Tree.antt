@@ -1,0 +1,116 @@
+-- A law for each way through the evaluation of a filter's lines.
+use Prim.Native.Nat.{ℕ, zero, suc, _+_, _-_, _≤_, _<_}
+use mathlib.Core.Path.{_≡_, refl, sym, ap, _∙_}
+use mathlib.Core.Bool.{Bool, true, false, _||_, cond, true≢false}
+use mathlib.Core.List.{List}
+use native.Mathlib.Omega.{arith}
+use lib.Dec.{eqb}
+use lib.ListN.{drop}
+use borrow.Author.Tests.{eq-eqb, ne-eqb}
+use Rattle.rules.specs.Sheet.{Bytes, line, Sheet, frontOf}
+use Rattle.rules.specs.Filter.{Assertion, Filter, truth, negation, evaluate}
+use Rattle.rules.specs.Judge.{accept}
+use Rattle.rules.specs.Request.{filter}
+use Rattle.rules.specs.Places.{linesAt}
+use Rattle.rules.specs.Laws.Sheet.{lines-taken, lines-broken, lines-end}
+use Rattle.rules.specs.Laws.Filter.{both, either, assertionOf, afterItem, Evaluated, evaluated, partsFrom, evaluateLine, evaluateSheet, evaluateLines, filter-read}
+use Rattle.rules.specs.declared.Truth.{Truth}
+use Rattle.rules.specs.declared.Truth.the-variants.{True, False, Undefined}
+use Rattle.rules.specs.declared.Front.the-variants.{NotInForm, End}
+use Rattle.filter_lines.specs.Lines.{Lines, kindAt, firstAt, secondAt, positionAt, valueAt, piecesAt}
+use Rattle.filter_item.specs.Items.{assertionBy}
+use Rattle.filter_tree.specs.Tree.{joinBy, afterBy}
+
+-- ---- line by line
+
+module _ (m : Assertion → Truth) {w : ℕ} {q : Bytes} {rows : List ℕ} {lines : ℕ} (h : Lines w q rows lines) (k depth : ℕ) where
+  -- too deep
+  pub tree-none : depth ≡ 0 → evaluated Undefined (linesAt w q (positionAt rows k)) ≡ evaluateLines m depth (linesAt w q (positionAt rows k))
+  unfolding evaluateLines
+  tree-none e = rw e
+
+  -- no line is left
+  pub tree-over : lines ≤ k → k ≤ lines → evaluated Undefined (linesAt w q (positionAt rows k)) ≡ evaluateLines m depth (linesAt w q (positionAt rows k))
+  unfolding evaluateLines evaluateSheet
+  tree-over l n = let z : k ≡ lines = omega (arith, l, n) in rw z (over depth (h .broken) (h .ends))
+    where
+      over : (depth : ℕ) (b : Bool) → frontOf w (drop (positionAt rows lines) q) ≡ cond b NotInForm End
+          → evaluated Undefined (linesAt w q (positionAt rows lines)) ≡ evaluateLines m depth (linesAt w q (positionAt rows lines))
+      over zero b e = refl
+      over (suc depth) true e = rw (lines-broken w q (positionAt rows lines) e)
+      over (suc depth) false e = rw (lines-end w q (positionAt rows lines) e)
+
+  module _ (l : k < lines) (nz : depth ≡ 0 → ⊥) where
+    abbrev one : Sheet → Evaluated
+    one = evaluateLines m (depth - 1)
+
+    abbrev rest : Sheet
+    rest = linesAt w q (positionAt rows (k + 1))
+
+    by-line : evaluateLines m depth (linesAt w q (positionAt rows k))
+        ≡ evaluateLine m one (line (kindAt rows k) (firstAt rows k) (secondAt rows k) (h .line k l .third) (valueAt w q rows k)) rest
+    unfolding evaluateLines evaluateSheet
+    by-line = deeper depth nz
+        ∙ ap (evaluateSheet m (evaluateLine m one)) (lines-taken w q (positionAt rows k) (h .line k l .front))
+        ∙ ap (λ (x : ℕ). evaluateLine m one (line (kindAt rows k) (firstAt rows k) (secondAt rows k) (h .line k l .third) (valueAt w q rows k)) (linesAt w q x)) (sym (h .line k l .next))
+      where
+        deeper : (depth : ℕ) → (depth ≡ 0 → ⊥) → evaluateLines m depth (linesAt w q (positionAt rows k)) ≡ evaluateSheet m (evaluateLine m (evaluateLines m (depth - 1))) (linesAt w q (positionAt rows k))
+        deeper zero nz = absurd (nz refl)
+        deeper (suc depth) nz = let z : suc depth - 1 ≡ depth = omega arith in rw z
+
+    pub tree-not : kindAt rows k ≡ 22 → evaluateLines m depth (linesAt w q (positionAt rows k)) ≡ evaluated (negation (one rest .truth)) (one rest .rest)
+    unfolding evaluateLine
+    tree-not e = by-line ∙ rw (ne-eqb (kindAt rows k) 20 (λ z. omega (arith, e, z)), ne-eqb (kindAt rows k) 21 (λ z. omega (arith, e, z)), eq-eqb (kindAt rows k) 22 e)
+
+    -- "and", or else "or"
+    pub tree-group : (eqb (kindAt rows k) 20 || eqb (kindAt rows k) 21) ≡ true
+        → evaluateLines m depth (linesAt w q (positionAt rows k)) ≡ partsFrom (joinBy (eqb (kindAt rows k) 20)) one (firstAt rows k) (truth (eqb (kindAt rows k) 20)) rest
+    unfolding evaluateLine
+    tree-group e = by-line ∙ go (eqb (kindAt rows k) 20) (eqb (kindAt rows k) 21) e _
+      where
+        go : (x y : Bool) → (x || y) ≡ true → (other : Evaluated)
+            → cond x (partsFrom both one (firstAt rows k) True rest) (cond y (partsFrom either one (firstAt rows k) False rest) other) ≡ partsFrom (joinBy x) one (firstAt rows k) (truth x) rest
+        go true y e other = refl
+        go false true e other = refl
+        go false false e other = absurd (true≢false (sym e))
+
+    pub tree-item : (kindAt rows k ≡ 22 → ⊥) → (eqb (kindAt rows k) 20 || eqb (kindAt rows k) 21) ≡ false
+        → evaluateLines m depth (linesAt w q (positionAt rows k))
+        ≡ evaluated (m (assertionBy (kindAt rows k) (firstAt rows k) (valueAt w q rows k) (piecesAt w q rows k))) (afterBy (kindAt rows k) (secondAt rows k) rest)
+    unfolding evaluateLine assertionOf afterItem afterBy
+    tree-item ne e = by-line ∙ go (eqb (kindAt rows k) 20) (eqb (kindAt rows k) 21) e _ _
+      where
+        go : (x y : Bool) → (x || y) ≡ false → (a b : Evaluated)
+            → cond x a (cond y b (cond (eqb (kindAt rows k) 22) (evaluated (negation (one rest .truth)) (one rest .rest))
+            (evaluated (m (assertionOf (line (kindAt rows k) (firstAt rows k) (secondAt rows k) (h .line k l .third) (valueAt w q rows k)) rest)) (afterItem (line (kindAt rows k) (firstAt rows k) (secondAt rows k) (h .line k l .third) (valueAt w q rows k)) rest))))
+            ≡ evaluated (m (assertionBy (kindAt rows k) (firstAt rows k) (valueAt w q rows k) (piecesAt w q rows k))) (afterBy (kindAt rows k) (secondAt rows k) rest)
+        go true y e a b = absurd (true≢false e)
+        go false true e a b = absurd (true≢false e)
+        go false false e a b = rw (ne-eqb (kindAt rows k) 22 ne)
+
+-- ---- the parts one by one
+
+module _ (join : Truth → Truth → Truth) (one : Sheet → Evaluated) (left : ℕ) (t : Truth) (s : Sheet) where
+  pub parts-end : left ≤ 0 → partsFrom join one left t s ≡ evaluated t s
+  unfolding partsFrom
+  parts-end h = go left h
+    where
+      go : (left : ℕ) → left ≤ 0 → partsFrom join one left t s ≡ evaluated t s
+      go zero h = refl
+      go (suc left) h = absurd (omega arith)
+
+  pub parts-on : 0 < left → (u : Truth) (rest : Sheet) → evaluated u rest ≡ one s → partsFrom join one left t s ≡ partsFrom join one (left - 1) (join t u) rest
+  unfolding partsFrom
+  parts-on h u rest e = go left h
+    where
+      go : (left : ℕ) → 0 < left → partsFrom join one left t s ≡ partsFrom join one (left - 1) (join t u) rest
+      go zero h = absurd (omega arith)
+      go (suc left) h = let z : suc left - 1 ≡ left = omega arith in rw z (ap (λ (r : Evaluated). partsFrom join one left (join t (r .truth)) (r .rest)) (sym e))
+
+-- ---- the request's filter
+
+accepted : {A : Type 0} (x y : A) → accept x ≡ accept y → x ≡ y
+accepted x y e = cc
+
+pub whole-read : (m : Assertion → Truth) (s : Sheet) (f : Filter) → filter 16 128 s (λ f left rest. accept f) ≡ accept f → evaluateLines m 16 s .truth ≡ evaluate m f
+whole-read m s f e = let r = filter-read f m 16 128 s (λ f left rest. accept f) e in r .3 ∙ ap (evaluate m) (accepted (r .0) f (r .2))

@@ -1,0 +1,3 @@
+pub mod Truths
+pub mod Tree
+pub mod Laws

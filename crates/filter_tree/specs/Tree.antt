@@ -1,0 +1,26 @@
+-- The operators of a filter, what follows an item, and the filter's truth for an entry.
+use Prim.Native.Nat.{ℕ}
+use mathlib.Core.Bool.{Bool, true, false, _||_, cond}
+use mathlib.Core.List.{List}
+use lib.Dec.{eqb}
+use lib.ListN.{getD}
+use Rattle.rules.specs.Sheet.{Sheet}
+use Rattle.rules.specs.Directory.{Stored, blank, entryOf}
+use Rattle.rules.specs.Decision.{Setting}
+use Rattle.rules.specs.Filter.{Filter, isTrue, evaluate}
+use Rattle.rules.specs.FilterItem.{itemTruth}
+use Rattle.rules.specs.Laws.Filter.{both, either, afterLines}
+use Rattle.rules.specs.declared.Truth.{Truth}
+
+-- "and" (a conjunction) or "or"
+abbrev pub joinBy : Bool → Truth → Truth → Truth
+joinBy true = both
+joinBy false = either
+
+-- what follows an item
+unfoldable pub afterBy : ℕ → ℕ → Sheet → Sheet
+afterBy k b rest = cond (eqb k 23 || (eqb k 24 || (eqb k 25 || eqb k 26))) rest (afterLines b rest)
+
+-- the filter is true of the entry of index `k`
+unfoldable pub matchesAt : Setting → List Stored → Filter → ℕ → Bool
+matchesAt σ es f k = isTrue (evaluate (itemTruth σ (entryOf (getD es k blank))) f)

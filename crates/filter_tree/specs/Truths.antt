@@ -1,0 +1,32 @@
+-- The truths of a filter's items, noted by a number for each line.
+use Prim.Native.Nat.{ℕ, _<_}
+use mathlib.Core.Path.{_≡_}
+use mathlib.Core.Bool.{false, _||_, cond}
+use mathlib.Core.List.{List}
+use lib.Dec.{eqb}
+use lib.ListN.{getD}
+use Rattle.rules.specs.Sheet.{Bytes}
+use Rattle.rules.specs.Filter.{Assertion}
+use Rattle.rules.specs.declared.Truth.{Truth}
+use Rattle.rules.specs.declared.Truth.the-variants.{True, False, Undefined}
+use Rattle.filter_lines.specs.Lines.{kindAt, firstAt, valueAt, piecesAt}
+use Rattle.filter_item.specs.Items.{assertionBy}
+
+-- a truth as a number
+abbrev pub numberOf : Truth → ℕ
+numberOf Undefined = 0
+numberOf False = 1
+numberOf True = 2
+
+-- the truth that a number stands for
+unfoldable pub truthOf : ℕ → Truth
+truthOf x = cond (eqb x 2) True (cond (eqb x 1) False Undefined)
+
+-- the number `x` is that of the item in line `k`, unless an operator stands there
+pub record TruthAt (m : Assertion → Truth) (w : ℕ) (q : Bytes) (rows : List ℕ) (k x : ℕ) : Type 0 where
+  pub told : (kindAt rows k ≡ 22 → ⊥) → (eqb (kindAt rows k) 20 || eqb (kindAt rows k) 21) ≡ false
+      → truthOf x ≡ m (assertionBy (kindAt rows k) (firstAt rows k) (valueAt w q rows k) (piecesAt w q rows k))
+
+-- a number for each of the lines
+pub record Truths (m : Assertion → Truth) (w : ℕ) (q : Bytes) (rows : List ℕ) (lines : ℕ) (truths : List ℕ) : Type 0 where
+  pub line : (k : ℕ) → k < lines → TruthAt m w q rows k (getD truths k 0)

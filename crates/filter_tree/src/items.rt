@@ -1,0 +1,97 @@
+// The truths of a filter's items for an entry, found one after the other and noted by a number for each line, before the filter is evaluated.
+use filter_item::item::item;
+use filter_lines::AND;
+use filter_lines::NOT;
+use filter_lines::OR;
+use filter_lines::lines::LINE;
+use rules::Truth;
+ghost use mathlib.Core.Path.{_≡_};
+ghost use Prim.Native.Nat.{ℕ, _<_};
+ghost use mathlib.Core.List.{List};
+ghost use lib.ListN.{getD};
+ghost use Rattle.rules.specs.Directory.{Stored, blank, entryOf};
+ghost use Rattle.rules.specs.Decision.{Setting};
+ghost use Rattle.rules.specs.FilterItem.{itemTruth};
+ghost use Rattle.tables.specs.Book.{width, entries, schema};
+ghost use Rattle.tables.specs.World.{Entries};
+ghost use Rattle.filter_lines.specs.Lines.{Lines, Typed};
+ghost use Rattle.filter_item.specs.Mask.{Masks};
+ghost use Rattle.filter_item.specs.Seen.{SeenAt};
+ghost use Rattle.filter_tree.specs.Truths.{numberOf, truthOf, TruthAt, Truths};
+
+// A truth as a number.
+fn number_of(t: Truth) -> u8
+    ensures { λ r. ⌜ r ≡ numberOf t ⌝ }
+{
+    match t {
+        Truth::Undefined => 0,
+        Truth::False => 1,
+        Truth::True => 2,
+    }
+}
+
+// The truth that is noted for line `k`.
+pub(crate) fn truth_at(truths: &[u8], k: usize) -> Truth
+    ensures { λ r. ⌜ r ≡ truthOf (getD (now (truths .entry)) k 0) ⌝ }
+{
+    if truths.len() <= k {
+        return Truth::Undefined;
+    }
+    if truths[k] == 2 {
+        return Truth::True;
+    }
+    if truths[k] == 1 {
+        return Truth::False;
+    }
+    Truth::Undefined
+}
+
+// The number for line `line`: that of its item's truth for the entry of index `k`, and 0 for an operator.
+fn line_truth(
+    book: &[u64; 1353],
+    held: &[u64; 6345],
+    d: &[u8],
+    types: u64,
+    values: &[u64; 34],
+    k: usize,
+    q: &[u8],
+    rows: &[u64; 1596],
+    lines: usize,
+    line: usize,
+) -> u8
+    requires { ⌜ ((σ : Setting) × (es : List Stored) × Entries σ es (now d) (now book) (now held)) × (k < entries (now book)) × Lines (width (now book)) (now q) (now rows) lines × Typed (schema (now book)) (now rows) lines × (line < lines) ⌝ }
+    ensures { λ r. ⌜ ((σ : Setting) (es : List Stored) (asked : ℕ) → Entries σ es (now (d .entry)) (now (book .entry)) (now (held .entry)) → SeenAt σ es (now (d .entry)) (now (book .entry)) (now (held .entry)) k asked types (now (values .entry)) → Masks (now (rows .entry)) lines asked → TruthAt (itemTruth σ (entryOf (getD es k blank))) (width (now (book .entry))) (now (q .entry)) (now (rows .entry)) line r) ⌝ }
+{
+    let kind = rows[line * LINE];
+    if (kind == AND) | (kind == OR) {
+        return 0;
+    }
+    if kind == NOT {
+        return 0;
+    }
+    number_of(item(book, held, d, types, values, k, q, rows, lines, line))
+}
+
+// The truth of the item in each line, for the entry of index `k`.
+pub(crate) fn note_truths(
+    book: &[u64; 1353],
+    held: &[u64; 6345],
+    d: &[u8],
+    types: u64,
+    values: &[u64; 34],
+    k: usize,
+    q: &[u8],
+    rows: &[u64; 1596],
+    lines: usize,
+) -> [u8; 265]
+    requires { ⌜ ((σ : Setting) × (es : List Stored) × Entries σ es (now d) (now book) (now held)) × (k < entries (now book)) × Lines (width (now book)) (now q) (now rows) lines × Typed (schema (now book)) (now rows) lines ⌝ }
+    ensures { λ r. ⌜ ((σ : Setting) (es : List Stored) (asked : ℕ) → Entries σ es (now (d .entry)) (now (book .entry)) (now (held .entry)) → SeenAt σ es (now (d .entry)) (now (book .entry)) (now (held .entry)) k asked types (now (values .entry)) → Masks (now (rows .entry)) lines asked → Truths (itemTruth σ (entryOf (getD es k blank))) (width (now (book .entry))) (now (q .entry)) (now (rows .entry)) lines r) ⌝ }
+{
+    let mut truths: [u8; 265] = [0; 265];
+    let mut line: usize = 0;
+    while line < lines {
+        truths[line] = line_truth(book, held, d, types, values, k, q, rows, lines, line);
+        line += 1;
+    }
+    truths
+}

@@ -1,0 +1,4 @@
+// The truth of a request's filter for an entry: "and", "or" and "not" over the truths of its items.
+mod items;
+pub mod tree;
+mod truth;

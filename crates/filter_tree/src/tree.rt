@@ -1,0 +1,140 @@
+// A filter evaluated line by line, an operator before its parts.
+use super::items::note_truths;
+use super::items::truth_at;
+use super::truth::is_true;
+use super::truth::joined;
+use super::truth::negated;
+use filter_item::seen::ask;
+use filter_lines::AND;
+use filter_lines::AT_LEAST;
+use filter_lines::AT_MOST;
+use filter_lines::EQUALITY;
+use filter_lines::NOT;
+use filter_lines::OR;
+use filter_lines::PRESENT;
+use filter_lines::lines::FIRST;
+use filter_lines::lines::LINE;
+use filter_lines::lines::SECOND;
+use filter_lines::truth::truth_of;
+use rules::Truth;
+ghost use mathlib.Core.Path.{_≡_};
+ghost use Prim.Native.Nat.{ℕ, _+_, _*_, _≤_, _<_};
+ghost use mathlib.Core.List.{List};
+ghost use lib.ListN.{length};
+ghost use Rattle.rules.specs.Sheet.{Bytes};
+ghost use Rattle.rules.specs.Directory.{Stored};
+ghost use Rattle.rules.specs.Judge.{accept};
+ghost use Rattle.rules.specs.Decision.{Setting};
+ghost use Rattle.rules.specs.Filter.{Assertion, Filter};
+ghost use Rattle.rules.specs.Request as Request;
+ghost use Rattle.rules.specs.Places.{linesAt};
+ghost use Rattle.rules.specs.Laws.Filter.{evaluated, evaluateLines};
+ghost use Rattle.rules.specs.declared.Truth.{Truth};
+ghost use Rattle.tables.specs.Book.{width, entries, schema};
+ghost use Rattle.tables.specs.World.{World, Known};
+ghost use Rattle.filter_lines.specs.Lines.{Lines, Typed, kindAt, secondAt, positionAt};
+ghost use Rattle.filter_item.specs.Mask.{Masks};
+ghost use Rattle.filter_tree.specs.Tree.{afterBy, matchesAt};
+ghost use Rattle.filter_tree.specs.Truths.{Truths};
+
+// The line after the item in line `k`: a substrings item (kind 27) has those of its pieces.
+fn after_item(rows: &[u64], lines: usize, k: usize) -> usize
+    requires { ⌜ (lines * 6 + 6 ≤ length (now rows)) × (k < lines) ⌝ }
+    ensures { λ r. ⌜ (r ≤ lines) × ((w : ℕ) (q : Bytes) → Lines w q (now (rows .entry)) lines → linesAt w q (positionAt (now (rows .entry)) r) ≡ afterBy (kindAt (now (rows .entry)) k) (secondAt (now (rows .entry)) k) (linesAt w q (positionAt (now (rows .entry)) (k + 1)))) ⌝ }
+{
+    let kind = rows[k * LINE];
+    let next = k + 1;
+    if kind == EQUALITY {
+        return next;
+    }
+    if kind == AT_LEAST {
+        return next;
+    }
+    if kind == AT_MOST {
+        return next;
+    }
+    if kind == PRESENT {
+        return next;
+    }
+    let pieces = rows[k * LINE + SECOND];
+    if ((lines - next) as u64) < pieces {
+        return lines;
+    }
+    next + pieces as usize
+}
+
+// The truth of a filter, and the line after it.
+pub struct Step {
+    pub truth: Truth,
+    pub next: usize,
+}
+
+// The truth of the filter in line `k`, at most `depth` levels deep, by the truths of the items. Every part of "and" and "or" is evaluated: its lines
+// are passed over in any case.
+pub fn evaluate(rows: &[u64], truths: &[u8], lines: usize, k: usize, depth: usize) -> Step
+    requires { ⌜ (lines * 6 + 6 ≤ length (now rows)) × (k ≤ lines) ⌝ }
+    ensures { λ r. ⌜ (r .next ≤ lines) × ((w : ℕ) (q : Bytes) (m : Assertion → Truth) → Lines w q (now (rows .entry)) lines → Truths m w q (now (rows .entry)) lines (now (truths .entry)) → evaluated (r .truth) (linesAt w q (positionAt (now (rows .entry)) (r .next))) ≡ evaluateLines m depth (linesAt w q (positionAt (now (rows .entry)) k))) ⌝ }
+{
+    if depth == 0 {
+        return Step {
+            truth: Truth::Undefined,
+            next: k,
+        };
+    }
+    if lines <= k {
+        return Step {
+            truth: Truth::Undefined,
+            next: k,
+        };
+    }
+    let kind = rows[k * LINE];
+    if kind == NOT {
+        let part = evaluate(rows, truths, lines, k + 1, depth - 1);
+        let truth = part.truth;
+        return Step {
+            truth: negated(truth),
+            next: part.next,
+        };
+    }
+    if (kind == AND) | (kind == OR) {
+        let conjunction = kind == AND;
+        let mut truth = truth_of(conjunction);
+        let mut next = k + 1;
+        let mut left = rows[k * LINE + FIRST];
+        while 0 < left {
+            let part = evaluate(rows, truths, lines, next, depth - 1);
+            let one = part.truth;
+            truth = joined(conjunction, truth, one);
+            next = part.next;
+            left -= 1;
+        }
+        return Step { truth, next };
+    }
+    Step {
+        truth: truth_at(truths, k),
+        next: after_item(rows, lines, k),
+    }
+}
+
+// Is the filter, whose lines are `rows`, true for the entry of index `k`? `asked` is the mask of the ranks that occur in it.
+pub fn matches(
+    book: &[u64; 1353],
+    held: &[u64; 6345],
+    sets: &[u64; 2360],
+    d: &[u8],
+    p: &[u8],
+    q: &[u8],
+    rows: &[u64; 1596],
+    lines: usize,
+    asked: u64,
+    k: usize,
+) -> bool
+    requires { ⌜ Known (now d) (now p) (now book) (now held) (now sets) × Lines (width (now book)) (now q) (now rows) lines × Typed (schema (now book)) (now rows) lines × (k < entries (now book)) × Masks (now rows) lines asked ⌝ }
+    ensures { λ r. ⌜ ((σ : Setting) (es : List Stored) (f : Filter) → World σ es (now (d .entry)) (now (p .entry)) (now (book .entry)) (now (held .entry)) (now (sets .entry)) → Request.filter 16 128 (linesAt (width (now (book .entry))) (now (q .entry)) (positionAt (now (rows .entry)) 0)) (λ f left rest. accept f) ≡ accept f → r ≡ matchesAt σ es f k) ⌝ }
+{
+    let seen = ask(book, held, sets, d, p, k, asked);
+    let truths = note_truths(book, held, d, seen.types, &seen.values, k, q, rows, lines);
+    let whole = evaluate(rows, &truths, lines, 0, 16);
+    let truth = whole.truth;
+    is_true(truth)
+}

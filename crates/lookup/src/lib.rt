@@ -1,3 +1,0 @@
-// Entries found by the names asked for, and names compared where they stand.
-pub mod entries;
-pub mod names;

@@ -1,3 +1,0 @@
-pub mod Selected
-pub mod Operations
-pub mod Bounds

@@ -1,4 +1,0 @@
-pub mod Plan
-pub mod Lent
-pub mod Outcome
-pub mod Opened

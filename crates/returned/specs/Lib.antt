@@ -1,4 +1,0 @@
-pub mod Passing
-pub mod Returnable
-pub mod Returned
-pub mod Whole

@@ -1,4 +1,0 @@
-pub mod Items
-pub mod Scores
-pub mod Slots
-pub mod Values

@@ -1,0 +1,42 @@
+-- Laws of `World`: what single numbers of the tables stand for.
+use Prim.Native.Nat.{ℕ, suc, _+_, _-_, _≤_, _<_}
+use mathlib.Core.Path.{_≡_, sym, _∙_}
+use mathlib.Core.List.{List}
+use native.Mathlib.Omega.{arith}
+use native.Mathlib.Numerals.{add-one}
+use lib.ListN.{length, getD}
+use Rattle.rules.specs.Sheet.{Bytes}
+use Rattle.rules.specs.Directory.{Stored, blank}
+use Rattle.rules.specs.Decision.{Setting, Thing, granted}
+use Rattle.tables.specs.Book.{types, entries, schema, firstAt}
+use Rattle.tables.specs.Held.{rankAt, placeAt, sizeAt, HeldAt}
+use Rattle.tables.specs.Sets.{grantedAt}
+use Rattle.tables.specs.World.{Entries}
+use Rattle.tables.specs.Laws.Book.{schema-length, parent-at}
+use Rattle.tables.specs.Laws.Held.{row-at}
+
+-- a permission on the entry of index `k`, by its number as the code has it
+pub granted-next : (σ : Setting) (es : List Stored) (k : ℕ) (x : Thing) (q : ℕ) → grantedAt σ es (k + 1) x q ≡ granted σ (getD es k blank .name) x q
+unfolding grantedAt
+granted-next σ es k x q = rw (add-one k)
+
+module _ {σ : Setting} {es : List Stored} {d : Bytes} {book held : List ℕ} (h : Entries σ es d book held) (k : ℕ) (l : k < entries book) where
+  pub inside : k < length es
+  inside = omega (arith, l, h .count)
+
+  pub parent-is : getD book (328 + k) 0 ≡ getD es k blank .parent
+  parent-is = sym (parent-at book k l) ∙ h .listed .entry k inside .parent
+
+  -- the rows of the entry's values
+  pub rows-of : HeldAt (schema book) d (getD es k blank .values) held (firstAt book k) (firstAt book (suc k))
+  rows-of = h .values k inside
+
+  pub rows-within : (firstAt book k ≤ firstAt book (suc k)) × (firstAt book (suc k) ≤ 2115)
+  rows-within = (omega (arith, rows-of .count), rows-of .room)
+
+  module _ (i : ℕ) (from : firstAt book k ≤ i) (to : i < firstAt book (suc k)) where
+    pub rank-within : rankAt held i < types book
+    rank-within = omega (arith, row-at rows-of i from to .rank, schema-length (h .fits))
+
+    pub bytes-within : placeAt held i + sizeAt held i ≤ length d
+    bytes-within = row-at rows-of i from to .within
