@@ -14,10 +14,6 @@ use Rattle.access_covers.specs.Laws.Covers.{within-reach, parents-rise, 
 use borrow.Author.Needs.{needs}
 use Rattle.access_covers.proofs.note_covers.Statement.{statement}
 use Rattle.access_covers.proofs.note_covers.Tie as tie
-use Rattle.access_covers.proofs.note_covers.Reads as reads
-use Rattle.access_covers.proofs.note_covers.Lts as lts
-use Rattle.access_covers.proofs.enter.enter_all.Reads as enter-all-reads
-use Rattle.access_covers.proofs.row.inherit.Reads as inherit-reads
 
 abbrev Inv-loop : tie.InvT-loop
 Inv-loop reach order parents sets₀ down₀ k₀ sets down k = (k ≤ length parents) × (length sets ≡ 2360) × (length down ≡ 1028)
@@ -26,9 +22,6 @@ Inv-loop reach order parents sets₀ down₀ k₀ sets down k = (k ≤ length pa
 
 abbrev μ-loop : tie.MeasureT-loop
 μ-loop reach order parents sets₀ down₀ k₀ sets down k = length parents - k
-
-slice-aggregate-enter-all : tie.Need-slice-aggregate-enter-all Inv-loop μ-loop
-slice-aggregate-enter-all c = search needs
 
 enter-all-requires : tie.Need-enter-all-requires Inv-loop μ-loop
 enter-all-requires c κs = let A = c .before .before .before .before .before .before .args in let P = c .before .before .before .before .before .before .pre in (
@@ -49,17 +42,8 @@ loop-holds c = let A = c .before .before .before .before .before .before .before
   λ i l. refl,
 )
 
-slice-aggregate-inherit : tie.Need-slice-aggregate-inherit Inv-loop μ-loop
-slice-aggregate-inherit c = search needs
-
 add-inherit : tie.Need-add-inherit Inv-loop μ-loop
 add-inherit c = omega (arith, c .before .before .loop-test .taken, c .before .before .before .before .before .before .before .before .before .before .before .before .before .before .pre .2 .2 .parents-noted, c .before .before .before .before .before .before .before .before .before .before .before .before .before .before .pre .2 .2 .few)
-
-mul-inherit : tie.Need-mul-inherit Inv-loop μ-loop
-mul-inherit c = search needs
-
-shared-slice-read-inherit : tie.Need-shared-slice-read-inherit Inv-loop μ-loop
-shared-slice-read-inherit c = search needs
 
 inherit-requires : tie.Need-inherit-requires Inv-loop μ-loop
 inherit-requires c κs = let A = c .before .before .before .before .before .before .before .before .before .before .before .before .before .before .before .args in let P = c .before .before .before .before .before .before .before .before .before .before .before .before .before .before .before .pre in let L = c .before .before .before .before .loop in (
@@ -72,9 +56,6 @@ inherit-requires c κs = let A = c .before .before .before .before .before .befo
 add-k : tie.Need-add-k Inv-loop μ-loop
 add-k c = omega (arith, c .before .before .before .before .before .before .before .loop-test .taken, c .before .before .before .before .before .before .before .before .before .before .before .before .before .before .before .before .before .before .before .pre .2 .2 .parents-noted, c .before .before .before .before .before .before .before .before .before .before .before .before .before .before .before .before .before .before .before .pre .2 .2 .few)
 
-loop-less : tie.Need-loop-less Inv-loop μ-loop
-loop-less c = search needs
-
 loop-again : tie.Need-loop-again Inv-loop μ-loop
 loop-again c = let A = c .before .before .before .before .before .before .before .before .before .before .before .before .before .before .before .before .before .before .before .args in let L = c .before .before .before .before .before .before .before .before .loop in let E = c .before .before .before .inherit in (
   omega (arith, c .before .before .before .before .before .before .before .loop-test .taken),
@@ -85,9 +66,6 @@ loop-again c = let A = c .before .before .before .before .before .before .before
   λ i l. E .ensures .after i l ∙ L .inv .4 i l,
 )
 
-same-length : tie.Need-same-length Inv-loop μ-loop
-same-length c = search needs
-
 returns : tie.Need-returns Inv-loop μ-loop
 returns c = let A = c .before .before .before .before .before .before .before .before .before .before .before .before .args in let L = c .before .loop in (
   λ σ es given. covers-of σ es (now (A .reach)) (now (A .order)) (now (A .parents)) given (L .sets) (L .down) (L .k) (c .loop-test .left) (L .inv .3 σ es given),
@@ -97,19 +75,5 @@ returns c = let A = c .before .before .before .before .before .before .before .b
 pub note-covers-spec : {M : Type 1} → statement M
 note-covers-spec =
     tie.close
-    (tie.spec
-    Inv-loop
-    μ-loop
-    slice-aggregate-enter-all
-    enter-all-requires
-    loop-holds
-    slice-aggregate-inherit
-    add-inherit
-    mul-inherit
-    shared-slice-read-inherit
-    inherit-requires
-    add-k
-    loop-less
-    loop-again
-    same-length
-    returns)
+    (tie.spec Inv-loop μ-loop (λ c. search needs) enter-all-requires loop-holds (λ c. search needs) add-inherit (λ c. search needs)
+    (λ c. search needs) inherit-requires add-k (λ c. search needs) loop-again (λ c. search needs) returns)

@@ -11,10 +11,6 @@ use Rattle.access_items.specs.Note.{itemsNoted}
 use borrow.Author.Needs.{needs}
 use Rattle.access_items.proofs.note_items.Statement.{statement}
 use Rattle.access_items.proofs.note_items.Tie as tie
-use Rattle.access_items.proofs.note_items.Reads as reads
-use Rattle.access_items.proofs.note_items.Lts as lts
-use Rattle.access_items.proofs.note.note_item.Reads as note-item-reads
-use Rattle.access_items.proofs.types.ranks.Reads as ranks-reads
 
 abbrev Inv-loop : tie.InvT-loop
 Inv-loop rights w schema order sets₀ ranks j₀ sets j = (j ≤ length order) × (length sets ≡ length sets₀) × (sets ≡ itemsNoted rights w ranks order j sets₀)
@@ -22,18 +18,9 @@ Inv-loop rights w schema order sets₀ ranks j₀ sets j = (j ≤ length order) 
 abbrev μ-loop : tie.MeasureT-loop
 μ-loop rights w schema order sets₀ ranks j₀ sets j = length order - j
 
-ranks-requires : tie.Need-ranks-requires Inv-loop μ-loop
-ranks-requires c κs = search needs
-
 loop-holds : tie.Need-loop-holds Inv-loop μ-loop
 unfolding itemsNoted
 loop-holds c = (omega arith, refl, refl)
-
-mul-note-item : tie.Need-mul-note-item Inv-loop μ-loop
-mul-note-item c = search needs
-
-shared-slice-read-note-item : tie.Need-shared-slice-read-note-item Inv-loop μ-loop
-shared-slice-read-note-item c = search needs
 
 mul-note-item-2 : tie.Need-mul-note-item-2 Inv-loop μ-loop
 mul-note-item-2 c = let A = c .before .before .before .before .before .before .before .before .args in let P = c .before .before .before .before .before .before .before .before .pre in let L = c .before .before .loop in let h = small-row (A .w) (P .4 .0) (P .4 .1) (now (A .rights)) (P .4 .2) (now (A .order)) (P .4 .3) (L .j) (c .before .loop-test .taken) .within in search needs
@@ -41,18 +28,9 @@ mul-note-item-2 c = let A = c .before .before .before .before .before .before .b
 note-item-requires : tie.Need-note-item-requires Inv-loop μ-loop
 note-item-requires c κs = let A = c .before .before .before .before .before .before .before .before .before .before .args in let P = c .before .before .before .before .before .before .before .before .before .before .pre in let L = c .before .before .before .before .loop in (L .inv .1 ∙ ap length (P .0) ∙ length-replicate {A = ℕ} 2360 0, omega (arith, c .before .before .before .loop-test .taken, P .4 .3 .count, P .4 .3 .table .few), P .3, λ t. omega (arith, c .before .before .before .before .before .ranks .ensures .most t, P .2), small-row (A .w) (P .4 .0) (P .4 .1) (now (A .rights)) (P .4 .2) (now (A .order)) (P .4 .3) (L .j) (c .before .before .before .loop-test .taken))
 
-add-j : tie.Need-add-j Inv-loop μ-loop
-add-j c = search needs
-
-loop-less : tie.Need-loop-less Inv-loop μ-loop
-loop-less c = search needs
-
 loop-again : tie.Need-loop-again Inv-loop μ-loop
 unfolding itemsNoted
 loop-again c = let A = c .before .before .before .before .before .before .before .before .before .before .before .before .before .args in let L = c .before .before .before .before .before .before .before .loop in (omega (arith, c .before .before .before .before .before .before .loop-test .taken), c .before .before .note-item .kept .1 .1 .1 .1 .1 .0 ∙ L .inv .1, c .before .before .note-item .ensures ∙ ap (itemNoted (now (A .rights)) (getD (now (A .order)) (L .j) 0 * 8) (A .w) (c .before .before .before .before .before .before .before .before .ranks .result) (L .j)) (L .inv .2) ∙ ap (λ (n : ℕ). itemsNoted (now (A .rights)) (A .w) (c .before .before .before .before .before .before .before .before .ranks .result) (now (A .order)) n (now (A .sets))) (sym (add-one (L .j))))
-
-same-length : tie.Need-same-length Inv-loop μ-loop
-same-length c = search needs
 
 returns : tie.Need-returns Inv-loop μ-loop
 returns c = let A = c .before .before .before .before .before .before .before .args in let P = c .before .before .before .before .before .before .before .pre in let L = c .before .loop in let F = all-filled (A .w) (P .4 .0) (P .4 .1) (now (A .rights)) (P .4 .2) (now (A .order)) (P .4 .3) (now (A .schema)) (c .before .before .ranks .result) (P .2) (c .before .before .ranks .ensures) (now (A .sets)) (P .0) (L .sets) (L .j) (L .inv .0) (c .loop-test .left) (L .inv .2) in (λ p is scopes S. items-noted (A .w) p is (now (A .rights)) scopes (now (A .order)) S (now (A .schema)) (c .before .before .ranks .result) (P .2) (c .before .before .ranks .ensures) (L .sets) F, F .front)
@@ -60,17 +38,5 @@ returns c = let A = c .before .before .before .before .before .before .before .a
 pub note-items-spec : {M : Type 1} → statement M
 note-items-spec =
     tie.close
-    (tie.spec
-    Inv-loop
-    μ-loop
-    ranks-requires
-    loop-holds
-    mul-note-item
-    shared-slice-read-note-item
-    mul-note-item-2
-    note-item-requires
-    add-j
-    loop-less
-    loop-again
-    same-length
-    returns)
+    (tie.spec Inv-loop μ-loop (λ c κs. search needs) loop-holds (λ c. search needs) (λ c. search needs) mul-note-item-2 note-item-requires
+    (λ c. search needs) (λ c. search needs) loop-again (λ c. search needs) returns)

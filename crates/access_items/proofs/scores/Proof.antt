@@ -7,8 +7,6 @@ use Rattle.access_items.specs.Laws.Rank.{keys-more}
 use borrow.Author.Needs.{needs}
 use Rattle.access_items.proofs.scores.Statement.{statement}
 use Rattle.access_items.proofs.scores.Tie as tie
-use Rattle.access_items.proofs.scores.Reads as reads
-use Rattle.access_items.proofs.scores.Lts as lts
 
 abbrev Inv-loop : tie.InvT-loop
 Inv-loop rights count keys₀ k₀ keys k = (k ≤ count) × (length keys ≡ length keys₀) × ((i : ℕ) → i < k → getD keys i 0 ≡ getD rights (i * 8 + 0) 0)
@@ -19,35 +17,8 @@ abbrev μ-loop : tie.MeasureT-loop
 loop-holds : tie.Need-loop-holds Inv-loop μ-loop
 loop-holds c = (omega arith, refl, λ i l. absurd (omega arith))
 
-mul-keys : tie.Need-mul-keys Inv-loop μ-loop
-mul-keys c = search needs
-
-add-keys : tie.Need-add-keys Inv-loop μ-loop
-add-keys c = search needs
-
-mul-keys-2 : tie.Need-mul-keys-2 Inv-loop μ-loop
-mul-keys-2 c = search needs
-
-shared-slice-read-keys : tie.Need-shared-slice-read-keys Inv-loop μ-loop
-shared-slice-read-keys c = search needs
-
-mul-keys-3 : tie.Need-mul-keys-3 Inv-loop μ-loop
-mul-keys-3 c = search needs
-
-slice-write-keys : tie.Need-slice-write-keys Inv-loop μ-loop
-slice-write-keys c = search needs
-
-add-k : tie.Need-add-k Inv-loop μ-loop
-add-k c = search needs
-
-loop-less : tie.Need-loop-less Inv-loop μ-loop
-loop-less c = search needs
-
 loop-again : tie.Need-loop-again Inv-loop μ-loop
 loop-again c = let L = c .before .before .loop in let A = c .before .before .before .args in (omega (arith, c .before .loop-test .taken), length-set (L .keys) (L .k) _ ∙ L .inv .1, keys-more (now (A .rights)) (L .keys) (L .k) (omega (arith, c .before .loop-test .taken, L .inv .1, c .before .before .before .pre .0)) (L .inv .2))
-
-same-length : tie.Need-same-length Inv-loop μ-loop
-same-length c = search needs
 
 returns : tie.Need-returns Inv-loop μ-loop
 returns c = let L = c .before .loop in λ k l. L .inv .2 k (omega (arith, l, c .loop-test .left))
@@ -55,18 +26,5 @@ returns c = let L = c .before .loop in λ k l. L .inv .2 k (omega (arith, l, c .
 pub scores-spec : {M : Type 1} → statement M
 scores-spec =
     tie.close
-    (tie.spec
-    Inv-loop
-    μ-loop
-    loop-holds
-    mul-keys
-    add-keys
-    mul-keys-2
-    shared-slice-read-keys
-    mul-keys-3
-    slice-write-keys
-    add-k
-    loop-less
-    loop-again
-    same-length
-    returns)
+    (tie.spec Inv-loop μ-loop loop-holds (λ c. search needs) (λ c. search needs) (λ c. search needs) (λ c. search needs) (λ c. search needs)
+    (λ c. search needs) (λ c. search needs) (λ c. search needs) loop-again (λ c. search needs) returns)

@@ -7,32 +7,6 @@ use Rattle.access_may.specs.Laws.Decided.{row-member}
 use borrow.Author.Needs.{needs}
 use Rattle.access_may.proofs.about_all.Statement.{statement}
 use Rattle.access_may.proofs.about_all.Tie as tie
-use Rattle.access_may.proofs.about_all.Reads as reads
-use Rattle.access_may.proofs.about_all.Lts as lts
-use Rattle.access_set.proofs.Bits.and.Reads as and-reads
-use Rattle.access_set.proofs.Bits.or.Reads as or-reads
-use Rattle.tables.proofs.sets.row.Reads as row-reads
-
-add-row : tie.Need-add-row
-add-row c = search needs
-
-row-requires : tie.Need-row-requires
-row-requires c κs = search needs
-
-row-requires-2 : tie.Need-row-requires-2
-row-requires-2 c κs = search needs
-
-and-requires : tie.Need-and-requires
-and-requires c κs = search needs
-
-row-requires-3 : tie.Need-row-requires-3
-row-requires-3 c κs = search needs
-
-or-requires : tie.Need-or-requires
-or-requires c κs = search needs
-
-and-requires-2 : tie.Need-and-requires-2
-and-requires-2 c κs = search needs
 
 returns : tie.Need-returns
 returns c = λ j. c .and2 .ensures j ∙ ap (λ (b : Bool). member (c .before .before .before .before .before .before .before .before .before .args .asked) j && b) (c .before .or .ensures j ∙ ap₂ _||_ (row-member (now (c .before .before .before .before .before .before .before .before .before .args .sets)) (266) (c .before .before .row3 .result) (c .before .before .row3 .ensures) j) (c .before .before .before .before .and .ensures j ∙ ap₂ _&&_ (row-member (now (c .before .before .before .before .before .before .before .before .before .args .sets)) (270 + c .before .before .before .before .before .before .before .before .before .args .rank) (c .before .before .before .before .before .before .before .row .result) (c .before .before .before .before .before .before .before .row .ensures) j) (row-member (now (c .before .before .before .before .before .before .before .before .before .args .sets)) (268) (c .before .before .before .before .before .row2 .result) (c .before .before .before .before .before .row2 .ensures) j)))
@@ -40,12 +14,5 @@ returns c = λ j. c .and2 .ensures j ∙ ap (λ (b : Bool). member (c .before .b
 pub about-all-spec : {M : Type 1} → statement M
 about-all-spec =
     tie.close
-    (tie.spec
-    add-row
-    row-requires
-    row-requires-2
-    and-requires
-    row-requires-3
-    or-requires
-    and-requires-2
-    returns)
+    (tie.spec (λ c. search needs) (λ c κs. search needs) (λ c κs. search needs) (λ c κs. search needs) (λ c κs. search needs) (λ c κs. search needs)
+    (λ c κs. search needs) returns)

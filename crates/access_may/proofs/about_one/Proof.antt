@@ -7,29 +7,10 @@ use Rattle.access_may.specs.Laws.Decided.{row-member}
 use borrow.Author.Needs.{needs}
 use Rattle.access_may.proofs.about_one.Statement.{statement}
 use Rattle.access_may.proofs.about_one.Tie as tie
-use Rattle.access_may.proofs.about_one.Reads as reads
-use Rattle.access_may.proofs.about_one.Lts as lts
-use Rattle.access_set.proofs.Bits.and.Reads as and-reads
-use Rattle.tables.proofs.sets.row.Reads as row-reads
-
-add-row : tie.Need-add-row
-add-row c = search needs
-
-row-requires : tie.Need-row-requires
-row-requires c κs = search needs
-
-row-requires-2 : tie.Need-row-requires-2
-row-requires-2 c κs = search needs
-
-and-requires : tie.Need-and-requires
-and-requires c κs = search needs
-
-and-requires-2 : tie.Need-and-requires-2
-and-requires-2 c κs = search needs
 
 returns : tie.Need-returns
 returns c = λ j. c .and2 .ensures j ∙ ap (λ (b : Bool). member (c .before .before .before .before .before .before .args .asked) j && b) (c .before .and .ensures j ∙ ap₂ _&&_ (row-member (now (c .before .before .before .before .before .before .args .sets)) (270 + c .before .before .before .before .before .before .args .rank) (c .before .before .before .before .row .result) (c .before .before .before .before .row .ensures) j) (row-member (now (c .before .before .before .before .before .before .args .sets)) (269) (c .before .before .row2 .result) (c .before .before .row2 .ensures) j))
 
 pub about-one-spec : {M : Type 1} → statement M
 about-one-spec =
-    tie.close (tie.spec add-row row-requires row-requires-2 and-requires and-requires-2 returns)
+    tie.close (tie.spec (λ c. search needs) (λ c κs. search needs) (λ c κs. search needs) (λ c κs. search needs) (λ c κs. search needs) returns)

@@ -6,35 +6,6 @@ use Rattle.access_may.specs.Laws.Decided.{row-member}
 use borrow.Author.Needs.{needs}
 use Rattle.access_may.proofs.about_type.Statement.{statement}
 use Rattle.access_may.proofs.about_type.Tie as tie
-use Rattle.access_may.proofs.about_type.Reads as reads
-use Rattle.access_may.proofs.about_type.Lts as lts
-use Rattle.access_set.proofs.Bits.and.Reads as and-reads
-use Rattle.access_set.proofs.Bits.or.Reads as or-reads
-use Rattle.tables.proofs.sets.row.Reads as row-reads
-
-row-requires : tie.Need-row-requires
-row-requires c κs = search needs
-
-add-row : tie.Need-add-row
-add-row c = search needs
-
-row-requires-2 : tie.Need-row-requires-2
-row-requires-2 c κs = search needs
-
-and-requires : tie.Need-and-requires
-and-requires c κs = search needs
-
-row-requires-3 : tie.Need-row-requires-3
-row-requires-3 c κs = search needs
-
-row-requires-4 : tie.Need-row-requires-4
-row-requires-4 c κs = search needs
-
-or-requires : tie.Need-or-requires
-or-requires c κs = search needs
-
-or-requires-2 : tie.Need-or-requires-2
-or-requires-2 c κs = search needs
 
 returns : tie.Need-returns
 returns c = λ j. c .or2 .ensures j ∙ ap₂ _||_ (row-member (now (c .before .before .before .before .before .before .before .before .before .before .before .args .sets)) (265) (c .before .before .before .before .row3 .result) (c .before .before .before .before .row3 .ensures) j) (c .before .or .ensures j ∙ ap₂ _||_ (row-member (now (c .before .before .before .before .before .before .before .before .before .before .before .args .sets)) (266) (c .before .before .row4 .result) (c .before .before .row4 .ensures) j) (c .before .before .before .before .before .before .and .ensures j ∙ ap₂ _&&_ (row-member (now (c .before .before .before .before .before .before .before .before .before .before .before .args .sets)) (267) (c .before .before .before .before .before .before .before .before .before .row .result) (c .before .before .before .before .before .before .before .before .before .row .ensures) j) (row-member (now (c .before .before .before .before .before .before .before .before .before .before .before .args .sets)) (270 + c .before .before .before .before .before .before .before .before .before .before .before .args .rank) (c .before .before .before .before .before .before .before .row2 .result) (c .before .before .before .before .before .before .before .row2 .ensures) j)))
@@ -42,13 +13,5 @@ returns c = λ j. c .or2 .ensures j ∙ ap₂ _||_ (row-member (now (c .before .
 pub about-type-spec : {M : Type 1} → statement M
 about-type-spec =
     tie.close
-    (tie.spec
-    row-requires
-    add-row
-    row-requires-2
-    and-requires
-    row-requires-3
-    row-requires-4
-    or-requires
-    or-requires-2
-    returns)
+    (tie.spec (λ c κs. search needs) (λ c. search needs) (λ c κs. search needs) (λ c κs. search needs) (λ c κs. search needs) (λ c κs. search needs)
+    (λ c κs. search needs) (λ c κs. search needs) returns)

@@ -7,28 +7,10 @@ use Rattle.access_may.specs.Laws.Granted.{entry-granted}
 use borrow.Author.Needs.{needs}
 use Rattle.access_may.proofs.may_entry.Statement.{statement}
 use Rattle.access_may.proofs.may_entry.Tie as tie
-use Rattle.access_may.proofs.may_entry.Reads as reads
-use Rattle.access_may.proofs.may_entry.Lts as lts
-use Rattle.access_may.proofs.decided.Reads as decided-reads
-use Rattle.access_may.proofs.naming.Reads as naming-reads
-use Rattle.access_set.proofs.Bits.and.Reads as and-reads
-use Rattle.tables.proofs.sets.row.Reads as row-reads
-
-naming-requires : tie.Need-naming-requires
-naming-requires c κs = search needs
-
-row-requires : tie.Need-row-requires
-row-requires c κs = search needs
-
-and-requires : tie.Need-and-requires
-and-requires c κs = search needs
-
-decided-requires : tie.Need-decided-requires
-decided-requires c κs = search needs
 
 returns : tie.Need-returns
 returns c = λ σ es d p book held w l. entry-granted σ es d p book held (now (c .before .before .before .before .before .args .sets)) w (c .before .before .before .before .before .args .q) (c .before .before .before .before .before .pre .1) (c .before .before .before .before .before .args .e) l (member (c .before .and .result)) (λ j. c .before .and .ensures j ∙ ap₂ _&&_ (c .before .before .before .before .naming .ensures j) (row-member (now (c .before .before .before .before .before .args .sets)) (264) (c .before .before .row .result) (c .before .before .row .ensures) j)) (c .decided .result) (c .decided .ensures)
 
 pub may-entry-spec : {M : Type 1} → statement M
 may-entry-spec =
-    tie.close (tie.spec naming-requires row-requires and-requires decided-requires returns)
+    tie.close (tie.spec (λ c κs. search needs) (λ c κs. search needs) (λ c κs. search needs) (λ c κs. search needs) returns)

@@ -6,28 +6,10 @@ use Rattle.access_may.specs.Laws.Granted.{type-granted}
 use borrow.Author.Needs.{needs}
 use Rattle.access_may.proofs.may_type.Statement.{statement}
 use Rattle.access_may.proofs.may_type.Tie as tie
-use Rattle.access_may.proofs.may_type.Reads as reads
-use Rattle.access_may.proofs.may_type.Lts as lts
-use Rattle.access_may.proofs.about_type.Reads as about-type-reads
-use Rattle.access_may.proofs.decided.Reads as decided-reads
-use Rattle.access_may.proofs.naming.Reads as naming-reads
-use Rattle.access_set.proofs.Bits.and.Reads as and-reads
-
-naming-requires : tie.Need-naming-requires
-naming-requires c κs = search needs
-
-about-type-requires : tie.Need-about-type-requires
-about-type-requires c κs = search needs
-
-and-requires : tie.Need-and-requires
-and-requires c κs = search needs
-
-decided-requires : tie.Need-decided-requires
-decided-requires c κs = search needs
 
 returns : tie.Need-returns
 returns c = λ σ es d p book held w l k. type-granted σ es d p book held (now (c .before .before .before .before .args .sets)) w (c .before .before .before .before .args .q) (c .before .before .before .before .pre .2) (c .before .before .before .before .args .e) l (c .before .before .before .before .args .rank) k (member (c .before .and .result)) (λ j. c .before .and .ensures j ∙ ap₂ _&&_ (c .before .before .before .naming .ensures j) (c .before .before .about-type .ensures j)) (c .decided .result) (c .decided .ensures)
 
 pub may-type-spec : {M : Type 1} → statement M
 may-type-spec =
-    tie.close (tie.spec naming-requires about-type-requires and-requires decided-requires returns)
+    tie.close (tie.spec (λ c κs. search needs) (λ c κs. search needs) (λ c κs. search needs) (λ c κs. search needs) returns)

@@ -8,33 +8,6 @@ use Rattle.access_may.specs.Laws.Granted.{value-granted}
 use borrow.Author.Needs.{needs}
 use Rattle.access_may.proofs.may_value.Statement.{statement}
 use Rattle.access_may.proofs.may_value.Tie as tie
-use Rattle.access_may.proofs.may_value.Reads as reads
-use Rattle.access_may.proofs.may_value.Lts as lts
-use Rattle.access_may.proofs.about_all.Reads as about-all-reads
-use Rattle.access_may.proofs.about_one.Reads as about-one-reads
-use Rattle.access_may.proofs.naming.Reads as naming-reads
-use Rattle.access_may.proofs.single.decided_value.Reads as decided-value-reads
-
-naming-requires : tie.Need-naming-requires
-naming-requires c κs = search needs
-
-about-all-requires : tie.Need-about-all-requires
-about-all-requires c κs = search needs
-
-about-one-requires : tie.Need-about-one-requires
-about-one-requires c κs = search needs
-
-add-decided-value : tie.Need-add-decided-value
-add-decided-value c = search needs
-
-mul-decided-value : tie.Need-mul-decided-value
-mul-decided-value c = search needs
-
-element-copy-out-decided-value : tie.Need-element-copy-out-decided-value
-element-copy-out-decided-value c = search needs
-
-decided-value-requires : tie.Need-decided-value-requires
-decided-value-requires c κs = search needs
 
 returns : tie.Need-returns
 returns c = λ σ es d held w l. value-granted σ es d (now (c .before .before .before .before .before .before .before .args .p)) (now (c .before .before .before .before .before .before .before .args .book)) held (now (c .before .before .before .before .before .before .before .args .sets)) w (c .before .before .before .before .before .before .before .args .q) (c .before .before .before .before .before .before .before .pre .2) (c .before .before .before .before .before .before .before .args .e) l (c .before .before .before .before .before .before .before .args .rank) (c .before .before .before .before .before .before .before .pre .1) (now (c .before .before .before .before .before .before .before .args .v)) (member (c .before .before .before .about-all .result)) (member (c .before .before .about-one .result)) (λ j. c .before .before .before .about-all .ensures j ∙ ap (λ (b : Bool). b && (inRow (now (c .before .before .before .before .before .before .before .args .sets)) 266 j || inRow (now (c .before .before .before .before .before .before .before .args .sets)) (270 + c .before .before .before .before .before .before .before .args .rank) j && inRow (now (c .before .before .before .before .before .before .before .args .sets)) 268 j)) (c .before .before .before .before .naming .ensures j)) (λ j. c .before .before .about-one .ensures j ∙ ap (λ (b : Bool). b && (inRow (now (c .before .before .before .before .before .before .before .args .sets)) (270 + c .before .before .before .before .before .before .before .args .rank) j && inRow (now (c .before .before .before .before .before .before .before .args .sets)) 269 j)) (c .before .before .before .before .naming .ensures j)) (c .decided-value .result) (c .decided-value .ensures)
@@ -42,12 +15,5 @@ returns c = λ σ es d held w l. value-granted σ es d (now (c .before .before .
 pub may-value-spec : {M : Type 1} → statement M
 may-value-spec =
     tie.close
-    (tie.spec
-    naming-requires
-    about-all-requires
-    about-one-requires
-    add-decided-value
-    mul-decided-value
-    element-copy-out-decided-value
-    decided-value-requires
-    returns)
+    (tie.spec (λ c κs. search needs) (λ c κs. search needs) (λ c κs. search needs) (λ c. search needs) (λ c. search needs) (λ c. search needs)
+    (λ c κs. search needs) returns)

@@ -6,25 +6,9 @@ use Rattle.access_may.specs.Laws.Decided.{row-member}
 use borrow.Author.Needs.{needs}
 use Rattle.access_may.proofs.naming.Statement.{statement}
 use Rattle.access_may.proofs.naming.Tie as tie
-use Rattle.access_may.proofs.naming.Reads as reads
-use Rattle.access_may.proofs.naming.Lts as lts
-use Rattle.access_set.proofs.Bits.and.Reads as and-reads
-use Rattle.tables.proofs.sets.row.Reads as row-reads
-
-row-requires : tie.Need-row-requires
-row-requires c κs = search needs
-
-add-row : tie.Need-add-row
-add-row c = search needs
-
-row-requires-2 : tie.Need-row-requires-2
-row-requires-2 c κs = search needs
-
-and-requires : tie.Need-and-requires
-and-requires c κs = search needs
 
 returns : tie.Need-returns
 returns c = λ j. c .and .ensures j ∙ ap₂ _&&_ (row-member (now (c .before .before .before .before .before .args .sets)) (c .before .before .before .before .before .args .e) (c .before .before .before .row .result) (c .before .before .before .row .ensures) j) (row-member (now (c .before .before .before .before .before .args .sets)) (258 + c .before .before .before .before .before .args .q) (c .before .row2 .result) (c .before .row2 .ensures) j)
 
 pub naming-spec : {M : Type 1} → statement M
-naming-spec = tie.close (tie.spec row-requires add-row row-requires-2 and-requires returns)
+naming-spec = tie.close (tie.spec (λ c κs. search needs) (λ c. search needs) (λ c κs. search needs) (λ c κs. search needs) returns)

@@ -5,18 +5,6 @@ use Rattle.entry_lookup.specs.Laws.Find.{up-to}
 use borrow.Author.Needs.{needs}
 use Rattle.access_scope.proofs.own_number.Statement.{statement}
 use Rattle.access_scope.proofs.own_number.Tie as tie
-use Rattle.access_scope.proofs.own_number.Reads as reads
-use Rattle.access_scope.proofs.own_number.Lts as lts
-use Rattle.entry_lookup.proofs.find.resolve.Reads as resolve-reads
-
-resolve-requires : tie.Need-resolve-requires
-resolve-requires c κs = search needs
-
-enum-known-b : tie.Need-enum-known-b
-enum-known-b c = search needs
-
-enum-told : tie.Need-enum-told
-enum-told c = search needs
 
 returns : tie.Need-returns
 returns c = (up-to _ _ _ (c .before .before .before .resolve .ensures .0) (c .before .b .given .1), λ σ es held h. ap numberOr0 (sym (c .before .b .given .1) ∙ c .before .before .before .resolve .ensures .1 σ es held h))
@@ -25,4 +13,4 @@ returns-2 : tie.Need-returns-2
 returns-2 c = (zero-le, λ σ es held h. ap numberOr0 (sym (c .enum-told .given .1) ∙ c .before .before .resolve .ensures .1 σ es held h))
 
 pub own-number-spec : {M : Type 1} → statement M
-own-number-spec = tie.close (tie.spec resolve-requires enum-known-b enum-told returns returns-2)
+own-number-spec = tie.close (tie.spec (λ c κs. search needs) (λ c. search needs) (λ c. search needs) returns returns-2)

@@ -7,11 +7,6 @@ use Rattle.access_scope.specs.Laws.Resolved.{Resolved, resolved-none, re
 use borrow.Author.Needs.{needs}
 use Rattle.access_scope.proofs.reach_all.Statement.{statement}
 use Rattle.access_scope.proofs.reach_all.Tie as tie
-use Rattle.access_scope.proofs.reach_all.Reads as reads
-use Rattle.access_scope.proofs.reach_all.Lts as lts
-use Rattle.access_scope.proofs.own_number.Reads as own-number-reads
-use Rattle.access_scope.proofs.reach_item.Reads as reach-item-reads
-use Rattle.access_scope.proofs.scope_at.Reads as scope-at-reads
 
 abbrev Inv-loop : tie.InvT-loop
 Inv-loop book d p rights scopes q who reach₀ o k₀ reach k = (k ≤ length reach₀) × (length reach ≡ length reach₀) × Resolved book d p rights scopes q who (length reach₀) k reach
@@ -19,26 +14,11 @@ Inv-loop book d p rights scopes q who reach₀ o k₀ reach k = (k ≤ length re
 abbrev μ-loop : tie.MeasureT-loop
 μ-loop book d p rights scopes q who reach₀ o k₀ reach k = length reach₀ - k
 
-own-number-requires : tie.Need-own-number-requires Inv-loop μ-loop
-own-number-requires c κs = search needs
-
 loop-holds : tie.Need-loop-holds Inv-loop μ-loop
 loop-holds c = let a = c .before .before .before .before .before .before .before .args in (zero-le, refl, resolved-none (now (a .book)) (now (a .d)) (now (a .p)) (now (a .rights)) (now (a .scopes)) (now (a .q)) (a .who) (length (now (a .reach))) (now (a .reach)))
 
 scope-at-requires : tie.Need-scope-at-requires Inv-loop μ-loop
 scope-at-requires c κs = let L = c .before .loop in (omega (arith, c .loop-test .taken, L .inv .1, c .before .before .before .before .before .before .before .before .before .pre .1), omega (arith, c .loop-test .taken, L .inv .1, c .before .before .before .before .before .before .before .before .before .pre .2))
-
-reach-item-requires : tie.Need-reach-item-requires Inv-loop μ-loop
-reach-item-requires c κs = search needs
-
-mul-reach : tie.Need-mul-reach Inv-loop μ-loop
-mul-reach c = search needs
-
-slice-write-reach : tie.Need-slice-write-reach Inv-loop μ-loop
-slice-write-reach c = search needs
-
-add-k : tie.Need-add-k Inv-loop μ-loop
-add-k c = search needs
 
 loop-less : tie.Need-loop-less Inv-loop μ-loop
 loop-less c = omega (arith, c .before .before .loop-test .taken, c .before .before .before .loop .inv .1)
@@ -50,9 +30,6 @@ loop-again c = let a = c .before .before .before .before .before .before .before
   resolved-on (now (a .book)) (now (a .d)) (now (a .p)) (now (a .rights)) (now (a .scopes)) (now (a .q)) (a .who) (length (now (a .reach))) (L .k) (L .reach) _ _ _ (c .before .before .loop-test .taken) (omega (arith, c .before .before .loop-test .taken, L .inv .1)) (L .inv .2) (c .before .before .before .before .own-number .ensures .1) (c .before .scope-at .ensures) (c .reach-item .ensures),
 )
 
-same-length : tie.Need-same-length Inv-loop μ-loop
-same-length c = search needs
-
 returns : tie.Need-returns Inv-loop μ-loop
 returns c = let a = c .before .before .before .before .before .before .before .before .before .args in let L = c .before .loop in
     resolved-all (now (a .book)) (now (a .d)) (now (a .p)) (now (a .rights)) (now (a .scopes)) (now (a .q)) (a .who) (length (now (a .reach))) (L .k) (L .reach) (omega (arith, c .loop-test .left, L .inv .1)) (L .inv .1) (L .inv .2)
@@ -60,17 +37,5 @@ returns c = let a = c .before .before .before .before .before .before .before .b
 pub reach-all-spec : {M : Type 1} → statement M
 reach-all-spec =
     tie.close
-    (tie.spec
-    Inv-loop
-    μ-loop
-    own-number-requires
-    loop-holds
-    scope-at-requires
-    reach-item-requires
-    mul-reach
-    slice-write-reach
-    add-k
-    loop-less
-    loop-again
-    same-length
-    returns)
+    (tie.spec Inv-loop μ-loop (λ c κs. search needs) loop-holds scope-at-requires (λ c κs. search needs) (λ c. search needs) (λ c. search needs)
+    (λ c. search needs) loop-less loop-again (λ c. search needs) returns)

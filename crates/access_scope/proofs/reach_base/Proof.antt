@@ -6,22 +6,9 @@ use Rattle.access_scope.specs.Scopes.{spreadFrom}
 use borrow.Author.Needs.{needs}
 use Rattle.access_scope.proofs.reach_base.Statement.{statement}
 use Rattle.access_scope.proofs.reach_base.Tie as tie
-use Rattle.access_scope.proofs.reach_base.Reads as reads
-use Rattle.access_scope.proofs.reach_base.Lts as lts
-use Rattle.access_scope.proofs.spread.Reads as spread-reads
-use Rattle.entry_lookup.proofs.find.resolve.Reads as resolve-reads
-
-resolve-requires : tie.Need-resolve-requires
-resolve-requires c κs = search needs
-
-enum-known-b : tie.Need-enum-known-b
-enum-known-b c = search needs
 
 spread-requires : tie.Need-spread-requires
 spread-requires c κs = ((now (c .before .before .before .before .before .before .args .d), c .before .before .before .before .before .before .pre .0), omega (arith, up-to _ _ _ (c .before .before .before .resolve .ensures .0) (c .before .b .given .1), c .before .before .before .before .before .before .pre .0 .3 .fits .few-entries), c .before .before .before .before .before .before .pre .1)
-
-enum-told : tie.Need-enum-told
-enum-told c = search needs
 
 returns : tie.Need-returns
 returns c = let a = c .before .before .before .before .before .before .before .args in λ σ es held h. c .spread .ensures σ es (now (a .d)) held h ∙ ap (spreadFrom es (a .x .who) (a .x .below) (a .o)) (sym (c .before .before .b .given .1) ∙ c .before .before .before .before .resolve .ensures .1 σ es held h)
@@ -31,4 +18,4 @@ returns-2 c = let a = c .before .before .before .before .before .args in λ σ e
 
 pub reach-base-spec : {M : Type 1} → statement M
 reach-base-spec =
-    tie.close (tie.spec resolve-requires enum-known-b spread-requires enum-told returns returns-2)
+    tie.close (tie.spec (λ c κs. search needs) (λ c. search needs) spread-requires (λ c. search needs) returns returns-2)

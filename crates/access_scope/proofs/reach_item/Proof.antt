@@ -7,16 +7,6 @@ use Rattle.access_scope.specs.Laws.Scopes.{item-asked, item-unasked}
 use borrow.Author.Needs.{needs}
 use Rattle.access_scope.proofs.reach_item.Statement.{statement}
 use Rattle.access_scope.proofs.reach_item.Tie as tie
-use Rattle.access_scope.proofs.reach_item.Reads as reads
-use Rattle.access_scope.proofs.reach_item.Lts as lts
-use Rattle.access_scope.proofs.asked.asked.Reads as asked-reads
-use Rattle.access_scope.proofs.reach_base.Reads as reach-base-reads
-
-asked-requires : tie.Need-asked-requires
-asked-requires c κs = search needs
-
-reach-base-requires : tie.Need-reach-base-requires
-reach-base-requires c κs = search needs
 
 returns : tie.Need-returns
 returns c = let a = c .before .before .before .before .before .before .args in λ σ es held h. c .reach-base .ensures σ es held h
@@ -26,4 +16,4 @@ returns-2 : tie.Need-returns-2
 returns-2 c = let a = c .before .before .before .before .before .args in λ σ es held h. item-unasked (σ .schema) (width (now (a .book))) (now (a .p)) (a .x) (now (a .q)) (a .who) es (a .o) (ap (λ (S : Schema). askedBy S (width (now (a .book))) (now (a .p)) (a .x) (now (a .q)) (a .who)) (h .schema-is) ∙ sym (c .before .asked .ensures) ∙ c .if1 .left)
 
 pub reach-item-spec : {M : Type 1} → statement M
-reach-item-spec = tie.close (tie.spec asked-requires reach-base-requires returns returns-2)
+reach-item-spec = tie.close (tie.spec (λ c κs. search needs) (λ c κs. search needs) returns returns-2)

@@ -2,8 +2,6 @@ use borrow.Author.Tests.{eq-eqb, ne-eqb}
 use Rattle.access_set.specs.Member.{wordOf}
 use Rattle.access_set.proofs.word.Statement.{statement}
 use Rattle.access_set.proofs.word.Tie as tie
-use Rattle.access_set.proofs.word.Reads as reads
-use Rattle.access_set.proofs.word.Lts as lts
 
 returns : tie.Need-returns
 unfolding wordOf

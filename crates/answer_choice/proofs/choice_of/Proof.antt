@@ -9,12 +9,6 @@ use Rattle.answer_choice.specs.Laws.Selected.{chooses-listed, chooses-al
 use borrow.Author.Needs.{needs}
 use Rattle.answer_choice.proofs.choice_of.Statement.{statement}
 use Rattle.answer_choice.proofs.choice_of.Tie as tie
-use Rattle.answer_choice.proofs.choice_of.Reads as reads
-use Rattle.answer_choice.proofs.choice_of.Lts as lts
-use Rattle.answer_choice.proofs.ranks_listed.Reads as ranks-listed-reads
-
-ranks-listed-requires : tie.Need-ranks-listed-requires
-ranks-listed-requires c κs = search needs
 
 returns : tie.Need-returns
 returns c = let b = now (c .before .before .before .before .args .book) in λ s h. chooses-listed (width b) (now (c .before .before .before .before .args .q)) (c .before .before .before .before .args .asked) s h (schema b) (c .before .before .if1 .taken) _ (c .before .ranks-listed .ensures) refl refl
@@ -23,4 +17,4 @@ returns-2 : tie.Need-returns-2
 returns-2 c = let b = now (c .before .before .args .book) in let P = c .before .before .pre in let n : length (schema b) ≡ types b = schema-length (P .0) in λ s h. chooses-all (width b) (now (c .before .before .args .q)) (c .before .before .args .asked) s h (schema b) (c .if1 .left) (omega (arith, n, P .0 .few-types)) _ refl refl refl
 
 pub choice-of-spec : {M : Type 1} → statement M
-choice-of-spec = tie.close (tie.spec ranks-listed-requires returns returns-2)
+choice-of-spec = tie.close (tie.spec (λ c κs. search needs) returns returns-2)

@@ -16,10 +16,6 @@ use Rattle.tables.specs.Held.{typeAt}
 use borrow.Author.Needs.{needs}
 use Rattle.answer_choice.proofs.ranks_listed.Statement.{statement}
 use Rattle.answer_choice.proofs.ranks_listed.Tie as tie
-use Rattle.answer_choice.proofs.ranks_listed.Reads as reads
-use Rattle.answer_choice.proofs.ranks_listed.Lts as lts
-use Rattle.answer_choice.proofs.with_type.Reads as with-type-reads
-use Rattle.sheet.proofs.line_at.Reads as line-at-reads
 
 abbrev Inv-loop : tie.InvT-loop
 Inv-loop book q i n w ranks₀ j₀ left₀ ranks j left = (length q < 18446744073709551616) × ((k : ℕ) → k < length (schema book) → (bit ranks k || any (eqb (typeAt (schema book) k)) (typesOf left (linesAt (width book) q j))) ≡ any (eqb (typeAt (schema book) k)) (typesOf n (linesAt (width book) q i)))
@@ -36,12 +32,6 @@ loop-holds c = (omega arith, λ k l. ap (λ (t : Bool). t || any (eqb (typeAt (s
 line-at-requires : tie.Need-line-at-requires Inv-loop μ-loop
 line-at-requires c κs = let P = c .before .before .before .before .pre in omega (arith, P .0 .wide)
 
-enum-known-a : tie.Need-enum-known-a Inv-loop μ-loop
-enum-known-a c = search needs
-
-with-type-requires : tie.Need-with-type-requires Inv-loop μ-loop
-with-type-requires c κs = search needs
-
 mul-j : tie.Need-mul-j Inv-loop μ-loop
 mul-j c = let P = c .before .before .before .before .before .before .before .before .before .pre in omega (arith, P .0 .wide)
 
@@ -54,23 +44,11 @@ add-j-2 c = let b = now (c .before .before .before .before .before .before .befo
 add-j-3 : tie.Need-add-j-3 Inv-loop μ-loop
 add-j-3 c = let b = now (c .before .before .before .before .before .before .before .before .before .args .book) in let q = now (c .before .before .before .before .before .before .before .before .before .args .q) in let P = c .before .before .before .before .before .before .before .before .before .pre in let L = c .before .before .before .before .before .before .loop in let e = sym (c .before .before .before .before .line-at .ensures) ∙ c .before .before .a .given .1 in let h = taken-fits (width b) q (L .j) e in omega (arith, h .0, h .1, L .inv .0)
 
-sub-left : tie.Need-sub-left Inv-loop μ-loop
-sub-left c = search needs
-
-loop-less : tie.Need-loop-less Inv-loop μ-loop
-loop-less c = search needs
-
 loop-again : tie.Need-loop-again Inv-loop μ-loop
 loop-again c = let b = now (c .before .before .before .before .before .before .before .before .before .args .book) in let q = now (c .before .before .before .before .before .before .before .before .before .args .q) in let P = c .before .before .before .before .before .before .before .before .before .pre in let L = c .before .before .before .before .before .before .loop in let e = sym (c .before .before .before .before .line-at .ensures) ∙ c .before .before .a .given .1 in let h = taken-fits (width b) q (L .j) e in (L .inv .0, λ k l. listed-more (width b) q (L .j) (eqb (typeAt (schema b) k)) (L .left) (c .before .before .before .before .before .loop-test .taken) e (bit (L .ranks) k) (bit (c .with-type .result) k) (any (eqb (typeAt (schema b) k)) (typesOf (c .before .before .before .before .before .before .before .before .before .args .n) (linesAt (width b) q (c .before .before .before .before .before .before .before .before .before .args .i)))) (c .with-type .ensures k l) (L .inv .1 k l))
 
-enum-told : tie.Need-enum-told Inv-loop μ-loop
-enum-told c = search needs
-
 returns : tie.Need-returns Inv-loop μ-loop
 returns c = let b = now (c .before .before .before .before .before .before .before .args .book) in let q = now (c .before .before .before .before .before .before .before .args .q) in let P = c .before .before .before .before .before .before .before .pre in let L = c .before .before .before .before .loop in λ k l. or-none (bit (L .ranks) k) (any (eqb (typeAt (schema b) k)) (typesOf (L .left) (linesAt (width b) q (L .j)))) (listed-broken (width b) q (L .j) (eqb (typeAt (schema b) k)) (L .left) (c .before .before .before .loop-test .taken) (sym (c .before .before .line-at .ensures) ∙ c .enum-told .given .1)) ∙ L .inv .1 k l
-
-enum-told-2 : tie.Need-enum-told-2 Inv-loop μ-loop
-enum-told-2 c = search needs
 
 returns-2 : tie.Need-returns-2 Inv-loop μ-loop
 returns-2 c = let b = now (c .before .before .before .before .before .before .before .args .book) in let q = now (c .before .before .before .before .before .before .before .args .q) in let P = c .before .before .before .before .before .before .before .pre in let L = c .before .before .before .before .loop in λ k l. or-none (bit (L .ranks) k) (any (eqb (typeAt (schema b) k)) (typesOf (L .left) (linesAt (width b) q (L .j)))) (listed-end (width b) q (L .j) (eqb (typeAt (schema b) k)) (L .left) (c .before .before .before .loop-test .taken) (sym (c .before .before .line-at .ensures) ∙ c .enum-told2 .given .1)) ∙ L .inv .1 k l
@@ -81,23 +59,5 @@ returns-3 c = let b = now (c .before .before .before .before .args .book) in let
 pub ranks-listed-spec : {M : Type 1} → statement M
 ranks-listed-spec =
     tie.close
-    (tie.spec
-    Inv-loop
-    μ-loop
-    element-copy-out-w
-    loop-holds
-    line-at-requires
-    enum-known-a
-    with-type-requires
-    mul-j
-    add-j
-    add-j-2
-    add-j-3
-    sub-left
-    loop-less
-    loop-again
-    enum-told
-    returns
-    enum-told-2
-    returns-2
-    returns-3)
+    (tie.spec Inv-loop μ-loop element-copy-out-w loop-holds line-at-requires (λ c. search needs) (λ c κs. search needs) mul-j add-j add-j-2 add-j-3
+    (λ c. search needs) (λ c. search needs) loop-again (λ c. search needs) returns (λ c. search needs) returns-2 returns-3)

@@ -11,8 +11,6 @@ use Rattle.answer_choice.specs.Laws.Selected.{rank-in, rank-out, none}
 use borrow.Author.Needs.{needs}
 use Rattle.answer_choice.proofs.with_type.Statement.{statement}
 use Rattle.answer_choice.proofs.with_type.Tie as tie
-use Rattle.answer_choice.proofs.with_type.Reads as reads
-use Rattle.answer_choice.proofs.with_type.Lts as lts
 
 abbrev Inv-loop : tie.InvT-loop
 Inv-loop book ranks t types i₀ i = (i ≤ getD book 1 0) × ((r : ℕ) → r < i → typeAt (schema book) r ≡ t → ⊥)
@@ -26,12 +24,6 @@ element-copy-out-types c = let P = c .pre in omega (arith, P .0 .size)
 loop-holds : tie.Need-loop-holds Inv-loop μ-loop
 loop-holds c = (omega arith, λ r l. absurd (omega arith))
 
-add-if1 : tie.Need-add-if1 Inv-loop μ-loop
-add-if1 c = search needs
-
-mul-if1 : tie.Need-mul-if1 Inv-loop μ-loop
-mul-if1 c = search needs
-
 element-copy-out-if1 : tie.Need-element-copy-out-if1 Inv-loop μ-loop
 element-copy-out-if1 c = let P = c .before .before .before .pre in omega (arith, P .0 .size, P .0 .few-types, c .before .loop .inv .0, c .loop-test .taken)
 
@@ -40,12 +32,6 @@ shl-result c = let P = c .before .before .before .before .before .pre in omega (
 
 returns : tie.Need-returns Inv-loop μ-loop
 returns c = let b = now (c .before .before .before .before .before .args .book) in let P = c .before .before .before .before .before .pre in let L = c .before .before .before .loop in let n : length (schema b) ≡ types b = schema-length (P .0) in let l : L .i < types b = c .before .before .loop-test .taken in λ r m. rank-in (schema b) (c .before .before .before .before .before .args .t) (P .1) (L .i) (omega (arith, l)) (omega (arith, l, P .0 .few-types)) (ap (λ (x : ℕ). x / 4) (type-at b (L .i) l) ∙ c .if1 .taken) (c .before .before .before .before .before .args .ranks) r m
-
-add-i : tie.Need-add-i Inv-loop μ-loop
-add-i c = search needs
-
-loop-less : tie.Need-loop-less Inv-loop μ-loop
-loop-less c = search needs
 
 loop-again : tie.Need-loop-again Inv-loop μ-loop
 loop-again c = let b = now (c .before .before .before .before .before .args .book) in let P = c .before .before .before .before .before .pre in let L = c .before .before .before .loop in let l : L .i < types b = c .before .before .loop-test .taken in (omega (arith, l), λ r m e. none (schema b) (c .before .before .before .before .before .args .t) (L .i) (L .inv .1) (λ q. c .if1 .left (sym (ap (λ (x : ℕ). x / 4) (type-at b (L .i) l)) ∙ q)) r m e)
@@ -56,17 +42,5 @@ returns-2 c = let b = now (c .before .before .before .args .book) in let P = c .
 pub with-type-spec : {M : Type 1} → statement M
 with-type-spec =
     tie.close
-    (tie.spec
-    Inv-loop
-    μ-loop
-    element-copy-out-types
-    loop-holds
-    add-if1
-    mul-if1
-    element-copy-out-if1
-    shl-result
-    returns
-    add-i
-    loop-less
-    loop-again
-    returns-2)
+    (tie.spec Inv-loop μ-loop element-copy-out-types loop-holds (λ c. search needs) (λ c. search needs) element-copy-out-if1 shl-result returns
+    (λ c. search needs) (λ c. search needs) loop-again returns-2)

@@ -12,22 +12,9 @@ use Rattle.answer_entry.specs.Laws.Opening.{opened-none}
 use borrow.Author.Needs.{needs}
 use Rattle.answer_compare.proofs.compare.Statement.{statement}
 use Rattle.answer_compare.proofs.compare.Tie as tie
-use Rattle.answer_compare.proofs.compare.Reads as reads
-use Rattle.answer_compare.proofs.compare.Lts as lts
-use Rattle.answer_compare.proofs.compare_entry.Reads as compare-entry-reads
-use Rattle.answer_plan.proofs.absent.Reads as absent-reads
-
-enum-known-base : tie.Need-enum-known-base
-enum-known-base c = search needs
 
 compare-entry-requires : tie.Need-compare-entry-requires
 compare-entry-requires c κs = (c .before .before .before .before .before .before .pre .0, c .before .before .before .before .before .before .pre .1 .found (c .before .base .given .0 .0) (c .before .base .given .1), c .before .before .before .before .before .before .pre .1 .matched)
-
-enum-told : tie.Need-enum-told
-enum-told c = search needs
-
-absent-requires : tie.Need-absent-requires
-absent-requires c κs = search needs
 
 returns : tie.Need-returns
 returns c = let A = c .before .before .before .before .before .before .before .args in let E = entries (now (A .book)) in (c .compare-entry .ensures .0, λ σ es n s hits w q. c .compare-entry .ensures .1 σ es n (A .target .base) s hits w q (c .before .before .base .given .1))
@@ -39,4 +26,4 @@ returns-2 c = let A = c .before .before .before .before .before .before .args in
 pub compare-spec : {M : Type 1} → statement M
 compare-spec =
     tie.close
-    (tie.spec enum-known-base compare-entry-requires enum-told absent-requires returns returns-2)
+    (tie.spec (λ c. search needs) compare-entry-requires (λ c. search needs) (λ c κs. search needs) returns returns-2)

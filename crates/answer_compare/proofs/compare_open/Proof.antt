@@ -22,13 +22,6 @@ use Rattle.answer_compare.specs.Laws.Compare.{outcome-unheld, compare-so
 use borrow.Author.Needs.{needs}
 use Rattle.answer_compare.proofs.compare_open.Statement.{statement}
 use Rattle.answer_compare.proofs.compare_open.Tie as tie
-use Rattle.answer_compare.proofs.compare_open.Reads as reads
-use Rattle.answer_compare.proofs.compare_open.Lts as lts
-use Rattle.answer_compare.proofs.compared.Reads as compared-reads
-use Rattle.answer_compare.proofs.equal_any.Reads as equal-any-reads
-use Rattle.answer_compare.proofs.outcome_of.Reads as outcome-of-reads
-use Rattle.answer_compare.proofs.row_of.Reads as row-of-reads
-use Rattle.answer_plan.proofs.refused.Reads as refused-reads
 
 row-of-requires : tie.Need-row-of-requires
 row-of-requires c κs = let A = c .before .before .before .args in let b = now (A .book) in let E = entries b in let k = A .k in let X = c .before .before .before .pre .0 .2 .entries in ((now (A .d), now (A .p), now (A .sets), c .before .before .before .pre .0), c .before .before .before .pre .1)
@@ -45,9 +38,6 @@ mul-if1 c = let A = c .before .before .before .before .args in let b = now (A .b
 element-copy-out-if1 : tie.Need-element-copy-out-if1
 element-copy-out-if1 c = let A = c .before .before .before .before .args in let b = now (A .book) in let E = entries b in let k = A .k in let X = c .before .before .before .before .pre .0 .2 .entries in omega (arith, X .fits .size, X .fits .few-entries, c .before .before .before .before .pre .1)
 
-refused-requires : tie.Need-refused-requires
-refused-requires c κs = search needs
-
 returns : tie.Need-returns
 returns c = let A = c .before .before .before .before .before .before .before .args in let b = now (A .book) in let E = entries b in let k = A .k in let X = c .before .before .before .before .before .before .before .pre .0 .2 .entries in let i = c .before .before .before .row-of .result in let R = c .before .before .before .row-of .ensures in (λ hits. subst (λ (r : Plan). Sound E r hits) (sym (c .refused .ensures)) (refused-sound E hits 2 3), λ σ es s hits w. ap (λ (r : Plan). planned σ es s r hits) (c .refused .ensures) ∙ refused-compare σ es s hits (A .t) (now (A .v)) k 3 (outcome-unheld σ (A .t) (now (A .v)) (entryOf (getD es k blank)) (R .2 σ es (now (A .d)) (now (A .p)) (now (A .sets)) w ∙ le-ltb i (firstAt b (suc k)) (omega (arith, c .before .if1 .taken, end-is b k)))) (λ z. omega (arith, z)))
 
@@ -60,17 +50,11 @@ element-copy-out-rank c = let A = c .before .before .before .before .before .bef
 outcome-of-requires : tie.Need-outcome-of-requires
 outcome-of-requires c κs = let A = c .before .before .before .before .before .before .before .args in let b = now (A .book) in let E = entries b in let k = A .k in let X = c .before .before .before .before .before .before .before .pre .0 .2 .entries in let i = c .before .before .before .row-of .result in let R = c .before .before .before .row-of .ensures in let T : i < firstAt b (suc k) = omega (arith, c .before .if1 .left, end-is b k) in let te = R .1 T in let rk = rank-within X k (c .before .before .before .before .before .before .before .pre .1) i (R .0) T in ((now (A .d), now (A .p), now (A .held), c .before .before .before .before .before .before .before .pre .0), c .before .before .before .before .before .before .before .pre .1, rk)
 
-refused-requires-2 : tie.Need-refused-requires-2
-refused-requires-2 c κs = search needs
-
 returns-2 : tie.Need-returns-2
 returns-2 c = let A = c .before .before .before .before .before .before .before .before .before .before .args in let b = now (A .book) in let E = entries b in let k = A .k in let X = c .before .before .before .before .before .before .before .before .before .before .pre .0 .2 .entries in let i = c .before .before .before .before .before .before .row-of .result in let R = c .before .before .before .before .before .before .row-of .ensures in let T : i < firstAt b (suc k) = omega (arith, c .before .before .before .before .if1 .left, end-is b k) in let te = R .1 T in let rk = rank-within X k (c .before .before .before .before .before .before .before .before .before .before .pre .1) i (R .0) T in (λ hits. subst (λ (r : Plan). Sound E r hits) (sym (c .refused2 .ensures)) (refused-sound E hits 2 _), λ σ es s hits w. ap (λ (r : Plan). planned σ es s r hits) (c .refused2 .ensures) ∙ refused-compare σ es s hits (A .t) (now (A .v)) k _ (c .before .before .outcome-of .ensures σ es (now (A .d)) (now (A .p)) (now (A .held)) w (ap (holds (entryOf (getD es k blank))) te ∙ R .2 σ es (now (A .d)) (now (A .p)) (now (A .sets)) w ∙ lt-ltb i (firstAt b (suc k)) T) ∙ ap (λ (x : ℕ). compareOutcome σ x (now (A .v)) (entryOf (getD es k blank))) te) (c .before .if2 .taken))
 
 equal-any-requires : tie.Need-equal-any-requires
 equal-any-requires c κs = let A = c .before .before .before .before .before .before .before .before .before .args in let b = now (A .book) in let E = entries b in let k = A .k in let X = c .before .before .before .before .before .before .before .before .before .pre .0 .2 .entries in let i = c .before .before .before .before .before .row-of .result in let R = c .before .before .before .before .before .row-of .ensures in let T : i < firstAt b (suc k) = omega (arith, c .before .before .before .if1 .left, end-is b k) in let te = R .1 T in let rk = rank-within X k (c .before .before .before .before .before .before .before .before .before .pre .1) i (R .0) T in (c .before .before .before .before .before .before .before .before .before .pre .0, c .before .before .before .before .before .before .before .before .before .pre .1, rk)
-
-compared-requires : tie.Need-compared-requires
-compared-requires c κs = search needs
 
 returns-3 : tie.Need-returns-3
 returns-3 c = let A = c .before .before .before .before .before .before .before .before .before .before .before .args in let b = now (A .book) in let E = entries b in let k = A .k in let X = c .before .before .before .before .before .before .before .before .before .before .before .pre .0 .2 .entries in let i = c .before .before .before .before .before .before .before .row-of .result in let R = c .before .before .before .before .before .before .before .row-of .ensures in let T : i < firstAt b (suc k) = omega (arith, c .before .before .before .before .before .if1 .left, end-is b k) in let te = R .1 T in let rk = rank-within X k (c .before .before .before .before .before .before .before .before .before .before .before .pre .1) i (R .0) T in (λ hits. subst (λ (r : Plan). Sound E r hits) (sym (c .compared .ensures)) (compare-sound E (c .before .equal-any .result) hits), λ σ es s hits w. ap (λ (r : Plan). planned σ es s r hits) (c .compared .ensures) ∙ compared-planned σ es s hits (A .t) (now (A .v)) k (c .before .equal-any .result) (sym (c .before .before .before .outcome-of .ensures σ es (now (A .d)) (now (A .p)) (now (A .held)) w (ap (holds (entryOf (getD es k blank))) te ∙ R .2 σ es (now (A .d)) (now (A .p)) (now (A .sets)) w ∙ lt-ltb i (firstAt b (suc k)) T) ∙ ap (λ (x : ℕ). compareOutcome σ x (now (A .v)) (entryOf (getD es k blank))) te) ∙ c .before .before .if2 .left) (c .before .equal-any .ensures σ es w ∙ ap (λ (x : ℕ). someValue σ (entryOf (getD es k blank)) x Compare (equal (σ .schema) x (now (A .v)))) te))
@@ -78,19 +62,5 @@ returns-3 c = let A = c .before .before .before .before .before .before .before 
 pub compare-open-spec : {M : Type 1} → statement M
 compare-open-spec =
     tie.close
-    (tie.spec
-    row-of-requires
-    add-if1
-    add-if1-2
-    mul-if1
-    element-copy-out-if1
-    refused-requires
-    returns
-    mul-rank
-    element-copy-out-rank
-    outcome-of-requires
-    refused-requires-2
-    returns-2
-    equal-any-requires
-    compared-requires
-    returns-3)
+    (tie.spec row-of-requires add-if1 add-if1-2 mul-if1 element-copy-out-if1 (λ c κs. search needs) returns mul-rank element-copy-out-rank
+    outcome-of-requires (λ c κs. search needs) returns-2 equal-any-requires (λ c κs. search needs) returns-3)

@@ -17,11 +17,6 @@ use Rattle.answer_compare.specs.Laws.Compare.{counts-other, counts-apart
 use borrow.Author.Needs.{needs}
 use Rattle.answer_compare.proofs.equal_row.Statement.{statement}
 use Rattle.answer_compare.proofs.equal_row.Tie as tie
-use Rattle.answer_compare.proofs.equal_row.Reads as reads
-use Rattle.answer_compare.proofs.equal_row.Lts as lts
-use Rattle.access_may.proofs.may_value.Reads as may-value-reads
-use Rattle.name.proofs.equal_by.Reads as equal-by-reads
-use Rattle.tables.proofs.held.bytes.Reads as bytes-reads
 
 mul-if1 : tie.Need-mul-if1
 mul-if1 c = let A = c .before .before .before .args in let b = now (A .book) in let h = now (A .held) in let k = A .k in let E = c .before .before .before .pre .0 .2 .entries in let R = rank-within E k (c .before .before .before .pre .1) (A .i) (c .before .before .before .pre .3) (c .before .before .before .pre .4) in let r = rows-within E k (c .before .before .before .pre .1) in omega (arith, r .1, c .before .before .before .pre .4)
@@ -44,9 +39,6 @@ mul-equal-by c = let A = c .before .before .before .before .before .before .args
 element-copy-out-equal-by : tie.Need-element-copy-out-equal-by
 element-copy-out-equal-by c = let A = c .before .before .before .before .before .before .args in let b = now (A .book) in let h = now (A .held) in let k = A .k in let E = c .before .before .before .before .before .before .pre .0 .2 .entries in let R = rank-within E k (c .before .before .before .before .before .before .pre .1) (A .i) (c .before .before .before .before .before .before .pre .3) (c .before .before .before .before .before .before .pre .4) in let r = rows-within E k (c .before .before .before .before .before .before .pre .1) in omega (arith, c .before .before .before .before .before .before .pre .2, E .fits .few-types, E .fits .size)
 
-equal-by-requires : tie.Need-equal-by-requires
-equal-by-requires c κs = search needs
-
 add-may-value : tie.Need-add-may-value
 add-may-value c = let A = c .before .before .before .before .before .before .before .before .before .args in let b = now (A .book) in let h = now (A .held) in let k = A .k in let E = c .before .before .before .before .before .before .before .before .before .pre .0 .2 .entries in let R = rank-within E k (c .before .before .before .before .before .before .before .before .before .pre .1) (A .i) (c .before .before .before .before .before .before .before .before .before .pre .3) (c .before .before .before .before .before .before .before .before .before .pre .4) in let r = rows-within E k (c .before .before .before .before .before .before .before .before .before .pre .1) in omega (arith, c .before .before .before .before .before .before .before .before .before .pre .1, E .fits .few-entries)
 
@@ -62,16 +54,5 @@ returns-3 c = let A = c .before .before .before .before .before .before .before 
 pub equal-row-spec : {M : Type 1} → statement M
 equal-row-spec =
     tie.close
-    (tie.spec
-    mul-if1
-    element-copy-out-if1
-    returns
-    bytes-requires
-    add-equal-by
-    mul-equal-by
-    element-copy-out-equal-by
-    equal-by-requires
-    add-may-value
-    may-value-requires
-    returns-2
-    returns-3)
+    (tie.spec mul-if1 element-copy-out-if1 returns bytes-requires add-equal-by mul-equal-by element-copy-out-equal-by (λ c κs. search needs)
+    add-may-value may-value-requires returns-2 returns-3)

@@ -15,10 +15,6 @@ use Rattle.answer_compare.specs.Laws.Compare.{outcome-inside, outcome-ou
 use borrow.Author.Needs.{needs}
 use Rattle.answer_compare.proofs.outcome_of.Statement.{statement}
 use Rattle.answer_compare.proofs.outcome_of.Tie as tie
-use Rattle.answer_compare.proofs.outcome_of.Reads as reads
-use Rattle.answer_compare.proofs.outcome_of.Lts as lts
-use Rattle.access_may.proofs.may_type.Reads as may-type-reads
-use Rattle.value.proofs.fits.Reads as fits-reads
 
 add-may-type : tie.Need-add-may-type
 add-may-type c = let A = c .before .args in let b = now (A .book) in let k = A .k in let E = c .before .pre .0 .3 .2 .entries in omega (arith, c .before .pre .1, E .fits .few-entries)
@@ -34,9 +30,6 @@ mul-fits c = let A = c .before .before .before .args in let b = now (A .book) in
 
 element-copy-out-fits : tie.Need-element-copy-out-fits
 element-copy-out-fits c = let A = c .before .before .before .args in let b = now (A .book) in let k = A .k in let E = c .before .before .before .pre .0 .3 .2 .entries in omega (arith, c .before .before .before .pre .2, E .fits .few-types, E .fits .size)
-
-fits-requires : tie.Need-fits-requires
-fits-requires c κs = search needs
 
 returns : tie.Need-returns
 unfolding entryOf
@@ -63,16 +56,5 @@ returns-4 c = let A = c .before .before .before .before .before .args in let b =
 pub outcome-of-spec : {M : Type 1} → statement M
 outcome-of-spec =
     tie.close
-    (tie.spec
-    add-may-type
-    may-type-requires
-    add-fits
-    mul-fits
-    element-copy-out-fits
-    fits-requires
-    returns
-    returns-2
-    add-may-type-2
-    may-type-requires-2
-    returns-3
-    returns-4)
+    (tie.spec add-may-type may-type-requires add-fits mul-fits element-copy-out-fits (λ c κs. search needs) returns returns-2 add-may-type-2
+    may-type-requires-2 returns-3 returns-4)

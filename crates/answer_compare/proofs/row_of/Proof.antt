@@ -22,17 +22,12 @@ use Rattle.answer_compare.specs.Laws.Compare.{holds-values, type-is}
 use borrow.Author.Needs.{needs}
 use Rattle.answer_compare.proofs.row_of.Statement.{statement}
 use Rattle.answer_compare.proofs.row_of.Tie as tie
-use Rattle.answer_compare.proofs.row_of.Reads as reads
-use Rattle.answer_compare.proofs.row_of.Lts as lts
 
 abbrev Inv-loop : tie.InvT-loop
 Inv-loop book held k t end i₀ i = (firstAt book k ≤ i) × (i ≤ firstAt book (suc k)) × ((σ : Setting) (es : List Stored) (d p : Bytes) (sets : List ℕ) → World σ es d p book held sets → any (λ u. eqb (u .type) t) (drop (i - firstAt book k) (getD es k blank .values)) ≡ any (λ u. eqb (u .type) t) (getD es k blank .values))
 
 abbrev μ-loop : tie.MeasureT-loop
 μ-loop book held k t end i₀ i = firstAt book (suc k) - i
-
-add-end : tie.Need-add-end Inv-loop μ-loop
-add-end c = search needs
 
 add-end-2 : tie.Need-add-end-2 Inv-loop μ-loop
 add-end-2 c = let A = c .args in let b = now (A .book) in let k = A .k in let E = c .pre .0 .3 .2 .entries in let r = rows-within E k (c .pre .1) in omega (arith, E .fits .few-entries, c .pre .1)
@@ -88,24 +83,5 @@ returns-2 c = let A = c .before .before .before .before .args in let b = now (A 
 pub row-of-spec : {M : Type 1} → statement M
 row-of-spec =
     tie.close
-    (tie.spec
-    Inv-loop
-    μ-loop
-    add-end
-    add-end-2
-    mul-end
-    element-copy-out-end
-    add-i
-    mul-i
-    element-copy-out-i
-    loop-holds
-    mul-rank
-    element-copy-out-rank
-    add-if1
-    mul-if1
-    element-copy-out-if1
-    returns
-    add-i-2
-    loop-less
-    loop-again
-    returns-2)
+    (tie.spec Inv-loop μ-loop (λ c. search needs) add-end-2 mul-end element-copy-out-end add-i mul-i element-copy-out-i loop-holds mul-rank
+    element-copy-out-rank add-if1 mul-if1 element-copy-out-if1 returns add-i-2 loop-less loop-again returns-2)

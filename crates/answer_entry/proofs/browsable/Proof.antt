@@ -4,18 +4,9 @@ use Rattle.answer_entry.specs.Laws.Returned.{browse-granted, browse-base
 use borrow.Author.Needs.{needs}
 use Rattle.answer_entry.proofs.browsable.Statement.{statement}
 use Rattle.answer_entry.proofs.browsable.Tie as tie
-use Rattle.answer_entry.proofs.browsable.Reads as reads
-use Rattle.answer_entry.proofs.browsable.Lts as lts
-use Rattle.access_may.proofs.may_entry.Reads as may-entry-reads
-
-may-entry-requires : tie.Need-may-entry-requires
-may-entry-requires c κs = search needs
 
 returns : tie.Need-returns
 returns c = λ σ es d p book held w l. browse-granted σ es (c .before .before .args .e) (c .before .before .args .base) (sym (c .before .may-entry .ensures σ es d p book held w l) ∙ c .if1 .taken)
-
-may-entry-requires-2 : tie.Need-may-entry-requires-2
-may-entry-requires-2 c κs = search needs
 
 returns-2 : tie.Need-returns-2
 returns-2 c = λ σ es d p book held w l. c .may-entry2 .ensures σ es d p book held w l ∙ browse-base σ es (c .before .before .before .before .args .e) (c .before .before .before .before .args .base) (sym (c .before .before .before .may-entry .ensures σ es d p book held w l) ∙ c .before .before .if1 .left) (c .before .if2 .taken)
@@ -25,4 +16,4 @@ returns-3 c = λ σ es d p book held w l. browse-refused σ es (c .before .befor
 
 pub browsable-spec : {M : Type 1} → statement M
 browsable-spec =
-    tie.close (tie.spec may-entry-requires returns may-entry-requires-2 returns-2 returns-3)
+    tie.close (tie.spec (λ c κs. search needs) returns (λ c κs. search needs) returns-2 returns-3)

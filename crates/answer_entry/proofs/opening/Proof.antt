@@ -4,18 +4,9 @@ use Rattle.answer_entry.specs.Laws.Opening.{opens-read, opens-disclosed,
 use borrow.Author.Needs.{needs}
 use Rattle.answer_entry.proofs.opening.Statement.{statement}
 use Rattle.answer_entry.proofs.opening.Tie as tie
-use Rattle.answer_entry.proofs.opening.Reads as reads
-use Rattle.answer_entry.proofs.opening.Lts as lts
-use Rattle.access_may.proofs.may_entry.Reads as may-entry-reads
-
-may-entry-requires : tie.Need-may-entry-requires
-may-entry-requires c κs = search needs
 
 returns : tie.Need-returns
 returns c = λ σ es d p book held w l. opens-read σ es (c .before .before .args .e) (sym (c .before .may-entry .ensures σ es d p book held w l) ∙ c .if1 .taken)
-
-may-entry-requires-2 : tie.Need-may-entry-requires-2
-may-entry-requires-2 c κs = search needs
 
 returns-2 : tie.Need-returns-2
 returns-2 c = λ σ es d p book held w l. opens-disclosed σ es (c .before .before .before .before .args .e) (sym (c .before .before .before .may-entry .ensures σ es d p book held w l) ∙ c .before .before .if1 .left) (sym (c .before .may-entry2 .ensures σ es d p book held w l) ∙ c .if2 .taken)
@@ -25,4 +16,4 @@ returns-3 c = λ σ es d p book held w l. opens-hidden σ es (c .before .before 
 
 pub opening-spec : {M : Type 1} → statement M
 opening-spec =
-    tie.close (tie.spec may-entry-requires returns may-entry-requires-2 returns-2 returns-3)
+    tie.close (tie.spec (λ c κs. search needs) returns (λ c κs. search needs) returns-2 returns-3)

@@ -3,27 +3,14 @@ use borrow.Author.Tests.{eq-eqb, ne-eqb}
 use borrow.Author.Needs.{needs}
 use Rattle.answer_entry.proofs.returned.Statement.{statement}
 use Rattle.answer_entry.proofs.returned.Tie as tie
-use Rattle.answer_entry.proofs.returned.Reads as reads
-use Rattle.answer_entry.proofs.returned.Lts as lts
-use Rattle.answer_plan.proofs.absent.Reads as absent-reads
-use Rattle.answer_entry.proofs.limited.Reads as limited-reads
-
-limited-requires : tie.Need-limited-requires
-limited-requires c κs = search needs
 
 returns : tie.Need-returns
 unfolding returnedPlan
 returns c = rw (c .limited .ensures, c .before .if1 .taken)
 
-absent-requires : tie.Need-absent-requires
-absent-requires c κs = search needs
-
 returns-2 : tie.Need-returns-2
 unfolding returnedPlan
 returns-2 c = rw (c .absent .ensures, c .before .before .if1 .left, eq-eqb _ _ (c .before .if2 .taken))
-
-limited-requires-2 : tie.Need-limited-requires-2
-limited-requires-2 c κs = search needs
 
 returns-3 : tie.Need-returns-3
 unfolding returnedPlan
@@ -32,4 +19,4 @@ returns-3 c = rw (c .limited2 .ensures, c .before .before .if1 .left, ne-eqb _ _
 pub returned-spec : {M : Type 1} → statement M
 returned-spec =
     tie.close
-    (tie.spec limited-requires returns absent-requires returns-2 limited-requires-2 returns-3)
+    (tie.spec (λ c κs. search needs) returns (λ c κs. search needs) returns-2 (λ c κs. search needs) returns-3)

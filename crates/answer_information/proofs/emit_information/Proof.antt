@@ -12,11 +12,8 @@ returns c = let a = c .before .before .before .before .args in (omega arith, λ 
 emit-runs-requires : tie.Need-emit-runs-requires
 emit-runs-requires c κs = let P = c .before .before .before .before .before .pre in (P .0, omega (arith, c .before .if1 .left), P .1, P .2)
 
-same-length : tie.Need-same-length
-same-length c = search needs
-
 returns-2 : tie.Need-returns-2
 returns-2 c = c .before .before .emit-runs .ensures
 
 pub emit-information-spec : {M : Type 1} → statement M
-emit-information-spec = tie.close (tie.spec returns emit-runs-requires same-length returns-2)
+emit-information-spec = tie.close (tie.spec returns emit-runs-requires (λ c. search needs) returns-2)

@@ -17,9 +17,6 @@ shown-requires c κs = let X = c .before .before .before .pre .1 in let F = c .b
 emit-readable-requires : tie.Need-emit-readable-requires
 emit-readable-requires c κs = c .before .before .before .before .before .before .before .pre
 
-same-length : tie.Need-same-length
-same-length c = search needs
-
 returns : tie.Need-returns
 returns c = let X = c .before .before .before .before .before .before .before .before .before .before .pre .1 in
     let a = c .before .before .before .before .before .before .before .before .before .before .args in
@@ -28,9 +25,6 @@ returns c = let X = c .before .before .before .before .before .before .before .b
       λ σ es s W C. emits-same (width (now (a .book))) (now (a .out)) (a .at)
           (returned-values σ s (nameAt es (a .e)) (heldBy (now (a .d)) (now (a .book)) (now (a .held)) (a .run)) (sym (c .before .before .before .before .before .before .shown .ensures σ es (now (a .d)) (now (a .p)) (now (a .book)) (now (a .held)) s W C (there (W .entries) (a .e) (X .some) (X .entry)) (ranked (W .entries) (a .run .rank) (X .rank))) ∙ c .before .before .before .before .before .if1 .taken) (sym (C .values) ∙ c .before .before .before .before .if2 .taken)) (p .1 σ es W),
     )
-
-element-copy-out-w : tie.Need-element-copy-out-w
-element-copy-out-w c = search needs
 
 add-emit : tie.Need-add-emit
 add-emit c = omega (arith, c .before .before .before .before .before .before .before .before .pre .1 .rank, c .before .before .before .before .before .before .before .before .pre .0 .2 .entries .fits .few-types)
@@ -41,14 +35,8 @@ mul-emit c = omega (arith, c .before .before .before .before .before .before .be
 element-copy-out-emit : tie.Need-element-copy-out-emit
 element-copy-out-emit c = omega (arith, c .before .before .before .before .before .before .before .before .pre .1 .rank, c .before .before .before .before .before .before .before .before .pre .0 .2 .entries .fits .few-types)
 
-slice-aggregate-emit : tie.Need-slice-aggregate-emit
-slice-aggregate-emit c = search needs
-
 emit-requires : tie.Need-emit-requires
 emit-requires c κs = let P = c .before .before .before .before .before .before .before .before .before .before .pre in let F = P .0 .2 .entries .fits in (omega (arith, F .narrow), F .wide, omega (arith, P .2))
-
-same-length-2 : tie.Need-same-length-2
-same-length-2 c = search needs
 
 returns-2 : tie.Need-returns-2
 returns-2 c = let X = c .before .before .before .before .before .before .before .before .before .before .before .before .before .pre .1 in
@@ -71,17 +59,5 @@ returns-3 c = let X = c .before .before .before .before .before .pre .1 in
 pub emit-run-spec : {M : Type 1} → statement M
 emit-run-spec =
     tie.close
-    (tie.spec
-    shown-requires
-    emit-readable-requires
-    same-length
-    returns
-    element-copy-out-w
-    add-emit
-    mul-emit
-    element-copy-out-emit
-    slice-aggregate-emit
-    emit-requires
-    same-length-2
-    returns-2
-    returns-3)
+    (tie.spec shown-requires emit-readable-requires (λ c. search needs) returns (λ c. search needs) add-emit mul-emit element-copy-out-emit
+    (λ c. search needs) emit-requires (λ c. search needs) returns-2 returns-3)

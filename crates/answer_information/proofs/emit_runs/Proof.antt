@@ -115,9 +115,6 @@ loop-again c = let P = c .before .before .before .before .before .before .before
       search needs,
     )
 
-same-length : tie.Need-same-length Inv-loop μ-loop
-same-length c = search needs
-
 returns : tie.Need-returns Inv-loop μ-loop
 returns c = let P = c .before .before .before .before .before .before .before .pre in
     let a = c .before .before .before .before .before .before .before .args in
@@ -128,22 +125,5 @@ returns c = let P = c .before .before .before .before .before .before .before .p
 pub emit-runs-spec : {M : Type 1} → statement M
 emit-runs-spec =
     tie.close
-    (tie.spec
-    Inv-loop
-    μ-loop
-    add-end
-    mul-end
-    element-copy-out-end
-    sub-i
-    add-i
-    mul-i
-    element-copy-out-i
-    loop-holds
-    mul-t23
-    element-copy-out-t26
-    run-end-requires
-    emit-run-requires
-    loop-less
-    loop-again
-    same-length
-    returns)
+    (tie.spec Inv-loop μ-loop add-end mul-end element-copy-out-end sub-i add-i mul-i element-copy-out-i loop-holds mul-t23 element-copy-out-t26
+    run-end-requires emit-run-requires loop-less loop-again (λ c. search needs) returns)

@@ -13,9 +13,6 @@ Inv-loop held i end j₀ j = Alike held i end j
 abbrev μ-loop : tie.MeasureT-loop
 μ-loop held i end j₀ j = end - j
 
-add-j : tie.Need-add-j Inv-loop μ-loop
-add-j c = search needs
-
 loop-holds : tie.Need-loop-holds Inv-loop μ-loop
 loop-holds c = alike-start (now (c .args .held)) (c .args .i) (c .args .end) (c .pre .0)
 
@@ -34,12 +31,6 @@ element-copy-out-if1-2 c = omega (arith, c .before .before .before .pre .0, c .b
 returns : tie.Need-returns Inv-loop μ-loop
 returns c = record { alike = c .before .before .before .before .loop .inv; ends = λ l e. c .if1 .taken e }
 
-add-j-2 : tie.Need-add-j-2 Inv-loop μ-loop
-add-j-2 c = search needs
-
-loop-less : tie.Need-loop-less Inv-loop μ-loop
-loop-less c = search needs
-
 loop-again : tie.Need-loop-again Inv-loop μ-loop
 loop-again c = alike-on (now (c .before .before .before .before .before .args .held)) (c .before .before .before .before .before .args .i) (c .before .before .before .before .before .args .end) (c .before .before .before .before .loop .j) (c .before .before .before .before .loop .inv) (c .before .before .before .loop-test .taken) (c .if1 .left)
 
@@ -49,17 +40,5 @@ returns-2 c = record { alike = c .before .loop .inv; ends = λ l e. absurd (omeg
 pub run-end-spec : {M : Type 1} → statement M
 run-end-spec =
     tie.close
-    (tie.spec
-    Inv-loop
-    μ-loop
-    add-j
-    loop-holds
-    mul-if1
-    element-copy-out-if1
-    mul-if1-2
-    element-copy-out-if1-2
-    returns
-    add-j-2
-    loop-less
-    loop-again
-    returns-2)
+    (tie.spec Inv-loop μ-loop (λ c. search needs) loop-holds mul-if1 element-copy-out-if1 mul-if1-2 element-copy-out-if1-2 returns (λ c. search needs)
+    (λ c. search needs) loop-again returns-2)

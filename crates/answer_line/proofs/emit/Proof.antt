@@ -7,28 +7,10 @@ use borrow.Author.Needs.{needs}
 use Rattle.answer_line.proofs.emit.Statement.{statement}
 use Rattle.answer_line.proofs.emit.Tie as tie
 
-mul-end : tie.Need-mul-end
-mul-end c = search needs
-
-add-end : tie.Need-add-end
-add-end c = search needs
-
-add-end-2 : tie.Need-add-end-2
-add-end-2 c = search needs
-
-add-end-3 : tie.Need-add-end-3
-add-end-3 c = search needs
-
 returns : tie.Need-returns
 returns c =
     let A = c .before .before .before .args in
     emits-not (A .w) (now (A .out)) (A .at) (line (A .kind) (A .a) (A .b) (A .c) (now (A .bytes))) (c .if1 .taken) refl
-
-put-line-requires : tie.Need-put-line-requires
-put-line-requires c κs = search needs
-
-same-length : tie.Need-same-length
-same-length c = search needs
 
 returns-2 : tie.Need-returns-2
 returns-2 c =
@@ -39,4 +21,4 @@ returns-2 c =
 pub emit-spec : {M : Type 1} → statement M
 emit-spec =
     tie.close
-    (tie.spec mul-end add-end add-end-2 add-end-3 returns put-line-requires same-length returns-2)
+    (tie.spec (λ c. search needs) (λ c. search needs) (λ c. search needs) (λ c. search needs) returns (λ c κs. search needs) (λ c. search needs) returns-2)

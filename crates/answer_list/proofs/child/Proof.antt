@@ -11,27 +11,9 @@ use Rattle.answer_list.specs.Laws.Hits.{listed-other, listed-child}
 use borrow.Author.Needs.{needs}
 use Rattle.answer_list.proofs.child.Statement.{statement}
 use Rattle.answer_list.proofs.child.Tie as tie
-use Rattle.answer_list.proofs.child.Reads as reads
-use Rattle.answer_list.proofs.child.Lts as lts
-use Rattle.answer_entry.proofs.returnable.Reads as returnable-reads
-
-add-if1 : tie.Need-add-if1
-add-if1 c = search needs
-
-mul-if1 : tie.Need-mul-if1
-mul-if1 c = search needs
-
-element-copy-out-if1 : tie.Need-element-copy-out-if1
-element-copy-out-if1 c = search needs
 
 returns : tie.Need-returns
 returns c = λ σ es d p held w. listed-other σ es (c .before .before .args .b) (c .before .before .args .k) (λ e. c .if1 .taken (parent-is (w .entries) (c .before .before .args .k) (c .before .before .pre .0) ∙ e))
-
-add-returnable : tie.Need-add-returnable
-add-returnable c = search needs
-
-returnable-requires : tie.Need-returnable-requires
-returnable-requires c κs = search needs
 
 returns-2 : tie.Need-returns-2
 returns-2 c = λ σ es d p held w. let l : c .before .before .before .args .k + 1 ≤ length es = omega (arith, inside (w .entries) (c .before .before .before .args .k) (c .before .before .before .pre .0)) in c .returnable .ensures σ es d p (now (c .before .before .before .args .book)) held w l ∙ ap (λ (e : ℕ). returnableAt σ es e false) (add-one (c .before .before .before .args .k)) ∙ listed-child σ es (c .before .before .before .args .b) (c .before .before .before .args .k) (sym (parent-is (w .entries) (c .before .before .before .args .k) (c .before .before .before .pre .0)) ∙ c .before .if1 .left)
@@ -39,11 +21,4 @@ returns-2 c = λ σ es d p held w. let l : c .before .before .before .args .k + 
 pub child-spec : {M : Type 1} → statement M
 child-spec =
     tie.close
-    (tie.spec
-    add-if1
-    mul-if1
-    element-copy-out-if1
-    returns
-    add-returnable
-    returnable-requires
-    returns-2)
+    (tie.spec (λ c. search needs) (λ c. search needs) (λ c. search needs) returns (λ c. search needs) (λ c κs. search needs) returns-2)

@@ -18,9 +18,6 @@ use Rattle.answer_list.specs.Hits.{listedAt}
 use borrow.Author.Needs.{needs}
 use Rattle.answer_list.proofs.children.Statement.{statement}
 use Rattle.answer_list.proofs.children.Tie as tie
-use Rattle.answer_list.proofs.children.Reads as reads
-use Rattle.answer_list.proofs.children.Lts as lts
-use Rattle.answer_list.proofs.child.Reads as child-reads
 
 abbrev Inv-loop : tie.InvT-loop
 Inv-loop book sets b hits₀ count n₀ k₀ hits n k = (k ≤ entries book) × (length hits ≡ 256) × Indices k n hits₀ hits × ((σ : Setting) (es : List Stored) (d p : Bytes) (held : List ℕ) → World σ es d p book held sets → take n hits ≡ passing (listedAt σ es b) k)
@@ -28,29 +25,11 @@ Inv-loop book sets b hits₀ count n₀ k₀ hits n k = (k ≤ entries book) × 
 abbrev μ-loop : tie.MeasureT-loop
 μ-loop book sets b hits₀ count n₀ k₀ hits n k = entries book - k
 
-element-copy-out-count : tie.Need-element-copy-out-count Inv-loop μ-loop
-element-copy-out-count c = search needs
-
 loop-holds : tie.Need-loop-holds Inv-loop μ-loop
 loop-holds c = (omega arith, c .before .pre .1, no-indices 0 _, λ σ es d p held w. unfold passing in refl)
 
-child-requires : tie.Need-child-requires Inv-loop μ-loop
-child-requires c κs = search needs
-
-mul-hits : tie.Need-mul-hits Inv-loop μ-loop
-mul-hits c = search needs
-
 element-write-hits : tie.Need-element-write-hits Inv-loop μ-loop
 element-write-hits c = omega (arith, c .before .before .before .loop .inv .1, c .before .before .before .loop .inv .2 .few, c .before .before .loop-test .taken, c .before .before .before .before .before .pre .0)
-
-add-n : tie.Need-add-n Inv-loop μ-loop
-add-n c = search needs
-
-add-k : tie.Need-add-k Inv-loop μ-loop
-add-k c = search needs
-
-loop-less : tie.Need-loop-less Inv-loop μ-loop
-loop-less c = search needs
 
 loop-again : tie.Need-loop-again Inv-loop μ-loop
 loop-again c = let A = c .before .before .before .before .before .args in
@@ -80,16 +59,5 @@ returns c = let L = c .before .loop in let b = now (c .before .before .before .a
 pub children-spec : {M : Type 1} → statement M
 children-spec =
     tie.close
-    (tie.spec
-    Inv-loop
-    μ-loop
-    element-copy-out-count
-    loop-holds
-    child-requires
-    mul-hits
-    element-write-hits
-    add-n
-    add-k
-    loop-less
-    loop-again
-    returns)
+    (tie.spec Inv-loop μ-loop (λ c. search needs) loop-holds (λ c κs. search needs) (λ c. search needs) element-write-hits (λ c. search needs)
+    (λ c. search needs) (λ c. search needs) loop-again returns)

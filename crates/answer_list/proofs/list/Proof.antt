@@ -7,21 +7,6 @@ use Rattle.answer_list.specs.Laws.Whole.{list-none, list-some}
 use borrow.Author.Needs.{needs}
 use Rattle.answer_list.proofs.list.Statement.{statement}
 use Rattle.answer_list.proofs.list.Tie as tie
-use Rattle.answer_list.proofs.list.Reads as reads
-use Rattle.answer_list.proofs.list.Lts as lts
-use Rattle.access_may.proofs.may_entry.Reads as may-entry-reads
-use Rattle.answer_entry.proofs.returned.Reads as returned-reads
-use Rattle.answer_list.proofs.children.Reads as children-reads
-use Rattle.answer_plan.proofs.absent.Reads as absent-reads
-
-enum-known-base : tie.Need-enum-known-base
-enum-known-base c = search needs
-
-enum-told : tie.Need-enum-told
-enum-told c = search needs
-
-absent-requires : tie.Need-absent-requires
-absent-requires c κs = search needs
 
 returns : tie.Need-returns
 returns c = let A = c .before .before .before .args in (
@@ -29,14 +14,8 @@ returns c = let A = c .before .before .before .args in (
   λ σ es d p held n s w q. list-none σ es (w .entries .accepted) n (A .target .base) (A .target .missing) q _ _ (c .before .enum-told .given .1) s (A .limit) (c .absent .ensures),
 )
 
-children-requires : tie.Need-children-requires
-children-requires c κs = search needs
-
 may-entry-requires : tie.Need-may-entry-requires
 may-entry-requires c κs = (let K = c .before .before .before .before .before .pre .2 .3 .2 .entries in omega (arith, K .fits .few-entries, c .before .before .before .before .before .pre .0 .found (c .before .before .before .base .given .0 .0) (c .before .before .before .base .given .1)), omega arith, (c .before .before .before .before .before .pre .2 .0, c .before .before .before .before .before .pre .2 .1, now (c .before .before .before .before .before .args .book), c .before .before .before .before .before .pre .2 .2, c .before .before .before .before .before .pre .2 .3))
-
-returned-requires : tie.Need-returned-requires
-returned-requires c κs = search needs
 
 returns-2 : tie.Need-returns-2
 returns-2 c = let A = c .before .before .before .before .before .before .before .args in
@@ -53,12 +32,5 @@ returns-2 c = let A = c .before .before .before .before .before .before .before 
 pub list-spec : {M : Type 1} → statement M
 list-spec =
     tie.close
-    (tie.spec
-    enum-known-base
-    enum-told
-    absent-requires
-    returns
-    children-requires
-    may-entry-requires
-    returned-requires
+    (tie.spec (λ c. search needs) (λ c. search needs) (λ c κs. search needs) returns (λ c κs. search needs) may-entry-requires (λ c κs. search needs)
     returns-2)

@@ -3,12 +3,6 @@ use mathlib.Core.Path.{sym, ap, _∙_}
 use borrow.Author.Needs.{needs}
 use Rattle.answer_matched.proofs.disclosed.Statement.{statement}
 use Rattle.answer_matched.proofs.disclosed.Tie as tie
-use Rattle.answer_matched.proofs.disclosed.Reads as reads
-use Rattle.answer_matched.proofs.disclosed.Lts as lts
-use Rattle.access_may.proofs.may_entry.Reads as may-entry-reads
-
-may-entry-requires : tie.Need-may-entry-requires
-may-entry-requires c κs = search needs
 
 returns : tie.Need-returns
 returns c = let a = c .before .before .args in (λ n h g. h, λ σ es d p book held h l. ap (λ (b : Bool). cond b (a .e) (a .last)) (sym (c .if1 .taken) ∙ c .before .may-entry .ensures σ es d p book held h l))
@@ -17,4 +11,4 @@ returns-2 : tie.Need-returns-2
 returns-2 c = let a = c .before .before .args in (λ n h g. g, λ σ es d p book held h l. ap (λ (b : Bool). cond b (a .e) (a .last)) (sym (c .if1 .left) ∙ c .before .may-entry .ensures σ es d p book held h l))
 
 pub disclosed-spec : {M : Type 1} → statement M
-disclosed-spec = tie.close (tie.spec may-entry-requires returns returns-2)
+disclosed-spec = tie.close (tie.spec (λ c κs. search needs) returns returns-2)

@@ -7,10 +7,6 @@ use Rattle.answer_matched.specs.Laws.Way.{Way, way-start, way-end, way-l
 use borrow.Author.Needs.{needs}
 use Rattle.answer_matched.proofs.matched.Statement.{statement}
 use Rattle.answer_matched.proofs.matched.Tie as tie
-use Rattle.answer_matched.proofs.matched.Reads as reads
-use Rattle.answer_matched.proofs.matched.Lts as lts
-use Rattle.answer_matched.proofs.disclosed.Reads as disclosed-reads
-use Rattle.entry_lookup.proofs.find.down.Reads as down-reads
 
 abbrev Inv-loop : tie.InvT-loop
 Inv-loop book sets d q place parts left₀ last₀ from₀ j₀ left last from j = (last ≤ entries book) × Way book sets d q place parts left last from j
@@ -22,26 +18,14 @@ returns : tie.Need-returns Inv-loop μ-loop
 returns c = let a = c .before .before .before .args in
     (zero-le, way-end (now (a .book)) (now (a .sets)) (now (a .d)) (now (a .q)) (a .place) (a .parts) (a .parts - 1) 0 0 (a .place) (way-start (now (a .book)) (now (a .sets)) (now (a .d)) (now (a .q)) (a .place) (a .parts)) (omega (arith, c .if1 .taken)) zero-le)
 
-sub-left : tie.Need-sub-left Inv-loop μ-loop
-sub-left c = search needs
-
 loop-holds : tie.Need-loop-holds Inv-loop μ-loop
 loop-holds c = let a = c .before .before .before .args in (zero-le, way-start (now (a .book)) (now (a .sets)) (now (a .d)) (now (a .q)) (a .place) (a .parts))
 
 down-requires : tie.Need-down-requires Inv-loop μ-loop
 down-requires c κs = (c .before .before .before .before .before .pre .2 .0, c .before .before .before .before .before .pre .2 .1, c .before .before .before .before .before .pre .1, c .before .before .before .before .before .pre .2 .2 .entries)
 
-enum-known-number : tie.Need-enum-known-number Inv-loop μ-loop
-enum-known-number c = search needs
-
 disclosed-requires : tie.Need-disclosed-requires Inv-loop μ-loop
 disclosed-requires c κs = (omega (arith, within-of _ _ _ _ (c .before .before .before .down .ensures .0) (c .before .number .given .1), c .before .before .before .before .before .before .before .before .before .pre .2 .2 .entries .fits .few-entries), (now (c .before .before .before .before .before .before .before .before .before .args .d), c .before .before .before .before .before .before .before .before .before .pre .0, now (c .before .before .before .before .before .before .before .before .before .args .book), c .before .before .before .before .before .before .before .before .before .pre .1, c .before .before .before .before .before .before .before .before .before .pre .2))
-
-sub-left-2 : tie.Need-sub-left-2 Inv-loop μ-loop
-sub-left-2 c = search needs
-
-loop-less : tie.Need-loop-less Inv-loop μ-loop
-loop-less c = search needs
 
 loop-again : tie.Need-loop-again Inv-loop μ-loop
 loop-again c = let a = c .before .before .before .before .before .before .before .before .before .before .args in let L = c .before .before .before .before .before .before .loop in (
@@ -49,15 +33,9 @@ loop-again c = let a = c .before .before .before .before .before .before .before
   way-on (now (a .book)) (now (a .sets)) (now (a .d)) (now (a .q)) (a .place) (a .parts) (L .left) (L .last) (L .from) (L .j) (L .inv .1) _ (c .before .before .before .before .down .ensures .1) _ _ _ (c .before .before .number .given .1) (within-of _ _ _ _ (c .before .before .before .before .down .ensures .0) (c .before .before .number .given .1)) (c .disclosed .ensures .1),
 )
 
-enum-told : tie.Need-enum-told Inv-loop μ-loop
-enum-told c = search needs
-
 returns-2 : tie.Need-returns-2 Inv-loop μ-loop
 returns-2 c = let a = c .before .before .before .before .before .before .before .before .args in let L = c .before .before .before .before .loop in
     (L .inv .0, way-lost (now (a .book)) (now (a .sets)) (now (a .d)) (now (a .q)) (a .place) (a .parts) (L .left) (L .last) (L .from) (L .j) (L .inv .1) _ (c .before .before .down .ensures .1) (c .enum-told .given .1) (L .inv .0))
-
-enum-told-2 : tie.Need-enum-told-2 Inv-loop μ-loop
-enum-told-2 c = search needs
 
 returns-3 : tie.Need-returns-3 Inv-loop μ-loop
 returns-3 c = let a = c .before .before .before .before .before .before .before .before .args in let L = c .before .before .before .before .loop in
@@ -70,20 +48,5 @@ returns-4 c = let a = c .before .before .before .before .before .args in let L =
 pub matched-spec : {M : Type 1} → statement M
 matched-spec =
     tie.close
-    (tie.spec
-    Inv-loop
-    μ-loop
-    returns
-    sub-left
-    loop-holds
-    down-requires
-    enum-known-number
-    disclosed-requires
-    sub-left-2
-    loop-less
-    loop-again
-    enum-told
-    returns-2
-    enum-told-2
-    returns-3
-    returns-4)
+    (tie.spec Inv-loop μ-loop returns (λ c. search needs) loop-holds down-requires (λ c. search needs) disclosed-requires (λ c. search needs)
+    (λ c. search needs) loop-again (λ c. search needs) returns-2 (λ c. search needs) returns-3 returns-4)

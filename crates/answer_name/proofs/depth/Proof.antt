@@ -16,9 +16,6 @@ abbrev μ-loop : tie.MeasureT-loop
 loop-holds : tie.Need-loop-holds Inv-loop μ-loop
 loop-holds c = (c .pre .1, omega arith, climb-start (now (c .args .book)) (c .args .e))
 
-sub-j : tie.Need-sub-j Inv-loop μ-loop
-sub-j c = search needs
-
 add-j : tie.Need-add-j Inv-loop μ-loop
 add-j c = omega (arith, c .before .loop .inv .0, c .before .before .pre .0 .1 .3 .fits .few-entries)
 
@@ -49,15 +46,4 @@ returns c = climb-end (now (c .before .before .args .book)) (c .before .before .
 pub depth-spec : {M : Type 1} → statement M
 depth-spec =
     tie.close
-    (tie.spec
-    Inv-loop
-    μ-loop
-    loop-holds
-    sub-j
-    add-j
-    mul-j
-    element-copy-out-j
-    add-n
-    loop-less
-    loop-again
-    returns)
+    (tie.spec Inv-loop μ-loop loop-holds (λ c. search needs) add-j mul-j element-copy-out-j add-n loop-less loop-again returns)

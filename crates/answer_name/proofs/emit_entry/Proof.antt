@@ -7,23 +7,8 @@ use borrow.Author.Needs.{needs}
 use Rattle.answer_name.proofs.emit_entry.Statement.{statement}
 use Rattle.answer_name.proofs.emit_entry.Tie as tie
 
-depth-requires : tie.Need-depth-requires
-depth-requires c κs = search needs
-
-element-copy-out-w : tie.Need-element-copy-out-w
-element-copy-out-w c = search needs
-
-slice-aggregate-emit : tie.Need-slice-aggregate-emit
-slice-aggregate-emit c = search needs
-
-emit-requires : tie.Need-emit-requires
-emit-requires c κs = search needs
-
 emit-name-requires : tie.Need-emit-name-requires
 emit-name-requires c κs = let P = c .before .before .before .before .before .before .before .before .before .before .pre in (P .0, omega (arith, P .1, P .0 .3 .fits .wide, emits-length _ _ _ _ (c .before .before .before .emit .ensures)), P .2)
-
-same-length : tie.Need-same-length
-same-length c = search needs
 
 returns : tie.Need-returns
 returns c = let P = c .before .before .before .before .before .before .before .before .before .before .before .before .before .pre in
@@ -37,11 +22,4 @@ returns c = let P = c .before .before .before .before .before .before .before .b
 pub emit-entry-spec : {M : Type 1} → statement M
 emit-entry-spec =
     tie.close
-    (tie.spec
-    depth-requires
-    element-copy-out-w
-    slice-aggregate-emit
-    emit-requires
-    emit-name-requires
-    same-length
-    returns)
+    (tie.spec (λ c κs. search needs) (λ c. search needs) (λ c. search needs) (λ c κs. search needs) emit-name-requires (λ c. search needs) returns)

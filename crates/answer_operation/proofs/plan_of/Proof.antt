@@ -16,16 +16,6 @@ use mathlib.Core.Path.{ap₂}
 use borrow.Author.Needs.{needs}
 use Rattle.answer_operation.proofs.plan_of.Statement.{statement}
 use Rattle.answer_operation.proofs.plan_of.Tie as tie
-use Rattle.answer_operation.proofs.plan_of.Reads as reads
-use Rattle.answer_operation.proofs.plan_of.Lts as lts
-use Rattle.answer_compare.proofs.compare.Reads as compare-reads
-use Rattle.answer_list.proofs.list.Reads as list-reads
-use Rattle.answer_read.proofs.read.Reads as read-reads
-use Rattle.answer_search.proofs.search.Reads as search-reads
-use Rattle.sheet.proofs.value_at.Reads as value-at-reads
-
-read-requires : tie.Need-read-requires
-read-requires c κs = search needs
 
 returns : tie.Need-returns
 returns c = let A = c .before .before .before .before .before .before .args in let b = now (A .book) in let K = c .before .before .before .before .before .before .pre .0 .2 .entries in let R = c .read .result in (c .read .ensures .0 (now (A .hits)), λ σ es x w N C B. by-read (width b) (now (A .q)) (A .asked) (λ (o : Operation). Chooses (schema b) (selectionOf o) (A .choice) → planned σ es (selectionOf o) R (now (A .hits)) ≡ answer σ (map entryOf es) (x .base) o) (x .operation) (N .operation) (c .before .if1 .taken) (λ s. λ ch. c .read .ensures .1 σ es (x .base) s (now (A .hits)) w ch B) C)
@@ -35,9 +25,6 @@ element-copy-out-w c = let A = c .before .before .before .before .before .before
 
 value-at-requires : tie.Need-value-at-requires
 value-at-requires c κs = let A = c .before .before .before .before .before .before .before .before .args in let b = now (A .book) in let K = c .before .before .before .before .before .before .before .before .pre .0 .2 .entries in let N = c .before .before .before .before .before .before .before .before .pre .3 in value-within (width b) (now (A .q)) (A .asked) (N .0 .operation) (N .1 .operation) (c .before .if2 .taken)
-
-compare-requires : tie.Need-compare-requires
-compare-requires c κs = search needs
 
 returns-2 : tie.Need-returns-2
 returns-2 c = let A = c .before .before .before .before .before .before .before .before .before .before .args in let b = now (A .book) in let K = c .before .before .before .before .before .before .before .before .before .before .pre .0 .2 .entries in let R = c .compare .result in (c .compare .ensures .0 (now (A .hits)), λ σ es x w N C B. by-compare (width b) (now (A .q)) (A .asked) (λ (o : Operation). Chooses (schema b) (selectionOf o) (A .choice) → planned σ es (selectionOf o) R (now (A .hits)) ≡ answer σ (map entryOf es) (x .base) o) (x .operation) (N .operation) (c .before .before .before .if2 .taken) (λ t v et ev. λ ch. c .compare .ensures .1 σ es (x .base) nothingSelected (now (A .hits)) w B ∙ ap₂ (λ (i : ℕ) (u : List ℕ). answer σ (map entryOf es) (x .base) (compare i u)) et (c .before .value-at .ensures ∙ ev)) C)
@@ -57,14 +44,5 @@ returns-4 c = let A = c .before .before .before .before .before .before .before 
 pub plan-of-spec : {M : Type 1} → statement M
 plan-of-spec =
     tie.close
-    (tie.spec
-    read-requires
-    returns
-    element-copy-out-w
-    value-at-requires
-    compare-requires
-    returns-2
-    list-requires
-    returns-3
-    search-requires
-    returns-4)
+    (tie.spec (λ c κs. search needs) returns element-copy-out-w value-at-requires (λ c κs. search needs) returns-2 list-requires returns-3
+    search-requires returns-4)

@@ -11,32 +11,14 @@ use Rattle.answer_print.proofs.emit_success.Tie as tie
 emit-found-requires : tie.Need-emit-found-requires
 emit-found-requires c κs = let P = c .before .before .before .before .before .before .pre in (P .0, omega (arith, P .2), omega (arith, P .1 .name, P .1 .entry), omega (arith, P .1 .name, P .1 .entry))
 
-same-length : tie.Need-same-length
-same-length c = search needs
-
 returns : tie.Need-returns
 returns c = let a = c .before .before .before .before .before .before .before .before .before .args in λ σ es s W C. success-read σ es s (width (now (a .book))) (now (a .out)) (a .at) (a .plan) (now (a .hits)) (c .before .before .before .before .if1 .taken) (c .before .before .emit-found .ensures .1 σ es s W C)
-
-element-copy-out-w : tie.Need-element-copy-out-w
-element-copy-out-w c = search needs
-
-slice-aggregate-emit : tie.Need-slice-aggregate-emit
-slice-aggregate-emit c = search needs
 
 emit-requires : tie.Need-emit-requires
 emit-requires c κs = let P = c .before .before .before .before .before .before .before .before .before .before .pre in let F = P .0 .2 .entries .fits in (omega (arith, F .narrow), F .wide, omega (arith, P .2))
 
-same-length-2 : tie.Need-same-length-2
-same-length-2 c = search needs
-
 returns-2 : tie.Need-returns-2
 returns-2 c = let a = c .before .before .before .before .before .before .before .before .before .before .before .before .before .args in λ σ es s W C. success-compare σ es s (width (now (a .book))) (now (a .out)) (a .at) (a .plan) (now (a .hits)) (c .before .before .before .before .before .before .if2 .taken) (c .before .before .emit .ensures)
-
-sub-emit-children : tie.Need-sub-emit-children
-sub-emit-children c = search needs
-
-part-emit-children-start : tie.Need-part-emit-children-start
-part-emit-children-start c = search needs
 
 part-emit-children-end : tie.Need-part-emit-children-end
 part-emit-children-end c = omega (arith, c .before .before .before .before .before .before .before .before .before .before .before .pre .1 .shown)
@@ -46,17 +28,8 @@ emit-children-requires c κs = let P = c .before .before .before .before .before
     let m : length (now (c .before .before .before .before .before .before .before .before .before .before .before .before .args .hits)) ≡ 256 = search needs in
     ((P .0 .0, P .0 .1, now (c .before .before .before .before .before .before .before .before .before .before .before .before .args .held), P .0 .2 .entries), P .2, omega (arith, shown-many (P .1), P .1 .shown, m), shown-below (P .1))
 
-same-length-3 : tie.Need-same-length-3
-same-length-3 c = search needs
-
 returns-3 : tie.Need-returns-3
 returns-3 c = let a = c .before .before .before .before .before .before .before .before .before .before .before .before .before .before .before .args in λ σ es s W C. success-list σ es s (width (now (a .book))) (now (a .out)) (a .at) (a .plan) (now (a .hits)) (c .before .before .before .before .before .if3 .taken) (c .before .before .emit-children .ensures σ es (now (a .held)) (W .entries))
-
-sub-emit-matches : tie.Need-sub-emit-matches
-sub-emit-matches c = search needs
-
-part-emit-matches-start : tie.Need-part-emit-matches-start
-part-emit-matches-start c = search needs
 
 part-emit-matches-end : tie.Need-part-emit-matches-end
 part-emit-matches-end c = omega (arith, c .before .before .before .before .before .before .before .before .before .before .before .pre .1 .shown)
@@ -66,33 +39,12 @@ emit-matches-requires c κs = let P = c .before .before .before .before .before 
     let m : length (now (c .before .before .before .before .before .before .before .before .before .before .before .before .args .hits)) ≡ 256 = search needs in
     (P .0, P .2, omega (arith, shown-many (P .1), P .1 .shown, m), shown-below (P .1))
 
-same-length-4 : tie.Need-same-length-4
-same-length-4 c = search needs
-
 returns-4 : tie.Need-returns-4
 returns-4 c = let a = c .before .before .before .before .before .before .before .before .before .before .before .before .before .before .before .args in λ σ es s W C. success-search σ es s (width (now (a .book))) (now (a .out)) (a .at) (a .plan) (now (a .hits)) (c .before .before .before .before .before .before .before .before .before .before .if1 .left) (c .before .before .before .before .before .before .before .before .if2 .left) (c .before .before .before .before .before .if3 .left) (c .before .before .emit-matches .ensures σ es s W C)
 
 pub emit-success-spec : {M : Type 1} → statement M
 emit-success-spec =
     tie.close
-    (tie.spec
-    emit-found-requires
-    same-length
-    returns
-    element-copy-out-w
-    slice-aggregate-emit
-    emit-requires
-    same-length-2
-    returns-2
-    sub-emit-children
-    part-emit-children-start
-    part-emit-children-end
-    emit-children-requires
-    same-length-3
-    returns-3
-    sub-emit-matches
-    part-emit-matches-start
-    part-emit-matches-end
-    emit-matches-requires
-    same-length-4
-    returns-4)
+    (tie.spec emit-found-requires (λ c. search needs) returns (λ c. search needs) (λ c. search needs) emit-requires (λ c. search needs) returns-2
+    (λ c. search needs) (λ c. search needs) part-emit-children-end emit-children-requires (λ c. search needs) returns-3 (λ c. search needs)
+    (λ c. search needs) part-emit-matches-end emit-matches-requires (λ c. search needs) returns-4)

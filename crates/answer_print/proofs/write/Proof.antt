@@ -6,23 +6,8 @@ use borrow.Author.Needs.{needs}
 use Rattle.answer_print.proofs.write.Statement.{statement}
 use Rattle.answer_print.proofs.write.Tie as tie
 
-sub-print : tie.Need-sub-print
-sub-print c = search needs
-
-part-print-start : tie.Need-part-print-start
-part-print-start c = search needs
-
-part-print-end : tie.Need-part-print-end
-part-print-end c = search needs
-
 print-requires : tie.Need-print-requires
 print-requires c κs = c .before .before .before .before .pre
-
-refused-requires : tie.Need-refused-requires
-refused-requires c κs = search needs
-
-same-length : tie.Need-same-length
-same-length c = search needs
 
 returns : tie.Need-returns
 returns c = let a = c .before .before .before .before .before .before .before .before .before .args in
@@ -31,9 +16,6 @@ returns c = let a = c .before .before .before .before .before .before .before .b
 
 print-requires-2 : tie.Need-print-requires-2
 print-requires-2 c κs = c .before .before .before .before .before .before .before .before .before .pre
-
-same-length-2 : tie.Need-same-length-2
-same-length-2 c = search needs
 
 returns-2 : tie.Need-returns-2
 returns-2 c = let a = c .before .before .before .before .before .before .before .before .before .before .before .before .args in
@@ -44,14 +26,5 @@ returns-2 c = let a = c .before .before .before .before .before .before .before 
 pub write-spec : {M : Type 1} → statement M
 write-spec =
     tie.close
-    (tie.spec
-    sub-print
-    part-print-start
-    part-print-end
-    print-requires
-    refused-requires
-    same-length
-    returns
-    print-requires-2
-    same-length-2
-    returns-2)
+    (tie.spec (λ c. search needs) (λ c. search needs) (λ c. search needs) print-requires (λ c κs. search needs) (λ c. search needs) returns
+    print-requires-2 (λ c. search needs) returns-2)

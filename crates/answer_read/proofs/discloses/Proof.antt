@@ -21,18 +21,12 @@ use Rattle.tables.specs.Laws.Book.{end-is}
 use borrow.Author.Needs.{needs}
 use Rattle.answer_read.proofs.discloses.Statement.{statement}
 use Rattle.answer_read.proofs.discloses.Tie as tie
-use Rattle.answer_read.proofs.discloses.Reads as reads
-use Rattle.answer_read.proofs.discloses.Lts as lts
-use Rattle.answer_read.proofs.disclosing_rank.Reads as disclosing-rank-reads
 
 abbrev Inv-loop : tie.InvT-loop
 Inv-loop book held sets choice k end i₀ i = (firstAt book k ≤ i) × (i ≤ firstAt book (suc k)) × ((σ : Setting) (es : List Stored) (s : Selection) (d p : Bytes) → World σ es d p book held sets → Chooses (schema book) s choice → any (λ v. disclosing σ s (getD es k blank .name) (v .type)) (drop (i - firstAt book k) (getD es k blank .values)) ≡ any (λ v. disclosing σ s (getD es k blank .name) (v .type)) (getD es k blank .values))
 
 abbrev μ-loop : tie.MeasureT-loop
 μ-loop book held sets choice k end i₀ i = firstAt book (suc k) - i
-
-add-end : tie.Need-add-end Inv-loop μ-loop
-add-end c = search needs
 
 add-end-2 : tie.Need-add-end-2 Inv-loop μ-loop
 add-end-2 c = let A = c .args in let b = now (A .book) in let k = A .k in let E = c .pre .0 .2 .2 .entries in let r = rows-within E k (c .pre .1) in omega (arith, E .fits .few-entries, c .pre .1)
@@ -82,22 +76,5 @@ returns-2 c = let A = c .before .before .before .before .args in let b = now (A 
 pub discloses-spec : {M : Type 1} → statement M
 discloses-spec =
     tie.close
-    (tie.spec
-    Inv-loop
-    μ-loop
-    add-end
-    add-end-2
-    mul-end
-    element-copy-out-end
-    add-i
-    mul-i
-    element-copy-out-i
-    loop-holds
-    mul-disclosing-rank
-    element-copy-out-disclosing-rank
-    disclosing-rank-requires
-    returns
-    add-i-2
-    loop-less
-    loop-again
-    returns-2)
+    (tie.spec Inv-loop μ-loop (λ c. search needs) add-end-2 mul-end element-copy-out-end add-i mul-i element-copy-out-i loop-holds mul-disclosing-rank
+    element-copy-out-disclosing-rank disclosing-rank-requires returns add-i-2 loop-less loop-again returns-2)

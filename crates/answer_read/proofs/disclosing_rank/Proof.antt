@@ -11,19 +11,6 @@ use Rattle.answer_read.specs.Laws.Read.{granted-next, undisclosing, disc
 use borrow.Author.Needs.{needs}
 use Rattle.answer_read.proofs.disclosing_rank.Statement.{statement}
 use Rattle.answer_read.proofs.disclosing_rank.Tie as tie
-use Rattle.answer_read.proofs.disclosing_rank.Reads as reads
-use Rattle.answer_read.proofs.disclosing_rank.Lts as lts
-use Rattle.access_may.proofs.may_type.Reads as may-type-reads
-use Rattle.answer_read.proofs.chosen.Reads as chosen-reads
-
-chosen-requires : tie.Need-chosen-requires
-chosen-requires c κs = search needs
-
-add-may-type : tie.Need-add-may-type
-add-may-type c = search needs
-
-may-type-requires : tie.Need-may-type-requires
-may-type-requires c κs = search needs
 
 returns : tie.Need-returns
 returns c = let A = c .before .before .before .args in λ σ es s d p book held w ch l rl. let k = A .k in c .may-type .ensures σ es d p book held w (omega (arith, l)) rl ∙ granted-next σ es k (ofType (typeAt (schema book) (A .rank))) DiscloseOnError ∙ disclosing-asked σ s (getD es k blank .name) (typeAt (schema book) (A .rank)) (sym (ch .ranks (A .rank) rl) ∙ sym (c .before .before .chosen .ensures) ∙ c .before .if1 .taken)
@@ -33,4 +20,4 @@ returns-2 c = let A = c .before .before .args in λ σ es s d p book held w ch l
 
 pub disclosing-rank-spec : {M : Type 1} → statement M
 disclosing-rank-spec =
-    tie.close (tie.spec chosen-requires add-may-type may-type-requires returns returns-2)
+    tie.close (tie.spec (λ c κs. search needs) (λ c. search needs) (λ c κs. search needs) returns returns-2)

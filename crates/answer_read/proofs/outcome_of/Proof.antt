@@ -7,16 +7,9 @@ use Rattle.answer_read.specs.Laws.Read.{outcome-nothing, outcome-some, o
 use borrow.Author.Needs.{needs}
 use Rattle.answer_read.proofs.outcome_of.Statement.{statement}
 use Rattle.answer_read.proofs.outcome_of.Tie as tie
-use Rattle.answer_read.proofs.outcome_of.Reads as reads
-use Rattle.answer_read.proofs.outcome_of.Lts as lts
-use Rattle.answer_read.proofs.discloses.Reads as discloses-reads
-use Rattle.answer_read.proofs.readable_any.Reads as readable-any-reads
 
 returns : tie.Need-returns
 returns c = let A = c .before .before .before .args in λ σ es s w ch. outcome-nothing σ s (getD es (A .k) blank) (sym (ch .nothing) ∙ c .if1 .taken)
-
-readable-any-requires : tie.Need-readable-any-requires
-readable-any-requires c κs = search needs
 
 returns-2 : tie.Need-returns-2
 returns-2 c = let A = c .before .before .before .before .before .args in λ σ es s w ch. outcome-some σ s (getD es (A .k) blank) (sym (c .before .readable-any .ensures σ es s w ch) ∙ c .if2 .taken)
@@ -33,4 +26,4 @@ returns-4 c = let A = c .before .before .before .before .before .before .before 
 pub outcome-of-spec : {M : Type 1} → statement M
 outcome-of-spec =
     tie.close
-    (tie.spec returns readable-any-requires returns-2 discloses-requires returns-3 returns-4)
+    (tie.spec returns (λ c κs. search needs) returns-2 discloses-requires returns-3 returns-4)

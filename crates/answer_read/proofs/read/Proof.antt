@@ -12,22 +12,9 @@ use Rattle.tables.specs.Book.{entries}
 use borrow.Author.Needs.{needs}
 use Rattle.answer_read.proofs.read.Statement.{statement}
 use Rattle.answer_read.proofs.read.Tie as tie
-use Rattle.answer_read.proofs.read.Reads as reads
-use Rattle.answer_read.proofs.read.Lts as lts
-use Rattle.answer_plan.proofs.absent.Reads as absent-reads
-use Rattle.answer_read.proofs.read_entry.Reads as read-entry-reads
-
-enum-known-base : tie.Need-enum-known-base
-enum-known-base c = search needs
 
 read-entry-requires : tie.Need-read-entry-requires
 read-entry-requires c κs = (c .before .before .before .before .before .pre .0, c .before .before .before .before .before .pre .1 .found (c .before .base .given .0 .0) (c .before .base .given .1), c .before .before .before .before .before .pre .1 .matched)
-
-enum-told : tie.Need-enum-told
-enum-told c = search needs
-
-absent-requires : tie.Need-absent-requires
-absent-requires c κs = search needs
 
 returns : tie.Need-returns
 returns c = let A = c .before .before .before .before .before .before .args in let E = entries (now (A .book)) in (c .read-entry .ensures .0, λ σ es n s hits w ch q. c .read-entry .ensures .1 σ es n (A .target .base) s hits w ch q (c .before .before .base .given .1))
@@ -39,4 +26,4 @@ returns-2 c = let A = c .before .before .before .before .before .args in let E =
 pub read-spec : {M : Type 1} → statement M
 read-spec =
     tie.close
-    (tie.spec enum-known-base read-entry-requires enum-told absent-requires returns returns-2)
+    (tie.spec (λ c. search needs) read-entry-requires (λ c. search needs) (λ c κs. search needs) returns returns-2)

@@ -16,18 +16,6 @@ use Rattle.answer_read.specs.Laws.Read.{granted-next, read-found, read-r
 use borrow.Author.Needs.{needs}
 use Rattle.answer_read.proofs.read_open.Statement.{statement}
 use Rattle.answer_read.proofs.read_open.Tie as tie
-use Rattle.answer_read.proofs.read_open.Reads as reads
-use Rattle.answer_read.proofs.read_open.Lts as lts
-use Rattle.access_may.proofs.may_entry.Reads as may-entry-reads
-use Rattle.answer_plan.proofs.refused.Reads as refused-reads
-use Rattle.answer_read.proofs.found.Reads as found-reads
-use Rattle.answer_read.proofs.outcome_of.Reads as outcome-of-reads
-
-outcome-of-requires : tie.Need-outcome-of-requires
-outcome-of-requires c κs = search needs
-
-refused-requires : tie.Need-refused-requires
-refused-requires c κs = search needs
 
 returns : tie.Need-returns
 returns c = let A = c .before .before .before .before .before .args in let E = entries (now (A .book)) in (λ hits. subst (λ (r : Plan). Sound E r hits) (sym (c .refused .ensures)) (refused-sound E hits 1 _), λ σ es s hits w ch. ap (λ (r : Plan). planned σ es s r hits) (c .refused .ensures) ∙ read-refused σ es s hits (A .k) _ (c .before .before .outcome-of .ensures σ es s w ch) (c .before .if1 .taken))
@@ -47,11 +35,4 @@ returns-2 c = let A = c .before .before .before .before .before .before .args in
 pub read-open-spec : {M : Type 1} → statement M
 read-open-spec =
     tie.close
-    (tie.spec
-    outcome-of-requires
-    refused-requires
-    returns
-    add-may-entry
-    may-entry-requires
-    found-requires
-    returns-2)
+    (tie.spec (λ c κs. search needs) (λ c κs. search needs) returns add-may-entry may-entry-requires found-requires returns-2)

@@ -16,12 +16,6 @@ use Rattle.answer_read.specs.Laws.Read.{granted-next, unselected, type-h
 use borrow.Author.Needs.{needs}
 use Rattle.answer_read.proofs.readable_row.Statement.{statement}
 use Rattle.answer_read.proofs.readable_row.Tie as tie
-use Rattle.answer_read.proofs.readable_row.Reads as reads
-use Rattle.answer_read.proofs.readable_row.Lts as lts
-use Rattle.access_may.proofs.may_type.Reads as may-type-reads
-use Rattle.access_may.proofs.may_value.Reads as may-value-reads
-use Rattle.answer_read.proofs.chosen.Reads as chosen-reads
-use Rattle.tables.proofs.held.bytes.Reads as bytes-reads
 
 mul-rank : tie.Need-mul-rank
 mul-rank c = let A = c .before .before .args in let E = c .before .before .pre .0 .2 .entries in let r = rows-within E (A .k) (c .before .before .pre .1) in omega (arith, r .1, c .before .before .pre .3)
@@ -32,14 +26,8 @@ element-copy-out-rank c = let A = c .before .before .args in let E = c .before .
 chosen-requires : tie.Need-chosen-requires
 chosen-requires c κs = let A = c .before .before .before .args in let b = now (A .book) in let h = now (A .held) in let E = c .before .before .before .pre .0 .2 .entries in let R = rank-within E (A .k) (c .before .before .before .pre .1) (A .i) (c .before .before .before .pre .2) (c .before .before .before .pre .3) in omega (arith, R, E .fits .few-types)
 
-add-may-type : tie.Need-add-may-type
-add-may-type c = search needs
-
 may-type-requires : tie.Need-may-type-requires
 may-type-requires c κs = let A = c .before .before .before .before .before .args in let b = now (A .book) in let h = now (A .held) in let E = c .before .before .before .before .before .pre .0 .2 .entries in let R = rank-within E (A .k) (c .before .before .before .before .before .pre .1) (A .i) (c .before .before .before .before .before .pre .2) (c .before .before .before .before .before .pre .3) in (omega (arith, c .before .before .before .before .before .pre .1, E .fits .few-entries), omega (arith, R, E .fits .few-types), omega arith, (now (c .before .before .before .before .before .args .d), now (c .before .before .before .before .before .args .p), now (c .before .before .before .before .before .args .book), now (c .before .before .before .before .before .args .held), c .before .before .before .before .before .pre .0))
-
-add-may-value : tie.Need-add-may-value
-add-may-value c = search needs
 
 bytes-requires : tie.Need-bytes-requires
 bytes-requires c κs = let A = c .before .before .before .before .before .before .before .before .args in let b = now (A .book) in let h = now (A .held) in let E = c .before .before .before .before .before .before .before .before .pre .0 .2 .entries in let R = rank-within E (A .k) (c .before .before .before .before .before .before .before .before .pre .1) (A .i) (c .before .before .before .before .before .before .before .before .pre .2) (c .before .before .before .before .before .before .before .before .pre .3) in (omega (arith, rows-within E (A .k) (c .before .before .before .before .before .before .before .before .pre .1) .1, c .before .before .before .before .before .before .before .before .pre .3), bytes-within E (A .k) (c .before .before .before .before .before .before .before .before .pre .1) (A .i) (c .before .before .before .before .before .before .before .before .pre .2) (c .before .before .before .before .before .before .before .before .pre .3))
@@ -62,16 +50,5 @@ returns-4 c = let A = c .before .before .before .before .before .args in let b =
 pub readable-row-spec : {M : Type 1} → statement M
 readable-row-spec =
     tie.close
-    (tie.spec
-    mul-rank
-    element-copy-out-rank
-    chosen-requires
-    add-may-type
-    may-type-requires
-    add-may-value
-    bytes-requires
-    may-value-requires
-    returns
-    returns-2
-    returns-3
-    returns-4)
+    (tie.spec mul-rank element-copy-out-rank chosen-requires (λ c. search needs) may-type-requires (λ c. search needs) bytes-requires
+    may-value-requires returns returns-2 returns-3 returns-4)

@@ -21,9 +21,6 @@ use Rattle.answer_entry.specs.Laws.Passing.{no-indices, index-in, index-out, pa
 use Rattle.answer_search.specs.Hits.{foundAt}
 use Rattle.answer_search.proofs.found.Statement.{statement}
 use Rattle.answer_search.proofs.found.Tie as tie
-use Rattle.answer_search.proofs.found.Reads as reads
-use Rattle.answer_search.proofs.found.Lts as lts
-use Rattle.answer_search.proofs.found_at.Reads as found-at-reads
 
 abbrev Inv-loop : tie.InvT-loop
 Inv-loop book held sets d p q rows scope hits₀ count n₀ k₀ hits n k = (k ≤ entries book) × (length hits ≡ 256) × Indices k n hits₀ hits × ((σ : Setting) (es : List Stored) (f : Filter) → World σ es d p book held sets → Request.filter 16 128 (linesAt (width book) q (positionAt rows 0)) (λ f left rest. accept f) ≡ accept f → take n hits ≡ passing (foundAt σ es (scope .base) (scope .subset) f) k)
@@ -83,16 +80,5 @@ returns c = let A = c .before .before .before .before .before .before .args in l
 pub found-spec : {M : Type 1} → statement M
 found-spec =
     tie.close
-    (tie.spec
-    Inv-loop
-    μ-loop
-    element-copy-out-count
-    loop-holds
-    found-at-requires
-    mul-hits
-    element-write-hits
-    add-n
-    add-k
-    loop-less
-    loop-again
+    (tie.spec Inv-loop μ-loop element-copy-out-count loop-holds found-at-requires mul-hits element-write-hits add-n add-k loop-less loop-again
     returns)

@@ -10,11 +10,6 @@ use Rattle.tables.specs.Laws.World.{inside}
 use Rattle.answer_search.specs.Laws.Hits.{found-outside, found-withheld, found-asked}
 use Rattle.answer_search.proofs.found_at.Statement.{statement}
 use Rattle.answer_search.proofs.found_at.Tie as tie
-use Rattle.answer_search.proofs.found_at.Reads as reads
-use Rattle.answer_search.proofs.found_at.Lts as lts
-use Rattle.answer_entry.proofs.returnable.Reads as returnable-reads
-use Rattle.filter_tree.proofs.tree.matches.Reads as matches-reads
-use Rattle.answer_search.proofs.within.Reads as within-reads
 
 within-requires : tie.Need-within-requires
 within-requires c κs = let A = c .before .before .before .args in let k = A .k in let K = c .before .before .before .pre .0 .2 .entries in (c .before .before .before .pre .1, (c .before .before .before .pre .0 .0, c .before .before .before .pre .0 .1, now (A .d), now (A .held), K))
@@ -43,12 +38,4 @@ returns-3 c = let A = c .before .before .before .before .before .before .before 
 pub found-at-spec : {M : Type 1} → statement M
 found-at-spec =
     tie.close
-    (tie.spec
-    within-requires
-    returns
-    add-returnable
-    add-returnable-2
-    returnable-requires
-    returns-2
-    matches-requires
-    returns-3)
+    (tie.spec within-requires returns add-returnable add-returnable-2 returnable-requires returns-2 matches-requires returns-3)

@@ -14,24 +14,6 @@ use Rattle.filter_lines.specs.Lines.{Typed}
 use borrow.Author.Needs.{needs}
 use Rattle.answer_search.proofs.search.Statement.{statement}
 use Rattle.answer_search.proofs.search.Tie as tie
-use Rattle.answer_search.proofs.search.Reads as reads
-use Rattle.answer_search.proofs.search.Lts as lts
-use Rattle.access_may.proofs.may_entry.Reads as may-entry-reads
-use Rattle.answer_entry.proofs.returned.Reads as returned-reads
-use Rattle.answer_plan.proofs.absent.Reads as absent-reads
-use Rattle.answer_search.proofs.found.Reads as found-reads
-use Rattle.filter_item.proofs.mask.mask.Reads as mask-reads
-use Rattle.filter_lines.proofs.lines.note.Reads as note-reads
-use Rattle.tables.proofs.book.schema.Reads as schema-reads
-
-enum-known-base : tie.Need-enum-known-base
-enum-known-base c = search needs
-
-enum-told : tie.Need-enum-told
-enum-told c = search needs
-
-absent-requires : tie.Need-absent-requires
-absent-requires c κs = search needs
 
 returns : tie.Need-returns
 returns c = let A = c .before .before .before .before .before .before .args in let b = now (A .book) in let K = c .before .before .before .before .before .before .pre .0 .2 .entries in (
@@ -45,9 +27,6 @@ schema-requires c κs = let A = c .before .before .before .before .before .befor
 element-copy-out-note : tie.Need-element-copy-out-note
 element-copy-out-note c = let A = c .before .before .before .before .before .before .before .before .args in let b = now (A .book) in let K = c .before .before .before .before .before .before .before .before .pre .0 .2 .entries in omega (arith, K .fits .size)
 
-slice-aggregate-note : tie.Need-slice-aggregate-note
-slice-aggregate-note c = search needs
-
 note-requires : tie.Need-note-requires
 note-requires c κs = let A = c .before .before .before .before .before .before .before .before .before .before .args in let b = now (A .book) in let K = c .before .before .before .before .before .before .before .before .before .before .pre .0 .2 .entries in (K .fits .wide, c .before .before .before .before .before .before .before .before .before .before .pre .3, search needs)
 
@@ -59,9 +38,6 @@ found-requires c κs = let A = c .before .before .before .before .before .before
 
 may-entry-requires : tie.Need-may-entry-requires
 may-entry-requires c κs = let A = c .before .before .before .before .before .before .before .before .before .before .before .before .before .before .before .before .before .args in let b = now (A .book) in let K = c .before .before .before .before .before .before .before .before .before .before .before .before .before .before .before .before .before .pre .0 .2 .entries in (omega (arith, K .fits .few-entries, c .before .before .before .before .before .before .before .before .before .before .before .before .before .before .before .before .before .pre .1 .found (c .before .before .before .before .before .before .before .before .before .before .before .before .base .given .0 .0) (c .before .before .before .before .before .before .before .before .before .before .before .before .base .given .1)), omega arith, (now (A .d), now (A .p), b, now (A .held), c .before .before .before .before .before .before .before .before .before .before .before .before .before .before .before .before .before .pre .0))
-
-returned-requires : tie.Need-returned-requires
-returned-requires c κs = search needs
 
 returns-2 : tie.Need-returns-2
 returns-2 c = let A = c .before .before .before .before .before .before .before .before .before .before .before .before .before .before .before .before .before .before .before .args in let b = now (A .book) in let K = c .before .before .before .before .before .before .before .before .before .before .before .before .before .before .before .before .before .before .before .pre .0 .2 .entries in let told = c .before .before .before .before .before .before .before .before .before .before .before .before .before .before .base .given in
@@ -77,17 +53,5 @@ returns-2 c = let A = c .before .before .before .before .before .before .before 
 pub search-spec : {M : Type 1} → statement M
 search-spec =
     tie.close
-    (tie.spec
-    enum-known-base
-    enum-told
-    absent-requires
-    returns
-    schema-requires
-    element-copy-out-note
-    slice-aggregate-note
-    note-requires
-    mask-requires
-    found-requires
-    may-entry-requires
-    returned-requires
-    returns-2)
+    (tie.spec (λ c. search needs) (λ c. search needs) (λ c κs. search needs) returns schema-requires element-copy-out-note (λ c. search needs)
+    note-requires mask-requires found-requires may-entry-requires (λ c κs. search needs) returns-2)

@@ -7,9 +7,6 @@ use Rattle.tables.specs.Laws.World.{parent-is}
 use Rattle.answer_search.specs.Laws.Hits.{within-base, within-children, within-below}
 use Rattle.answer_search.proofs.within.Statement.{statement}
 use Rattle.answer_search.proofs.within.Tie as tie
-use Rattle.answer_search.proofs.within.Reads as reads
-use Rattle.answer_search.proofs.within.Lts as lts
-use Rattle.entry_lookup.proofs.climb.climbs.Reads as climbs-reads
 
 add-result : tie.Need-add-result
 add-result c = let E = c .before .pre .1 .4 in omega (arith, c .before .pre .0, E .fits .few-entries, E .fits .size)
@@ -41,13 +38,4 @@ returns-3 c = let A = c .before .before .before .args in λ σ es d held E. c .c
 pub within-spec : {M : Type 1} → statement M
 within-spec =
     tie.close
-    (tie.spec
-    add-result
-    returns
-    add-result-2
-    mul-result
-    element-copy-out-result
-    returns-2
-    add-climbs
-    climbs-requires
-    returns-3)
+    (tie.spec add-result returns add-result-2 mul-result element-copy-out-result returns-2 add-climbs climbs-requires returns-3)

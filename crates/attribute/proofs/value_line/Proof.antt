@@ -8,25 +8,10 @@ use denote.Ref.{now}
 use borrow.Author.Needs.{needs}
 use Rattle.attribute.proofs.value_line.Statement.{statement}
 use Rattle.attribute.proofs.value_line.Tie as tie
-use Rattle.attribute.proofs.value_line.Reads as reads
-use Rattle.attribute.proofs.value_line.Lts as lts
-use Rattle.ruling.proofs.refusing.Reads as refusing-reads
-use Rattle.ruling.proofs.ruled.Reads as ruled-reads
-use Rattle.schema.proofs.rank.Reads as rank-reads
-use Rattle.form.proofs.columns.directory_columns.Reads as directory-columns-reads
-
-directory-columns-requires : tie.Need-directory-columns-requires
-directory-columns-requires c κs = search needs
-
-refusing-requires : tie.Need-refusing-requires
-refusing-requires c κs = search needs
 
 returns : tie.Need-returns
 unfolding valueRuling
 returns c = λ ms ready. rw (sym (c .before .before .directory-columns .ensures) ∙ not-true _ (c .before .if1 .taken)) (c .refusing .ensures)
-
-refusing-requires-2 : tie.Need-refusing-requires-2
-refusing-requires-2 c κs = search needs
 
 returns-2 : tie.Need-returns-2
 unfolding valueRuling
@@ -48,13 +33,4 @@ returns-3 c = λ ms ready. rw (sym (c .before .before .before .before .directory
 pub value-line-spec : {M : Type 1} → statement M
 value-line-spec =
     tie.close
-    (tie.spec
-    directory-columns-requires
-    refusing-requires
-    returns
-    refusing-requires-2
-    returns-2
-    rank-requires
-    add-ruled
-    ruled-requires
-    returns-3)
+    (tie.spec (λ c κs. search needs) (λ c κs. search needs) returns (λ c κs. search needs) returns-2 rank-requires add-ruled ruled-requires returns-3)

@@ -41,9 +41,6 @@ loop-holds c = let P = c .before .before .before .before .before .before .before
 line-at-requires : tie.Need-line-at-requires Inv-loop μ-loop
 line-at-requires c κs = c .before .before .before .before .before .before .before .before .pre .width
 
-enum-known-front : tie.Need-enum-known-front Inv-loop μ-loop
-enum-known-front c = search needs
-
 same-length : tie.Need-same-length Inv-loop μ-loop
 same-length c = omega (arith, c .before .before .loop .inv .0, c .before .before .before .before .before .before .before .before .before .before .pre .begun .ready .chain .marked)
 
@@ -158,44 +155,7 @@ loop-again c = let L = c .before .before .before .before .before .before .before
 pub values-spec : {M : Type 1} → statement M
 values-spec =
     tie.close
-    (tie.spec
-    Inv-loop
-    μ-loop
-    mul-i
-    add-i
-    add-i-2
-    add-i-3
-    loop-holds
-    line-at-requires
-    enum-known-front
-    same-length
-    same-length-2
-    same-length-3
-    returns
-    same-length-4
-    same-length-5
-    same-length-6
-    returns-2
-    value-line-requires
-    same-length-7
-    same-length-8
-    same-length-9
-    returns-3
-    holding-requires
-    mul-put-row
-    add-put-row
-    put-row-requires
-    mul-marks
-    slice-write-marks
-    add-heads
-    mul-heads
-    slice-write-heads
-    slice-write-slots
-    add-n
-    add-to
-    mul-i-2
-    add-i-4
-    add-i-5
-    add-i-6
-    loop-less
-    loop-again)
+    (tie.spec Inv-loop μ-loop mul-i add-i add-i-2 add-i-3 loop-holds line-at-requires (λ c. search needs) same-length same-length-2 same-length-3
+    returns same-length-4 same-length-5 same-length-6 returns-2 value-line-requires same-length-7 same-length-8 same-length-9 returns-3
+    holding-requires mul-put-row add-put-row put-row-requires mul-marks slice-write-marks add-heads mul-heads slice-write-heads slice-write-slots
+    add-n add-to mul-i-2 add-i-4 add-i-5 add-i-6 loop-less loop-again)

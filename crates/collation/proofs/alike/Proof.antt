@@ -9,14 +9,8 @@ use Rattle.collation.proofs.alike.Tie as tie
 returns : tie.Need-returns
 returns c = sym (eq-eqb _ _ (ap (fold (c .before .args .syntax)) (c .if1 .taken)))
 
-folded-requires : tie.Need-folded-requires
-folded-requires c κs = search needs
-
-folded-requires-2 : tie.Need-folded-requires-2
-folded-requires-2 c κs = search needs
-
 returns-2 : tie.Need-returns-2
 returns-2 c = rw (c .folded2 .ensures, c .before .folded .ensures)
 
 pub alike-spec : {M : Type 1} → statement M
-alike-spec = tie.close (tie.spec returns folded-requires folded-requires-2 returns-2)
+alike-spec = tie.close (tie.spec returns (λ c κs. search needs) (λ c κs. search needs) returns-2)

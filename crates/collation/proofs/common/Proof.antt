@@ -15,23 +15,8 @@ Inv-loop syntax v w n i₀ i = Shared (normal syntax v) (normal syntax w) n i
 abbrev μ-loop : tie.MeasureT-loop
 μ-loop syntax v w n i₀ i = n - i
 
-least-requires : tie.Need-least-requires Inv-loop μ-loop
-least-requires c κs = search needs
-
-leap-requires : tie.Need-leap-requires Inv-loop μ-loop
-leap-requires c κs = search needs
-
 loop-holds : tie.Need-loop-holds Inv-loop μ-loop
 loop-holds c = c .leap .ensures
-
-shared-slice-read-alike : tie.Need-shared-slice-read-alike Inv-loop μ-loop
-shared-slice-read-alike c = search needs
-
-shared-slice-read-alike-2 : tie.Need-shared-slice-read-alike-2 Inv-loop μ-loop
-shared-slice-read-alike-2 c = search needs
-
-alike-requires : tie.Need-alike-requires Inv-loop μ-loop
-alike-requires c κs = search needs
 
 returns : tie.Need-returns Inv-loop μ-loop
 returns c =
@@ -39,12 +24,6 @@ returns c =
     let N = c .before .before .before .before .before .before .before .least in
     let L = c .before .before .before .before .before .loop in
     shared-off (A .syntax) (now (A .v)) (now (A .w)) (N .result) (N .ensures) (L .i) (L .inv) (c .before .before .before .before .loop-test .taken) (sym (c .before .alike .ensures) ∙ not-true _ (c .if1 .taken))
-
-add-i : tie.Need-add-i Inv-loop μ-loop
-add-i c = search needs
-
-loop-less : tie.Need-loop-less Inv-loop μ-loop
-loop-less c = search needs
 
 loop-again : tie.Need-loop-again Inv-loop μ-loop
 loop-again c =
@@ -63,17 +42,5 @@ returns-2 c =
 pub common-spec : {M : Type 1} → statement M
 common-spec =
     tie.close
-    (tie.spec
-    Inv-loop
-    μ-loop
-    least-requires
-    leap-requires
-    loop-holds
-    shared-slice-read-alike
-    shared-slice-read-alike-2
-    alike-requires
-    returns
-    add-i
-    loop-less
-    loop-again
-    returns-2)
+    (tie.spec Inv-loop μ-loop (λ c κs. search needs) (λ c κs. search needs) loop-holds (λ c. search needs) (λ c. search needs) (λ c κs. search needs)
+    returns (λ c. search needs) (λ c. search needs) loop-again returns-2)

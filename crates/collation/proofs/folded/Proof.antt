@@ -5,9 +5,6 @@ use borrow.Author.Needs.{needs}
 use Rattle.collation.proofs.folded.Statement.{statement}
 use Rattle.collation.proofs.folded.Tie as tie
 
-small-requires : tie.Need-small-requires
-small-requires c κs = search needs
-
 returns : tie.Need-returns
 unfolding fold
 returns c = rw (eq-eqb _ _ (c .before .if1 .taken)) (c .small .ensures)
@@ -17,4 +14,4 @@ unfolding fold
 returns-2 c = rw (ne-eqb _ _ (c .if1 .left))
 
 pub folded-spec : {M : Type 1} → statement M
-folded-spec = tie.close (tie.spec small-requires returns returns-2)
+folded-spec = tie.close (tie.spec (λ c κs. search needs) returns returns-2)

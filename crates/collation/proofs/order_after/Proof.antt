@@ -7,9 +7,6 @@ use borrow.Author.Needs.{needs}
 use Rattle.collation.proofs.order_after.Statement.{statement}
 use Rattle.collation.proofs.order_after.Tie as tie
 
-common-requires : tie.Need-common-requires
-common-requires c κs = search needs
-
 returns : tie.Need-returns
 returns c =
     let A = c .before .before .before .before .before .args in
@@ -34,17 +31,11 @@ shared-slice-read-folded c =
     let K = c .before .before .before .common in
     omega (arith, within (A .syntax) (now (A .v)) (now (A .w)) (K .result) (K .ensures))
 
-folded-requires : tie.Need-folded-requires
-folded-requires c κs = search needs
-
 shared-slice-read-folded-2 : tie.Need-shared-slice-read-folded-2
 shared-slice-read-folded-2 c =
     let A = c .before .before .before .before .before .before .before .before .args in
     let K = c .before .before .before .before .before .common in
     omega (arith, within (A .syntax) (now (A .v)) (now (A .w)) (K .result) (K .ensures))
-
-folded-requires-2 : tie.Need-folded-requires-2
-folded-requires-2 c κs = search needs
 
 returns-4 : tie.Need-returns-4
 returns-4 c =
@@ -63,14 +54,5 @@ returns-5 c =
 pub order-after-spec : {M : Type 1} → statement M
 order-after-spec =
     tie.close
-    (tie.spec
-    common-requires
-    returns
-    returns-2
-    returns-3
-    shared-slice-read-folded
-    folded-requires
-    shared-slice-read-folded-2
-    folded-requires-2
-    returns-4
-    returns-5)
+    (tie.spec (λ c κs. search needs) returns returns-2 returns-3 shared-slice-read-folded (λ c κs. search needs) shared-slice-read-folded-2
+    (λ c κs. search needs) returns-4 returns-5)

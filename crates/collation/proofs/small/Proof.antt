@@ -5,9 +5,6 @@ use borrow.Author.Needs.{needs}
 use Rattle.collation.proofs.small.Statement.{statement}
 use Rattle.collation.proofs.small.Tie as tie
 
-add-result : tie.Need-add-result
-add-result c = search needs
-
 returns : tie.Need-returns
 unfolding small
 returns c = simp (le-leb _ _ (c .before .if1 .taken), le-leb _ _ (c .if2 .taken))
@@ -21,4 +18,4 @@ unfolding small
 returns-3 c = simp (lt-leb _ _ (c .if1 .left))
 
 pub small-spec : {M : Type 1} → statement M
-small-spec = tie.close (tie.spec add-result returns returns-2 returns-3)
+small-spec = tie.close (tie.spec (λ c. search needs) returns returns-2 returns-3)

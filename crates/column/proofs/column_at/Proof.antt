@@ -3,9 +3,6 @@ use borrow.Author.Needs.{needs}
 use Rattle.column.proofs.column_at.Statement.{statement}
 use Rattle.column.proofs.column_at.Tie as tie
 
-number-at-requires : tie.Need-number-at-requires
-number-at-requires c κs = search needs
-
 returns : tie.Need-returns
 returns c = sym (c .before .number-at .ensures .malformed (c .if1 .taken))
 
@@ -13,4 +10,4 @@ returns-2 : tie.Need-returns-2
 returns-2 c = sym (c .before .number-at .ensures .number (c .if1 .left))
 
 pub column-at-spec : {M : Type 1} → statement M
-column-at-spec = tie.close (tie.spec number-at-requires returns returns-2)
+column-at-spec = tie.close (tie.spec (λ c κs. search needs) returns returns-2)

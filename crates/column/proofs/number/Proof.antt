@@ -18,9 +18,6 @@ abbrev μ-loop : tie.MeasureT-loop
 loop-holds : tie.Need-loop-holds Inv-loop μ-loop
 loop-holds c = (search needs, power-positive _, refl)
 
-shared-slice-read-b : tie.Need-shared-slice-read-b Inv-loop μ-loop
-shared-slice-read-b c = search needs
-
 returns : tie.Need-returns Inv-loop μ-loop
 returns c = coded-none (sym (c .before .before .before .loop .inv .2) ∙ digits-low _ _ (c .before .before .loop-test .taken) _ (c .if1 .taken))
 
@@ -30,17 +27,8 @@ returns-2 c = coded-none (sym (c .before .before .before .before .loop .inv .2) 
 mul-v : tie.Need-mul-v Inv-loop μ-loop
 mul-v c = omega (arith, power-room _ _ 17 (c .before .before .before .before .loop .inv .1) (omega arith))
 
-cast-v : tie.Need-cast-v Inv-loop μ-loop
-cast-v c = search needs
-
 add-v : tie.Need-add-v Inv-loop μ-loop
 add-v c = omega (arith, power-room _ _ 17 (c .before .before .before .before .loop .inv .1) (omega arith))
-
-add-i : tie.Need-add-i Inv-loop μ-loop
-add-i c = search needs
-
-loop-less : tie.Need-loop-less Inv-loop μ-loop
-loop-less c = search needs
 
 loop-again : tie.Need-loop-again Inv-loop μ-loop
 loop-again c = (search needs, digit-room _ _ _ (c .before .before .before .before .loop .inv .1) (omega arith), sym (digits-on _ _ (c .before .before .before .loop-test .taken) _ (c .before .if1 .left) (c .if2 .left)) ∙ c .before .before .before .before .loop .inv .2)
@@ -51,17 +39,5 @@ returns-3 c = coded-number (c .before .loop .v) (omega (arith, power-room _ _ 18
 pub number-spec : {M : Type 1} → statement M
 number-spec =
     tie.close
-    (tie.spec
-    Inv-loop
-    μ-loop
-    loop-holds
-    shared-slice-read-b
-    returns
-    returns-2
-    mul-v
-    cast-v
-    add-v
-    add-i
-    loop-less
-    loop-again
-    returns-3)
+    (tie.spec Inv-loop μ-loop loop-holds (λ c. search needs) returns returns-2 mul-v (λ c. search needs) add-v (λ c. search needs) (λ c. search needs)
+    loop-again returns-3)

@@ -7,25 +7,10 @@ use borrow.Author.Needs.{needs}
 use Rattle.column.proofs.number_at.Statement.{statement}
 use Rattle.column.proofs.number_at.Tie as tie
 
-add-end : tie.Need-add-end
-add-end c = search needs
-
-sub-numeral : tie.Need-sub-numeral
-sub-numeral c = search needs
-
-part-numeral-start : tie.Need-part-numeral-start
-part-numeral-start c = search needs
-
-part-numeral-end : tie.Need-part-numeral-end
-part-numeral-end c = search needs
-
-numeral-requires : tie.Need-numeral-requires
-numeral-requires c κs = search needs
-
 returns : tie.Need-returns
 returns c = let A = c .before .before .before .args in coded-same (ap columnOf (part-of (now (A .s)) (A .from) (A .w))) (c .numeral .ensures)
 
 pub number-at-spec : {M : Type 1} → statement M
 number-at-spec =
     tie.close
-    (tie.spec add-end sub-numeral part-numeral-start part-numeral-end numeral-requires returns)
+    (tie.spec (λ c. search needs) (λ c. search needs) (λ c. search needs) (λ c. search needs) (λ c κs. search needs) returns)

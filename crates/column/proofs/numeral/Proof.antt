@@ -8,23 +8,11 @@ use borrow.Author.Needs.{needs}
 use Rattle.column.proofs.numeral.Statement.{statement}
 use Rattle.column.proofs.numeral.Tie as tie
 
-spaces-requires : tie.Need-spaces-requires
-spaces-requires c κs = search needs
-
 returns : tie.Need-returns
 returns c = coded-none (column-empty (now (c .before .before .before .args .s)) (c .before .spaces .result) (c .before .spaces .ensures .1) (omega arith))
 
-shared-slice-read-if2 : tie.Need-shared-slice-read-if2
-shared-slice-read-if2 c = search needs
-
-add-if3 : tie.Need-add-if3
-add-if3 c = search needs
-
 returns-2 : tie.Need-returns-2
 returns-2 c = coded-none (column-zero _ _ (c .before .before .before .before .spaces .ensures .1) (c .before .if2 .taken) (c .if3 .taken))
-
-number-requires : tie.Need-number-requires
-number-requires c κs = search needs
 
 returns-3 : tie.Need-returns-3
 returns-3 c =
@@ -36,11 +24,4 @@ returns-3 c =
 pub numeral-spec : {M : Type 1} → statement M
 numeral-spec =
     tie.close
-    (tie.spec
-    spaces-requires
-    returns
-    shared-slice-read-if2
-    add-if3
-    returns-2
-    number-requires
-    returns-3)
+    (tie.spec (λ c κs. search needs) returns (λ c. search needs) (λ c. search needs) returns-2 (λ c κs. search needs) returns-3)

@@ -19,28 +19,10 @@ returns-4 c = λ e. absurd (omega (arith, e))
 returns-5 : tie.Need-returns-5
 returns-5 c = λ e. absurd (omega (arith, e))
 
-mul-result : tie.Need-mul-result
-mul-result c = search needs
-
-add-result : tie.Need-add-result
-add-result c = search needs
-
-sub-result : tie.Need-sub-result
-sub-result c = search needs
-
 returns-6 : tie.Need-returns-6
 returns-6 c = λ e. two-digits _ _ (c .before .if4 .left) (c .if5 .left) (c .before .before .before .before .if1 .left) (c .before .before .before .if2 .left)
 
 pub pair-spec : {M : Type 1} → statement M
 pair-spec =
     tie.close
-    (tie.spec
-    returns
-    returns-2
-    returns-3
-    returns-4
-    returns-5
-    mul-result
-    add-result
-    sub-result
-    returns-6)
+    (tie.spec returns returns-2 returns-3 returns-4 returns-5 (λ c. search needs) (λ c. search needs) (λ c. search needs) returns-6)

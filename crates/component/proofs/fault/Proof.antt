@@ -2,16 +2,9 @@
 use mathlib.Core.Path.{sym, _∙_}
 use borrow.Author.Tests.{eq-eqb, ne-eqb, not-true, not-false}
 use borrow.Author.Needs.{needs}
-use Rattle.form.proofs.columns.permission_columns.Reads as permission-columns-reads
 use Rattle.component.specs.Steps.{faultOf}
 use Rattle.component.proofs.fault.Statement.{statement}
 use Rattle.component.proofs.fault.Tie as tie
-use Rattle.component.proofs.fault.Reads as reads
-use Rattle.component.proofs.fault.Lts as lts
-use Rattle.component.proofs.sound.Reads as sound-reads
-
-permission-columns-requires : tie.Need-permission-columns-requires
-permission-columns-requires c κs = search needs
 
 returns : tie.Need-returns
 unfolding faultOf
@@ -20,9 +13,6 @@ returns c = rw (sym (c .before .permission-columns .ensures) ∙ not-true _ (c .
 returns-2 : tie.Need-returns-2
 unfolding faultOf
 returns-2 c = rw (sym (c .before .before .permission-columns .ensures) ∙ not-false _ (c .before .if1 .left), ne-eqb _ _ (c .if2 .taken))
-
-sound-requires : tie.Need-sound-requires
-sound-requires c κs = search needs
 
 returns-3 : tie.Need-returns-3
 unfolding faultOf
@@ -35,4 +25,4 @@ returns-4 c = rw (sym (c .before .before .before .before .permission-columns .en
 pub fault-spec : {M : Type 1} → statement M
 fault-spec =
     tie.close
-    (tie.spec permission-columns-requires returns returns-2 sound-requires returns-3 returns-4)
+    (tie.spec (λ c κs. search needs) returns returns-2 (λ c κs. search needs) returns-3 returns-4)

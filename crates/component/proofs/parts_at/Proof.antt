@@ -9,9 +9,6 @@ use Rattle.component.specs.Steps.{partsAt}
 use Rattle.component.specs.Laws.{parts-start, parts-on, parts-end}
 use Rattle.component.proofs.parts_at.Statement.{statement}
 use Rattle.component.proofs.parts_at.Tie as tie
-use Rattle.component.proofs.parts_at.Reads as reads
-use Rattle.component.proofs.parts_at.Lts as lts
-use Rattle.component.proofs.due_at.Reads as due-at-reads
 
 abbrev Inv-loop : tie.InvT-loop
 Inv-loop p at w schema n refusal reached₀ i₀ reached i = (i ≤ n) × (partsAt w p (schemaOf schema) (reached .refusal) (reached .next) (n - i) ≡ partsAt w p (schemaOf schema) refusal at n)
@@ -22,15 +19,6 @@ abbrev μ-loop : tie.MeasureT-loop
 loop-holds : tie.Need-loop-holds Inv-loop μ-loop
 loop-holds c = let A = c .before .before .args in (search needs, parts-start (A .w) (now (A .p)) (schemaOf (now (A .schema))) (A .refusal) (A .at) (A .n))
 
-due-at-requires : tie.Need-due-at-requires Inv-loop μ-loop
-due-at-requires c κs = search needs
-
-add-i : tie.Need-add-i Inv-loop μ-loop
-add-i c = search needs
-
-loop-less : tie.Need-loop-less Inv-loop μ-loop
-loop-less c = search needs
-
 loop-again : tie.Need-loop-again Inv-loop μ-loop
 loop-again c = let A = c .before .before .before .before .before .args in let R = c .before .before .loop in (omega arith, sym (parts-on (A .w) (now (A .p)) (schemaOf (now (A .schema))) (R .reached .refusal) (R .reached .next) (A .n) (R .i) (c .before .loop-test .taken) (c .due-at .ensures)) ∙ R .inv .1)
 
@@ -40,4 +28,4 @@ returns c = let A = c .before .before .before .before .args in let R = c .before
 pub parts-at-spec : {M : Type 1} → statement M
 parts-at-spec =
     tie.close
-    (tie.spec Inv-loop μ-loop loop-holds due-at-requires add-i loop-less loop-again returns)
+    (tie.spec Inv-loop μ-loop loop-holds (λ c κs. search needs) (λ c. search needs) (λ c. search needs) loop-again returns)

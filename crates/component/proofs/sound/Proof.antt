@@ -3,41 +3,21 @@ use mathlib.Core.Path.{ap, _∙_}
 use borrow.Author.Tests.{eq-eqb, ne-eqb, lt-ltb, le-ltb}
 use borrow.Author.Needs.{needs}
 use Rattle.rules.specs.Name.{allowed}
-use Rattle.sheet.proofs.value_at.Reads as value-at-reads
-use Rattle.name.proofs.allowed.Reads as allowed-reads
-use Rattle.name.proofs.known.Reads as known-reads
 use Rattle.component.specs.Steps.{soundOf}
 use Rattle.component.proofs.sound.Statement.{statement}
 use Rattle.component.proofs.sound.Tie as tie
-use Rattle.component.proofs.sound.Reads as reads
-use Rattle.component.proofs.sound.Lts as lts
 
 returns : tie.Need-returns
 unfolding soundOf
 returns c = rw (eq-eqb _ 7 (c .before .if1 .taken), lt-ltb _ 3 (c .if2 .taken))
 
-value-at-requires : tie.Need-value-at-requires
-value-at-requires c κs = search needs
-
-allowed-requires : tie.Need-allowed-requires
-allowed-requires c κs = search needs
-
 returns-2 : tie.Need-returns-2
 unfolding soundOf
 returns-2 c = rw (eq-eqb _ 7 (c .before .before .before .before .if1 .taken), le-ltb _ 3 (c .before .before .before .if2 .left), eq-eqb _ 5 (c .before .before .if3 .taken)) (c .allowed .ensures ∙ ap (allowed _ _) (c .before .value-at .ensures))
 
-known-requires : tie.Need-known-requires
-known-requires c κs = search needs
-
 returns-3 : tie.Need-returns-3
 unfolding soundOf
 returns-3 c = rw (eq-eqb _ 7 (c .before .before .before .if1 .taken), le-ltb _ 3 (c .before .before .if2 .left), ne-eqb _ 5 (c .before .if3 .left)) (c .known .ensures)
-
-value-at-requires-2 : tie.Need-value-at-requires-2
-value-at-requires-2 c κs = search needs
-
-allowed-requires-2 : tie.Need-allowed-requires-2
-allowed-requires-2 c κs = search needs
 
 returns-4 : tie.Need-returns-4
 unfolding soundOf
@@ -50,14 +30,5 @@ returns-5 c = rw (ne-eqb _ 7 (c .before .if1 .left), ne-eqb _ 9 (c .if4 .left))
 pub sound-spec : {M : Type 1} → statement M
 sound-spec =
     tie.close
-    (tie.spec
-    returns
-    value-at-requires
-    allowed-requires
-    returns-2
-    known-requires
-    returns-3
-    value-at-requires-2
-    allowed-requires-2
-    returns-4
-    returns-5)
+    (tie.spec returns (λ c κs. search needs) (λ c κs. search needs) returns-2 (λ c κs. search needs) returns-3 (λ c κs. search needs)
+    (λ c κs. search needs) returns-4 returns-5)

@@ -26,15 +26,6 @@ abbrev μ-loop : tie.MeasureT-loop
 loop-holds : tie.Need-loop-holds Inv-loop μ-loop
 loop-holds c = ([], none, [], standing-start (c .before .before .pre))
 
-enum-known-front : tie.Need-enum-known-front Inv-loop μ-loop
-enum-known-front c = search needs
-
-ended-requires : tie.Need-ended-requires Inv-loop μ-loop
-ended-requires c κs = search needs
-
-refused-requires : tie.Need-refused-requires Inv-loop μ-loop
-refused-requires c κs = search needs
-
 returns : tie.Need-returns Inv-loop μ-loop
 returns c = subst (λ (r : Notes). Judged (c .before .before .before .before .before .before .args .w) (now (c .before .before .before .before .before .before .args .s)) r (c .before .before .before .loop .held)) (sym (c .refused .ensures ∙ ap (refusedWith (c .before .before .before .loop .notes)) (c .before .ended .ensures))) (standing-ended (c .before .before .before .loop .inv .3) (not-taken _ (c .before .before .match .keys2)))
 
@@ -54,9 +45,6 @@ entry-line-requires : tie.Need-entry-line-requires Inv-loop μ-loop
 entry-line-requires c κs = let st = c .before .before .before .before .before .before .before .loop .inv .3 in
     let f = taken-fits _ (now (c .before .before .before .before .before .before .before .before .before .before .args .s)) (c .before .before .before .before .before .before .before .loop .i) (sym (st .stands) ∙ (c .before .before .before .before .before .front .given .1)) in
     (record { all = c .before .before .before .before .before .before .before .loop .inv .2; ready = st .ready; within = record { key = omega arith; size = f .0; line = f .1 } }, st .counted .most, st .sized .levels)
-
-refused-requires-2 : tie.Need-refused-requires-2 Inv-loop μ-loop
-refused-requires-2 c κs = search needs
 
 returns-2 : tie.Need-returns-2 Inv-loop μ-loop
 returns-2 c = let st = c .before .before .before .before .before .before .before .before .before .before .before .loop .inv .3 in answer-refused _ _ (st .ready .sheet) _ _ _ (ap (λ (r : Notes). r .refusal) (c .refused2 .ensures)) (standing-refused st (c .before .before .before .before .before .before .before .before .before .front .given .1) (c .before .before .before .entry-line .ensures (c .before .before .before .before .before .before .before .before .before .before .before .loop .inv .2) (st .ready)) (c .before .if1 .taken))
@@ -111,9 +99,6 @@ slice-aggregate-values-3 c = let st = c .before .before .before .before .before 
 
 values-requires : tie.Need-values-requires Inv-loop μ-loop
 values-requires c κs = let st = c .before .before .before .before .before .before .before .before .before .before .before .before .before .before .before .loop .inv .3 in record { complete = _; entry = _; all = _; width = c .before .before .before .before .before .before .before .before .before .before .before .before .before .before .before .before .before .before .pre .width; begun = (standing-begun st (c .before .before .before .before .before .before .before .before .before .before .before .before .before .front .given .1) (c .before .before .before .before .before .before .before .entry-line .ensures (c .before .before .before .before .before .before .before .before .before .before .before .before .before .before .before .loop .inv .2) (st .ready)) (c .before .before .before .before .before .if1 .left)) }
-
-refused-requires-3 : tie.Need-refused-requires-3 Inv-loop μ-loop
-refused-requires-3 c κs = search needs
 
 returns-3 : tie.Need-returns-3 Inv-loop μ-loop
 returns-3 c = let st = c .before .before .before .before .before .before .before .before .before .before .before .before .before .before .before .before .before .before .before .before .before .before .loop .inv .3 in answer-refused _ _ (st .ready .sheet) _ _ _ (ap (λ (r : Notes). r .refusal) (c .refused3 .ensures))
@@ -183,54 +168,9 @@ loop-again c = let st = c .before .before .before .before .before .before .befor
 pub entries-spec : {M : Type 1} → statement M
 entries-spec =
     tie.close
-    (tie.spec
-    Inv-loop
-    μ-loop
-    loop-holds
-    enum-known-front
-    ended-requires
-    refused-requires
-    returns
-    slice-aggregate-entry-line
-    slice-aggregate-entry-line-2
-    slice-aggregate-entry-line-3
-    slice-aggregate-entry-line-4
-    entry-line-requires
-    refused-requires-2
-    returns-2
-    mul-marks
-    array-write-marks
-    add-heads
-    mul-heads
-    array-write-heads
-    array-write-slots
-    add-values
-    mul-notes
-    element-copy-out-notes
-    add-values-2
-    slice-aggregate-values
-    slice-aggregate-values-2
-    slice-aggregate-values-3
-    values-requires
-    refused-requires-3
-    returns-3
-    mul-notes-2
-    element-write-notes
-    mul-notes-3
-    element-write-notes-2
-    mul-notes-4
-    element-write-notes-3
-    mul-notes-5
-    element-write-notes-4
-    add-notes
-    mul-notes-6
-    element-write-notes-5
-    add-notes-2
-    mul-depths
-    array-read-depths
-    add-depths
-    add-depths-2
-    mul-depths-2
-    array-write-depths
-    loop-less
-    loop-again)
+    (tie.spec Inv-loop μ-loop loop-holds (λ c. search needs) (λ c κs. search needs) (λ c κs. search needs) returns slice-aggregate-entry-line
+    slice-aggregate-entry-line-2 slice-aggregate-entry-line-3 slice-aggregate-entry-line-4 entry-line-requires (λ c κs. search needs) returns-2
+    mul-marks array-write-marks add-heads mul-heads array-write-heads array-write-slots add-values mul-notes element-copy-out-notes add-values-2
+    slice-aggregate-values slice-aggregate-values-2 slice-aggregate-values-3 values-requires (λ c κs. search needs) returns-3 mul-notes-2
+    element-write-notes mul-notes-3 element-write-notes-2 mul-notes-4 element-write-notes-3 mul-notes-5 element-write-notes-4 add-notes mul-notes-6
+    element-write-notes-5 add-notes-2 mul-depths array-read-depths add-depths add-depths-2 mul-depths-2 array-write-depths loop-less loop-again)

@@ -8,29 +8,11 @@ use borrow.Author.Needs.{needs}
 use Rattle.directory.proofs.judge.Statement.{statement}
 use Rattle.directory.proofs.judge.Tie as tie
 
-blank-requires : tie.Need-blank-requires
-blank-requires c κs = search needs
-
-refused-requires : tie.Need-refused-requires
-refused-requires c κs = search needs
-
 returns : tie.Need-returns
 returns c = answer-long _ _ _ _ (ap (λ (r : Notes). r .refusal) (c .refused .ensures)) (c .before .if1 .taken)
 
-types-requires : tie.Need-types-requires
-types-requires c κs = search needs
-
-refused-requires-2 : tie.Need-refused-requires-2
-refused-requires-2 c κs = search needs
-
 returns-2 : tie.Need-returns-2
 returns-2 c = answer-refused _ _ (c .before .before .before .before .before .if1 .left) _ _ _ (ap (λ (r : Notes). r .refusal) (c .refused2 .ensures)) (c .before .before .before .types .ensures .refused (c .before .if2 .taken))
-
-sub-entries : tie.Need-sub-entries
-sub-entries c = search needs
-
-part-entries-start : tie.Need-part-entries-start
-part-entries-start c = search needs
 
 part-entries-end : tie.Need-part-entries-end
 part-entries-end c = let t = c .before .before .before .types .ensures .stopped (c .before .if2 .left) in omega (arith, t .read .most, t .read .room)
@@ -40,21 +22,8 @@ entries-requires c κs = let t = c .before .before .before .before .before .type
     let e : t .result .count - 0 ≡ t .result .count = omega arith in
     rw e (opened _ _ _ _ (t .result) _ (c .before .before .before .before .before .before .before .if1 .left) (c .before .before .before .before .before .before .before .before .before .before .pre) (c .before .before .before .before .before .before .before .before .blank .ensures) (t .ensures .stopped (c .before .before .before .if2 .left)))
 
-returns-3 : tie.Need-returns-3
-returns-3 c = search needs
-
 pub judge-spec : {M : Type 1} → statement M
 judge-spec =
     tie.close
-    (tie.spec
-    blank-requires
-    refused-requires
-    returns
-    types-requires
-    refused-requires-2
-    returns-2
-    sub-entries
-    part-entries-start
-    part-entries-end
-    entries-requires
-    returns-3)
+    (tie.spec (λ c κs. search needs) (λ c κs. search needs) returns (λ c κs. search needs) (λ c κs. search needs) returns-2 (λ c. search needs)
+    (λ c. search needs) part-entries-end entries-requires (λ c. search needs))

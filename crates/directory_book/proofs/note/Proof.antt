@@ -24,15 +24,6 @@ fit c = record {
   first = search needs;
 }
 
-element-write-book : tie.Need-element-write-book
-element-write-book c = search needs
-
-element-write-book-2 : tie.Need-element-write-book-2
-element-write-book-2 c = search needs
-
-element-write-book-3 : tie.Need-element-write-book-3
-element-write-book-3 c = search needs
-
 put-numbers-requires : tie.Need-put-numbers-requires
 put-numbers-requires c κs = let f = fit (c .before .before .before .before) in omega (arith, f, c .before .before .before .before .pre)
 
@@ -71,15 +62,5 @@ returns c = let A = c .before .before .before .before .before .before .before .b
 pub note-spec : {M : Type 1} → statement M
 note-spec =
     tie.close
-    (tie.spec
-    element-write-book
-    element-write-book-2
-    element-write-book-3
-    put-numbers-requires
-    put-sizes-requires
-    put-sizes-requires-2
-    put-numbers-requires-2
-    put-sizes-requires-3
-    add-put-sizes
-    put-sizes-requires-4
-    returns)
+    (tie.spec (λ c. search needs) (λ c. search needs) (λ c. search needs) put-numbers-requires put-sizes-requires put-sizes-requires-2
+    put-numbers-requires-2 put-sizes-requires-3 add-put-sizes put-sizes-requires-4 returns)

@@ -14,14 +14,7 @@ use Rattle.engine.specs.Laws.Respond.{order-front, cleared}
 use borrow.Author.Needs.{needs}
 use Rattle.engine.proofs.permitted.Statement.{statement}
 use Rattle.engine.proofs.permitted.Tie as tie
-use Rattle.engine.proofs.permitted.Reads as reads
-use Rattle.engine.proofs.permitted.Lts as lts
-use Rattle.access_items.proofs.rank_items.Reads as rank-items-reads
-use Rattle.engine.proofs.respond.requested.Reads as requested-reads
-use Rattle.permissions.proofs.judge.Reads as judge-reads
-use Rattle.reply.proofs.refused.Reads as refused-reads
 use Rattle.request.proofs.judge.Reads as judge-reads′
-use Rattle.tables.proofs.book.schema.Reads as schema-reads
 
 element-copy-out-w : tie.Need-element-copy-out-w
 element-copy-out-w c = let A = c .before .before .before .before .args in let b = now (A .book) in let W = width b in let room = length (now (A .out)) in let X = c .before .before .before .before .pre .0 in let D = c .before .before .before .before .pre .1 in omega (arith, (D .entries (settingOf X [] (record { level = 0; name = [] })) refl) .fits .size)
@@ -32,26 +25,14 @@ schema-requires c κs = let A = c .before .before .before .before .before .befor
 judge-requires : tie.Need-judge-requires
 judge-requires c κs = let A = c .before .before .before .before .before .before .before .args in let b = now (A .book) in let W = width b in let room = length (now (A .out)) in let X = c .before .before .before .before .before .before .before .pre .0 in let D = c .before .before .before .before .before .before .before .pre .1 in (D .entries (settingOf X [] (record { level = 0; name = [] })) refl) .fits .wide
 
-refused-requires : tie.Need-refused-requires
-refused-requires c κs = search needs
-
 returns : tie.Need-returns
 returns c = let A = c .before .before .before .before .before .before .before .before .before .before .before .args in let b = now (A .book) in let W = width b in let room = length (now (A .out)) in let j = c .before .before .before .judge in λ x D. replies-refused (j .result .refusal) _ (now (A .out)) (c .refused .result) (c .refused .ensures) (permissions-refuse W x (now (c .before .before .before .before .schema .result)) ((D .entries (settingOf x [] (record { level = 0; name = [] })) refl) .schema-is ∙ ap schemaOf (sym (c .before .before .before .before .schema .ensures))) (now (A .p)) (now (A .q)) room (j .result) (j .ensures) (c .before .if1 .taken))
-
-slice-aggregate-rank-items : tie.Need-slice-aggregate-rank-items
-slice-aggregate-rank-items c = search needs
-
-slice-aggregate-rank-items-2 : tie.Need-slice-aggregate-rank-items-2
-slice-aggregate-rank-items-2 c = search needs
 
 rank-items-requires : tie.Need-rank-items-requires
 rank-items-requires c κs = let A = c .before .before .before .before .before .before .before .before .before .before .before .before .before .before .args in let b = now (A .book) in let W = width b in let room = length (now (A .out)) in let X = c .before .before .before .before .before .before .before .before .before .before .before .before .before .before .pre .0 in let D = c .before .before .before .before .before .before .before .before .before .before .before .before .before .before .pre .1 in let j = c .before .before .before .before .before .before .judge in let a = j .ensures .accepted (c .before .before .before .before .if1 .left) in let N = j .ensures .noted (a .0) (a .1) in let C = permissions-accept W X (now (c .before .before .before .before .before .before .before .schema .result)) ((D .entries (settingOf X [] (record { level = 0; name = [] })) refl) .schema-is ∙ ap schemaOf (sym (c .before .before .before .before .before .before .before .schema .ensures))) (now (A .p)) (now (A .q)) room (j .result) (j .ensures) (a .0) (a .1) in (search needs, (W, now (A .p), a .0, j .result .scopes, N .table, sym (N .count)))
 
 judge-requires-2 : tie.Need-judge-requires-2
 judge-requires-2 c κs = let A = c .before .before .before .before .before .before .before .before .before .before .before .before .before .before .before .before .args in let b = now (A .book) in let W = width b in let room = length (now (A .out)) in let X = c .before .before .before .before .before .before .before .before .before .before .before .before .before .before .before .before .pre .0 in let D = c .before .before .before .before .before .before .before .before .before .before .before .before .before .before .before .before .pre .1 in (D .entries (settingOf X [] (record { level = 0; name = [] })) refl) .fits .wide
-
-refused-requires-2 : tie.Need-refused-requires-2
-refused-requires-2 c κs = search needs
 
 returns-2 : tie.Need-returns-2
 returns-2 c = let A = c .before .before .before .before .before .before .before .before .before .before .before .before .before .before .before .before .before .before .before .before .args in let b = now (A .book) in let W = width b in let room = length (now (A .out)) in let k = c .before .before .before .judge2 in λ x D. let j = c .before .before .before .before .before .before .before .before .before .before .before .before .judge in let a = j .ensures .accepted (c .before .before .before .before .before .before .before .before .before .before .if1 .left) in let N = j .ensures .noted (a .0) (a .1) in let C = permissions-accept W x (now (c .before .before .before .before .before .before .before .before .before .before .before .before .before .schema .result)) ((D .entries (settingOf x [] (record { level = 0; name = [] })) refl) .schema-is ∙ ap schemaOf (sym (c .before .before .before .before .before .before .before .before .before .before .before .before .before .schema .ensures))) (now (A .p)) (now (A .q)) room (j .result) (j .ensures) (a .0) (a .1) in replies-same C (replies-refused (k .result .refusal) _ (now (A .out)) (c .refused2 .result) (c .refused2 .ensures) (request-refuses W x (a .0) (now (A .q)) room (k .result .refusal) (judged-refused W (now (A .q)) (k .result) (k .ensures) (c .before .if2 .taken))))
@@ -62,23 +43,11 @@ slice-aggregate-requested c = let A = c .before .before .before .before .before 
 slice-aggregate-requested-2 : tie.Need-slice-aggregate-requested-2
 slice-aggregate-requested-2 c = let A = c .before .before .before .before .before .before .before .before .before .before .before .before .before .before .before .before .before .before .before .before .before .before .args in let b = now (A .book) in let W = width b in let room = length (now (A .out)) in let X = c .before .before .before .before .before .before .before .before .before .before .before .before .before .before .before .before .before .before .before .before .before .before .pre .0 in let D = c .before .before .before .before .before .before .before .before .before .before .before .before .before .before .before .before .before .before .before .before .before .before .pre .1 in let j = c .before .before .before .before .before .before .before .before .before .before .before .before .before .before .judge in let a = j .ensures .accepted (c .before .before .before .before .before .before .before .before .before .before .before .before .if1 .left) in let N = j .ensures .noted (a .0) (a .1) in let C = permissions-accept W X (now (c .before .before .before .before .before .before .before .before .before .before .before .before .before .before .before .schema .result)) ((D .entries (settingOf X [] (record { level = 0; name = [] })) refl) .schema-is ∙ ap schemaOf (sym (c .before .before .before .before .before .before .before .before .before .before .before .before .before .before .before .schema .ensures))) (now (A .p)) (now (A .q)) room (j .result) (j .ensures) (a .0) (a .1) in omega (arith, N .table .scopes-length)
 
-sub-requested : tie.Need-sub-requested
-sub-requested c = search needs
-
-part-requested-start : tie.Need-part-requested-start
-part-requested-start c = search needs
-
 part-requested-end : tie.Need-part-requested-end
 part-requested-end c = let A = c .before .before .before .before .before .before .before .before .before .before .before .before .before .before .before .before .before .before .before .before .before .before .before .args in let b = now (A .book) in let W = width b in let room = length (now (A .out)) in let X = c .before .before .before .before .before .before .before .before .before .before .before .before .before .before .before .before .before .before .before .before .before .before .before .pre .0 in let D = c .before .before .before .before .before .before .before .before .before .before .before .before .before .before .before .before .before .before .before .before .before .before .before .pre .1 in let j = c .before .before .before .before .before .before .before .before .before .before .before .before .before .before .before .judge in let a = j .ensures .accepted (c .before .before .before .before .before .before .before .before .before .before .before .before .before .if1 .left) in let N = j .ensures .noted (a .0) (a .1) in let C = permissions-accept W X (now (c .before .before .before .before .before .before .before .before .before .before .before .before .before .before .before .before .schema .result)) ((D .entries (settingOf X [] (record { level = 0; name = [] })) refl) .schema-is ∙ ap schemaOf (sym (c .before .before .before .before .before .before .before .before .before .before .before .before .before .before .before .before .schema .ensures))) (now (A .p)) (now (A .q)) room (j .result) (j .ensures) (a .0) (a .1) in let m : length (c .before .before .before .before .before .before .before .before .rank-items .last .1 .1 .0) ≡ 256 = c .before .before .before .before .before .before .before .before .rank-items .kept .1 .1 .0 ∙ cleared 256 in omega (arith, N .count, N .table .few, m)
 
-slice-aggregate-requested-3 : tie.Need-slice-aggregate-requested-3
-slice-aggregate-requested-3 c = search needs
-
 requested-requires : tie.Need-requested-requires
 requested-requires c κs = let A = c .before .before .before .before .before .before .before .before .before .before .before .before .before .before .before .before .before .before .before .before .before .before .before .before .before .args in let b = now (A .book) in let W = width b in let room = length (now (A .out)) in let X = c .before .before .before .before .before .before .before .before .before .before .before .before .before .before .before .before .before .before .before .before .before .before .before .before .before .pre .0 in let D = c .before .before .before .before .before .before .before .before .before .before .before .before .before .before .before .before .before .before .before .before .before .before .before .before .before .pre .1 in let j = c .before .before .before .before .before .before .before .before .before .before .before .before .before .before .before .before .before .judge in let a = j .ensures .accepted (c .before .before .before .before .before .before .before .before .before .before .before .before .before .before .before .if1 .left) in let N = j .ensures .noted (a .0) (a .1) in let C = permissions-accept W X (now (c .before .before .before .before .before .before .before .before .before .before .before .before .before .before .before .before .before .before .schema .result)) ((D .entries (settingOf X [] (record { level = 0; name = [] })) refl) .schema-is ∙ ap schemaOf (sym (c .before .before .before .before .before .before .before .before .before .before .before .before .before .before .before .before .before .before .schema .ensures))) (now (A .p)) (now (A .q)) room (j .result) (j .ensures) (a .0) (a .1) in let R = judged-accepted W (now (A .q)) (c .before .before .before .before .before .before .before .before .judge2 .result) (c .before .before .before .before .before .before .before .before .judge2 .ensures) (c .before .before .before .before .before .before .if2 .left) in let o = c .before .before .before .before .before .before .before .before .before .before .rank-items .last .1 .1 .0 in let F = order-front (a .0) o _ (c .before .before .before .before .before .before .before .before .before .before .rank-items .ensures .0 W (now (A .p)) (a .0) (j .result .scopes) (N .table) (sym (N .count))) (N .count) (c .before .before .before .before .before .before .before .before .before .before .rank-items .kept .1 .1 .0 ∙ cleared 256) (N .table .few) in let S = sorted-of W (schemaOf (now (c .before .before .before .before .before .before .before .before .before .before .before .before .before .before .before .before .before .before .schema .result))) (now (A .p)) (a .0) (j .result) _ (a .1) N (F .0) (F .1) in (search needs, (X, a .0, R .0, D, S, R .2))
-
-same-length : tie.Need-same-length
-same-length c = search needs
 
 returns-3 : tie.Need-returns-3
 returns-3 c = let A = c .before .before .before .before .before .before .before .before .before .before .before .before .before .before .before .before .before .before .before .before .before .before .before .before .before .before .before .before .before .args in let b = now (A .book) in let W = width b in let room = length (now (A .out)) in λ x D. let j = c .before .before .before .before .before .before .before .before .before .before .before .before .before .before .before .before .before .before .before .before .before .judge in let a = j .ensures .accepted (c .before .before .before .before .before .before .before .before .before .before .before .before .before .before .before .before .before .before .before .if1 .left) in let N = j .ensures .noted (a .0) (a .1) in let C = permissions-accept W x (now (c .before .before .before .before .before .before .before .before .before .before .before .before .before .before .before .before .before .before .before .before .before .before .schema .result)) ((D .entries (settingOf x [] (record { level = 0; name = [] })) refl) .schema-is ∙ ap schemaOf (sym (c .before .before .before .before .before .before .before .before .before .before .before .before .before .before .before .before .before .before .before .before .before .before .schema .ensures))) (now (A .p)) (now (A .q)) room (j .result) (j .ensures) (a .0) (a .1) in let R = judged-accepted W (now (A .q)) (c .before .before .before .before .before .before .before .before .before .before .before .before .judge2 .result) (c .before .before .before .before .before .before .before .before .before .before .before .before .judge2 .ensures) (c .before .before .before .before .before .before .before .before .before .before .if2 .left) in let o = c .before .before .before .before .before .before .before .before .before .before .before .before .before .before .rank-items .last .1 .1 .0 in let F = order-front (a .0) o _ (c .before .before .before .before .before .before .before .before .before .before .before .before .before .before .rank-items .ensures .0 W (now (A .p)) (a .0) (j .result .scopes) (N .table) (sym (N .count))) (N .count) (c .before .before .before .before .before .before .before .before .before .before .before .before .before .before .rank-items .kept .1 .1 .0 ∙ cleared 256) (N .table .few) in let S = sorted-of W (schemaOf (now (c .before .before .before .before .before .before .before .before .before .before .before .before .before .before .before .before .before .before .before .before .before .before .schema .result))) (now (A .p)) (a .0) (j .result) _ (a .1) N (F .0) (F .1) in replies-same (request-accepts W x (a .0) (now (A .q)) room (R .0) (R .1) ∙ C) (c .before .before .before .requested .ensures x (a .0) (R .0) D S (R .2))
@@ -86,24 +55,6 @@ returns-3 c = let A = c .before .before .before .before .before .before .before 
 pub permitted-spec : {M : Type 1} → statement M
 permitted-spec =
     tie.close
-    (tie.spec
-    element-copy-out-w
-    schema-requires
-    judge-requires
-    refused-requires
-    returns
-    slice-aggregate-rank-items
-    slice-aggregate-rank-items-2
-    rank-items-requires
-    judge-requires-2
-    refused-requires-2
-    returns-2
-    slice-aggregate-requested
-    slice-aggregate-requested-2
-    sub-requested
-    part-requested-start
-    part-requested-end
-    slice-aggregate-requested-3
-    requested-requires
-    same-length
-    returns-3)
+    (tie.spec element-copy-out-w schema-requires judge-requires (λ c κs. search needs) returns (λ c. search needs) (λ c. search needs)
+    rank-items-requires judge-requires-2 (λ c κs. search needs) returns-2 slice-aggregate-requested slice-aggregate-requested-2 (λ c. search needs)
+    (λ c. search needs) part-requested-end (λ c. search needs) requested-requires (λ c. search needs) returns-3)

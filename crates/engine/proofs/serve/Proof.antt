@@ -9,18 +9,6 @@ use Rattle.engine.specs.Laws.Respond.{directory-at, width-is, cleared}
 use borrow.Author.Needs.{needs}
 use Rattle.engine.proofs.serve.Statement.{statement}
 use Rattle.engine.proofs.serve.Tie as tie
-use Rattle.engine.proofs.serve.Reads as reads
-use Rattle.engine.proofs.serve.Lts as lts
-use Rattle.directory.proofs.judge.Reads as judge-reads
-use Rattle.directory_book.proofs.note.Reads as note-reads
-use Rattle.engine.proofs.permitted.Reads as permitted-reads
-use Rattle.reply.proofs.refused.Reads as refused-reads
-
-judge-requires : tie.Need-judge-requires
-judge-requires c κs = search needs
-
-refused-requires : tie.Need-refused-requires
-refused-requires c κs = search needs
 
 returns : tie.Need-returns
 returns c = let A = c .before .before .before .before .before .before .before .before .before .args in let d = now (A .d) in let room = length (now (A .out)) in let j = c .before .before .before .judge in replies-refused (j .result .refusal) _ (now (A .out)) (c .refused .result) (c .refused .ensures) (directory-refuses (A .w) d (now (A .p)) (now (A .q)) room (j .result .refusal) (directory-refused (A .w) d (j .result) (j .ensures) (c .before .if1 .taken)))
@@ -31,20 +19,10 @@ note-requires c κs = let A = c .before .before .before .before .before .before 
 permitted-requires : tie.Need-permitted-requires
 permitted-requires c κs = let A = c .before .before .before .before .before .before .before .before .before .before .before .before .before .args in let d = now (A .d) in let room = length (now (A .out)) in let j = c .before .before .before .before .before .before .before .judge in let N = directory-accepted (A .w) d (j .result) (j .ensures) (c .before .before .before .before .before .if1 .left) in let h = j .last .1 .1 .0 in let bk = c .before .before .before .note .last .1 .1 .0 in let at = directory-at (A .w) d (N .0) (j .result) h _ bk (N .1) (N .2) (cleared 1353) (c .before .before .before .note .ensures .0) (c .before .before .before .note .ensures .1) in let wi = width-is (A .w) d (N .0) (j .result) h _ bk (N .1) (N .2) (cleared 1353) (c .before .before .before .note .ensures .0) in (N .0, at)
 
-same-length : tie.Need-same-length
-same-length c = search needs
-
 returns-2 : tie.Need-returns-2
 returns-2 c = let A = c .before .before .before .before .before .before .before .before .before .before .before .before .before .before .before .before .args in let d = now (A .d) in let room = length (now (A .out)) in let j = c .before .before .before .before .before .before .before .before .before .before .judge in let N = directory-accepted (A .w) d (j .result) (j .ensures) (c .before .before .before .before .before .before .before .before .if1 .left) in let h = j .last .1 .1 .0 in let bk = c .before .before .before .before .before .before .note .last .1 .1 .0 in let at = directory-at (A .w) d (N .0) (j .result) h _ bk (N .1) (N .2) (cleared 1353) (c .before .before .before .before .before .before .note .ensures .0) (c .before .before .before .before .before .before .note .ensures .1) in let wi = width-is (A .w) d (N .0) (j .result) h _ bk (N .1) (N .2) (cleared 1353) (c .before .before .before .before .before .before .note .ensures .0) in replies-same (ap (λ (m : ℕ). fromPermissions m (N .0) (now (A .p)) (now (A .q)) room) wi ∙ directory-accepts (A .w) d (now (A .p)) (now (A .q)) room (N .0) (N .1)) (c .before .before .permitted .ensures (N .0) at)
 
 pub serve-spec : {M : Type 1} → statement M
 serve-spec =
     tie.close
-    (tie.spec
-    judge-requires
-    refused-requires
-    returns
-    note-requires
-    permitted-requires
-    same-length
-    returns-2)
+    (tie.spec (λ c κs. search needs) (λ c κs. search needs) returns note-requires permitted-requires (λ c. search needs) returns-2)

@@ -28,12 +28,6 @@ column-c c = ⊎-elim (λ w. coded-by (w .2) (w .1 .ensures)) (λ w. coded-brief
 column-n : (c : tie.Joined9) → Coded (columnOf (take 6 (drop 24 (now (c .before .before .before .before .before .before .before .before .before .before .before .before .before .before .before .args .s))))) (c .if9 .n)
 column-n c = ⊎-elim (λ w. coded-by (w .2) (w .1 .ensures)) (λ w. coded-brief _ _ (w .1) (w .0 .left) (c .before .brief5 .ensures)) (c .if9 .came)
 
-brief-requires : tie.Need-brief-requires
-brief-requires c κs = search needs
-
-number-at-requires : tie.Need-number-at-requires
-number-at-requires c κs = search needs
-
 returns : tie.Need-returns
 unfolding whole
 returns c =
@@ -41,12 +35,6 @@ returns c =
     let s = now (j0 .before .before .before .args .s) in
     let long : 30 ≤ length s = j0 .before .before .before .pre in
     sym (front-by 6 s (λ z. omega arith) (omega arith) (column-kind j0 .malformed (c .if2 .taken)) refl refl refl refl)
-
-brief-requires-2 : tie.Need-brief-requires-2
-brief-requires-2 c κs = search needs
-
-number-at-requires-2 : tie.Need-number-at-requires-2
-number-at-requires-2 c κs = search needs
 
 returns-2 : tie.Need-returns-2
 unfolding whole
@@ -57,12 +45,6 @@ returns-2 c =
     let long : 30 ≤ length s = j0 .before .before .before .pre in
     sym (front-by 6 s (λ z. omega arith) (omega arith) (column-kind j0 .number (j1 .before .before .if2 .left)) (column-a j1 .malformed (c .if4 .taken)) refl refl refl)
 
-brief-requires-3 : tie.Need-brief-requires-3
-brief-requires-3 c κs = search needs
-
-number-at-requires-3 : tie.Need-number-at-requires-3
-number-at-requires-3 c κs = search needs
-
 returns-3 : tie.Need-returns-3
 unfolding whole
 returns-3 c =
@@ -72,12 +54,6 @@ returns-3 c =
     let s = now (j0 .before .before .before .args .s) in
     let long : 30 ≤ length s = j0 .before .before .before .pre in
     sym (front-by 6 s (λ z. omega arith) (omega arith) (column-kind j0 .number (j1 .before .before .if2 .left)) (column-a j1 .number (j2 .before .before .if4 .left)) (column-b j2 .malformed (c .if6 .taken)) refl refl)
-
-brief-requires-4 : tie.Need-brief-requires-4
-brief-requires-4 c κs = search needs
-
-number-at-requires-4 : tie.Need-number-at-requires-4
-number-at-requires-4 c κs = search needs
 
 returns-4 : tie.Need-returns-4
 unfolding whole
@@ -90,12 +66,6 @@ returns-4 c =
     let long : 30 ≤ length s = j0 .before .before .before .pre in
     sym (front-by 6 s (λ z. omega arith) (omega arith) (column-kind j0 .number (j1 .before .before .if2 .left)) (column-a j1 .number (j2 .before .before .if4 .left)) (column-b j2 .number (j3 .before .before .if6 .left)) (column-c j3 .malformed (c .if8 .taken)) refl)
 
-brief-requires-5 : tie.Need-brief-requires-5
-brief-requires-5 c κs = search needs
-
-number-at-requires-5 : tie.Need-number-at-requires-5
-number-at-requires-5 c κs = search needs
-
 returns-5 : tie.Need-returns-5
 unfolding whole
 returns-5 c =
@@ -107,9 +77,6 @@ returns-5 c =
     let s = now (j0 .before .before .before .args .s) in
     let long : 30 ≤ length s = j0 .before .before .before .pre in
     sym (front-by 6 s (λ z. omega arith) (omega arith) (column-kind j0 .number (j1 .before .before .if2 .left)) (column-a j1 .number (j2 .before .before .if4 .left)) (column-b j2 .number (j3 .before .before .if6 .left)) (column-c j3 .number (j4 .before .before .if8 .left)) (column-n j4 .malformed (c .if10 .taken)))
-
-framed-requires : tie.Need-framed-requires
-framed-requires c κs = search needs
 
 returns-6 : tie.Need-returns-6
 returns-6 c =
@@ -126,21 +93,6 @@ returns-6 c =
 pub brief-front-spec : {M : Type 1} → statement M
 brief-front-spec =
     tie.close
-    (tie.spec
-    brief-requires
-    number-at-requires
-    returns
-    brief-requires-2
-    number-at-requires-2
-    returns-2
-    brief-requires-3
-    number-at-requires-3
-    returns-3
-    brief-requires-4
-    number-at-requires-4
-    returns-4
-    brief-requires-5
-    number-at-requires-5
-    returns-5
-    framed-requires
-    returns-6)
+    (tie.spec (λ c κs. search needs) (λ c κs. search needs) returns (λ c κs. search needs) (λ c κs. search needs) returns-2 (λ c κs. search needs)
+    (λ c κs. search needs) returns-3 (λ c κs. search needs) (λ c κs. search needs) returns-4 (λ c κs. search needs) (λ c κs. search needs) returns-5
+    (λ c κs. search needs) returns-6)

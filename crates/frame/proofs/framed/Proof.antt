@@ -9,18 +9,9 @@ returns : tie.Need-returns
 unfolding whole
 returns c = rw (lt-leb _ _ (c .if1 .taken))
 
-mul-end : tie.Need-mul-end
-mul-end c = search needs
-
-add-end : tie.Need-add-end
-add-end c = search needs
-
 returns-2 : tie.Need-returns-2
 unfolding whole
 returns-2 c = rw (le-leb _ _ (c .before .if1 .left), le-ltb _ _ (c .if2 .taken))
-
-shared-slice-read-if3 : tie.Need-shared-slice-read-if3
-shared-slice-read-if3 c = search needs
 
 returns-3 : tie.Need-returns-3
 unfolding whole
@@ -33,4 +24,4 @@ returns-4 c = rw (le-leb _ _ (c .before .before .before .if1 .left), lt-ltb _ _ 
 pub framed-spec : {M : Type 1} → statement M
 framed-spec =
     tie.close
-    (tie.spec returns mul-end add-end returns-2 shared-slice-read-if3 returns-3 returns-4)
+    (tie.spec returns (λ c. search needs) (λ c. search needs) returns-2 (λ c. search needs) returns-3 returns-4)

@@ -31,7 +31,6 @@ filter-at-Inv-loop q at w depth left count next left' pos₀ room₀ n₀ pos ro
 abbrev filter-at-μ-loop : filter-at-lts.MeasureT-loop
 filter-at-μ-loop q at w depth left count next left' pos₀ room₀ n₀ pos room n = n
 
--- src/lib.rt:197:9
 filter-at-too-deep-requires : (t : ℕ) → filter-at-lts.Need-too-deep-requires (
   too-deep-reads.Asked,
   too-deep-reads.Learnt,
@@ -42,7 +41,6 @@ filter-at-too-deep-requires : (t : ℕ) → filter-at-lts.Need-too-deep-requires
 ) (filter-at-at t) filter-at.Post filter-at-Inv-loop filter-at-μ-loop
 filter-at-too-deep-requires t c κs = search needs
 
--- src/lib.rt:197:9
 filter-at-returns : (t : ℕ) → filter-at-lts.Need-returns (
   too-deep-reads.Asked,
   too-deep-reads.Learnt,
@@ -53,7 +51,6 @@ filter-at-returns : (t : ℕ) → filter-at-lts.Need-returns (
 ) (filter-at-at t) filter-at.Post filter-at-Inv-loop filter-at-μ-loop
 filter-at-returns t c = let A = c .before .before .before .args in c .too-deep .ensures ∙ sym (filter-none (A .w) (now (A .q)) (A .at) (A .left) (A .depth) (c .before .if1 .taken))
 
--- src/lib.rt:199:11
 filter-at-node-at-requires : (t : ℕ) → filter-at-lts.Need-node-at-requires (
   too-deep-reads.Asked,
   too-deep-reads.Learnt,
@@ -64,7 +61,6 @@ filter-at-node-at-requires : (t : ℕ) → filter-at-lts.Need-node-at-requires (
 ) (filter-at-at t) filter-at.Post filter-at-Inv-loop filter-at-μ-loop
 filter-at-node-at-requires t c κs = search needs
 
--- src/lib.rt:200:23
 filter-at-enum-known-number : (t : ℕ) → filter-at-lts.Need-enum-known-number (
   too-deep-reads.Asked,
   too-deep-reads.Learnt,
@@ -75,7 +71,6 @@ filter-at-enum-known-number : (t : ℕ) → filter-at-lts.Need-enum-known-number
 ) (filter-at-at t) filter-at.Post filter-at-Inv-loop filter-at-μ-loop
 filter-at-enum-known-number t c = search needs
 
--- src/lib.rt:201:22
 filter-at-enum-known-next : (t : ℕ) → filter-at-lts.Need-enum-known-next (
   too-deep-reads.Asked,
   too-deep-reads.Learnt,
@@ -86,7 +81,6 @@ filter-at-enum-known-next : (t : ℕ) → filter-at-lts.Need-enum-known-next (
 ) (filter-at-at t) filter-at.Post filter-at-Inv-loop filter-at-μ-loop
 filter-at-enum-known-next t c = search needs
 
--- src/lib.rt:202:26
 filter-at-enum-known-count : (t : ℕ) → filter-at-lts.Need-enum-known-count (
   too-deep-reads.Asked,
   too-deep-reads.Learnt,
@@ -97,7 +91,6 @@ filter-at-enum-known-count : (t : ℕ) → filter-at-lts.Need-enum-known-count (
 ) (filter-at-at t) filter-at.Post filter-at-Inv-loop filter-at-μ-loop
 filter-at-enum-known-count t c = search needs
 
--- src/lib.rt:206:13
 filter-at-loop-holds : (t : ℕ) → filter-at-lts.Need-loop-holds (
   too-deep-reads.Asked,
   too-deep-reads.Learnt,
@@ -108,7 +101,6 @@ filter-at-loop-holds : (t : ℕ) → filter-at-lts.Need-loop-holds (
 ) (filter-at-at t) filter-at.Post filter-at-Inv-loop filter-at-μ-loop
 filter-at-loop-holds t c = let A = c .before .before .before .before .before .before .args in sym (filter-node (A .w) (now (A .q)) (A .at) (A .left) (A .depth) (c .before .before .before .before .if1 .left) _ (sym (c .before .before .before .node-at .ensures) ∙ c .before .count .given .1))
 
--- src/lib.rt:207:44
 filter-at-sub-filter-at : (t : ℕ) → filter-at-lts.Need-sub-filter-at (
   too-deep-reads.Asked,
   too-deep-reads.Learnt,
@@ -119,7 +111,6 @@ filter-at-sub-filter-at : (t : ℕ) → filter-at-lts.Need-sub-filter-at (
 ) (filter-at-at t) filter-at.Post filter-at-Inv-loop filter-at-μ-loop
 filter-at-sub-filter-at t c = search needs
 
--- src/lib.rt:207:23
 filter-at-filter-at-requires : (t : ℕ) → filter-at-lts.Need-filter-at-requires (
   too-deep-reads.Asked,
   too-deep-reads.Learnt,
@@ -130,7 +121,6 @@ filter-at-filter-at-requires : (t : ℕ) → filter-at-lts.Need-filter-at-requir
 ) (filter-at-at t) filter-at.Post filter-at-Inv-loop filter-at-μ-loop
 filter-at-filter-at-requires t c κs = search needs
 
--- src/lib.rt:208:34
 filter-at-enum-known-next-2 : (t : ℕ) → filter-at-lts.Need-enum-known-next-2 (
   too-deep-reads.Asked,
   too-deep-reads.Learnt,
@@ -141,7 +131,6 @@ filter-at-enum-known-next-2 : (t : ℕ) → filter-at-lts.Need-enum-known-next-2
 ) (filter-at-at t) filter-at.Post filter-at-Inv-loop filter-at-μ-loop
 filter-at-enum-known-next-2 t c = search needs
 
--- src/lib.rt:212:35
 filter-at-enum-known-number-2 : (t : ℕ) → filter-at-lts.Need-enum-known-number-2 (
   too-deep-reads.Asked,
   too-deep-reads.Learnt,
@@ -152,7 +141,6 @@ filter-at-enum-known-number-2 : (t : ℕ) → filter-at-lts.Need-enum-known-numb
 ) (filter-at-at t) filter-at.Post filter-at-Inv-loop filter-at-μ-loop
 filter-at-enum-known-number-2 t c = search needs
 
--- src/lib.rt:213:25
 filter-at-returns-2 : (t : ℕ) → filter-at-lts.Need-returns-2 (
   too-deep-reads.Asked,
   too-deep-reads.Learnt,
@@ -163,7 +151,6 @@ filter-at-returns-2 : (t : ℕ) → filter-at-lts.Need-returns-2 (
 ) (filter-at-at t) filter-at.Post filter-at-Inv-loop filter-at-μ-loop
 filter-at-returns-2 t c = let A = c .before .before .before .before .before .before .before .before .before .before .before .before .args in let L = c .before .before .before .before .before .loop in sym (parts-stop (filterAt (A .w) (now (A .q)) (A .depth - 1)) (L .pos) (L .room) (L .n) (c .before .before .before .before .loop-test .taken) (sym (c .before .before .before .filter-at .ensures) ∙ c .before .number2 .given .1)) ∙ L .inv
 
--- src/lib.rt:216:17
 filter-at-sub-n : (t : ℕ) → filter-at-lts.Need-sub-n (
   too-deep-reads.Asked,
   too-deep-reads.Learnt,
@@ -174,7 +161,6 @@ filter-at-sub-n : (t : ℕ) → filter-at-lts.Need-sub-n (
 ) (filter-at-at t) filter-at.Post filter-at-Inv-loop filter-at-μ-loop
 filter-at-sub-n t c = search needs
 
--- src/lib.rt:206:13
 filter-at-loop-less : (t : ℕ) → filter-at-lts.Need-loop-less (
   too-deep-reads.Asked,
   too-deep-reads.Learnt,
@@ -185,7 +171,6 @@ filter-at-loop-less : (t : ℕ) → filter-at-lts.Need-loop-less (
 ) (filter-at-at t) filter-at.Post filter-at-Inv-loop filter-at-μ-loop
 filter-at-loop-less t c = search needs
 
--- src/lib.rt:206:13
 filter-at-loop-again : (t : ℕ) → filter-at-lts.Need-loop-again (
   too-deep-reads.Asked,
   too-deep-reads.Learnt,
@@ -196,7 +181,6 @@ filter-at-loop-again : (t : ℕ) → filter-at-lts.Need-loop-again (
 ) (filter-at-at t) filter-at.Post filter-at-Inv-loop filter-at-μ-loop
 filter-at-loop-again t c = let A = c .before .before .before .before .before .before .before .before .before .before .before .before .args in let L = c .before .before .before .before .before .loop in sym (parts-on (filterAt (A .w) (now (A .q)) (A .depth - 1)) (L .pos) (L .room) (L .n) (c .before .before .before .before .loop-test .taken) (sym (c .before .before .before .filter-at .ensures) ∙ c .before .next2 .given .1)) ∙ L .inv
 
--- src/lib.rt:192:1
 filter-at-returns-3 : (t : ℕ) → filter-at-lts.Need-returns-3 (
   too-deep-reads.Asked,
   too-deep-reads.Learnt,
@@ -207,7 +191,6 @@ filter-at-returns-3 : (t : ℕ) → filter-at-lts.Need-returns-3 (
 ) (filter-at-at t) filter-at.Post filter-at-Inv-loop filter-at-μ-loop
 filter-at-returns-3 t c = let A = c .before .before .before .before .before .before .args in sym (filter-node (A .w) (now (A .q)) (A .at) (A .left) (A .depth) (c .before .before .before .before .if1 .left) _ (sym (c .before .before .before .node-at .ensures) ∙ c .before .number .given .1))
 
--- src/lib.rt:192:1
 filter-at-returns-4 : (t : ℕ) → filter-at-lts.Need-returns-4 (
   too-deep-reads.Asked,
   too-deep-reads.Learnt,
@@ -218,7 +201,6 @@ filter-at-returns-4 : (t : ℕ) → filter-at-lts.Need-returns-4 (
 ) (filter-at-at t) filter-at.Post filter-at-Inv-loop filter-at-μ-loop
 filter-at-returns-4 t c = let A = c .before .before .before .before .before .before .args in sym (filter-node (A .w) (now (A .q)) (A .at) (A .left) (A .depth) (c .before .before .before .before .if1 .left) _ (sym (c .before .before .before .node-at .ensures) ∙ c .before .next .given .1))
 
--- src/lib.rt:192:1
 filter-at-returns-5 : (t : ℕ) → filter-at-lts.Need-returns-5 (
   too-deep-reads.Asked,
   too-deep-reads.Learnt,

@@ -4,60 +4,39 @@ use borrow.Author.Tests.{eq-eqb, ne-eqb}
 use borrow.Author.Needs.{needs}
 use Rattle.grammar.proofs.node_of.Statement.{statement}
 use Rattle.grammar.proofs.node_of.Tie as tie
-use Rattle.grammar.proofs.node_of.Reads as reads
-use Rattle.grammar.proofs.node_of.Lts as lts
-use Rattle.grammar.proofs.item_of.Reads as item-of-reads
-use Rattle.piece.proofs.pieces_at.Reads as pieces-at-reads
 
--- src/lib.rt:145:23
-pieces-at-requires : tie.Need-pieces-at-requires
-pieces-at-requires c κs = search needs
-
--- src/lib.rt:145:15
-item-of-requires : tie.Need-item-of-requires
-item-of-requires c κs = search needs
-
--- src/lib.rt:121:1
 returns : tie.Need-returns
 unfolding nodeOf
 returns c = rw (c .match .keys1)
 
--- src/lib.rt:121:1
 returns-2 : tie.Need-returns-2
 unfolding nodeOf
 returns-2 c = rw (c .match .keys2)
 
--- src/lib.rt:121:1
 returns-3 : tie.Need-returns-3
 unfolding nodeOf
 returns-3 c = rw (c .match .keys3)
 
--- src/lib.rt:121:1
 returns-4 : tie.Need-returns-4
 unfolding nodeOf
 returns-4 c = rw (c .match .keys4)
 
--- src/lib.rt:121:1
 returns-5 : tie.Need-returns-5
 unfolding nodeOf
 returns-5 c = rw (c .match .keys5)
 
--- src/lib.rt:121:1
 returns-6 : tie.Need-returns-6
 unfolding nodeOf
 returns-6 c = rw (c .match .keys6)
 
--- src/lib.rt:121:1
 returns-7 : tie.Need-returns-7
 unfolding nodeOf
 returns-7 c = rw (c .match .keys7)
 
--- src/lib.rt:121:1
 returns-8 : tie.Need-returns-8
 unfolding nodeOf
 returns-8 c = rw (c .before .before .match .keys8, ← c .before .pieces-at .ensures) (c .item-of .ensures)
 
--- src/lib.rt:121:1
 returns-9 : tie.Need-returns-9
 unfolding nodeOf
 returns-9 c = rw (ne-eqb _ 20 (c .match .rest .0 .0 .0 .0 .0 .0 .0 .1), ne-eqb _ 21 (c .match .rest .0 .0 .0 .0 .0 .0 .1), ne-eqb _ 22 (c .match .rest .0 .0 .0 .0 .0 .1), ne-eqb _ 23 (c .match .rest .0 .0 .0 .0 .1), ne-eqb _ 24 (c .match .rest .0 .0 .0 .1), ne-eqb _ 25 (c .match .rest .0 .0 .1), ne-eqb _ 26 (c .match .rest .0 .1), ne-eqb _ 27 (c .match .rest .1))
@@ -65,15 +44,4 @@ returns-9 c = rw (ne-eqb _ 20 (c .match .rest .0 .0 .0 .0 .0 .0 .0 .1), ne-eqb _
 pub node-of-spec : {M : Type 1} → statement M
 node-of-spec =
     tie.close
-    (tie.spec
-    pieces-at-requires
-    item-of-requires
-    returns
-    returns-2
-    returns-3
-    returns-4
-    returns-5
-    returns-6
-    returns-7
-    returns-8
-    returns-9)
+    (tie.spec (λ c κs. search needs) (λ c κs. search needs) returns returns-2 returns-3 returns-4 returns-5 returns-6 returns-7 returns-8 returns-9)

@@ -10,58 +10,28 @@ use denote.Ref.{now}
 use borrow.Author.Needs.{needs}
 use Rattle.hierarchy.proofs.entry_line.Statement.{statement}
 use Rattle.hierarchy.proofs.entry_line.Tie as tie
-use Rattle.hierarchy.proofs.entry_line.Reads as reads
-use Rattle.hierarchy.proofs.entry_line.Lts as lts
-use Rattle.hierarchy.proofs.misplaced.Reads as misplaced-reads
-use Rattle.ruling.proofs.refusing.Reads as refusing-reads
-use Rattle.ruling.proofs.ruled.Reads as ruled-reads
-use Rattle.schema.proofs.rank.Reads as rank-reads
-use Rattle.form.proofs.columns.directory_columns.Reads as directory-columns-reads
 
--- src/lib.rt:92:9
-directory-columns-requires : tie.Need-directory-columns-requires
-directory-columns-requires c κs = search needs
-
--- src/lib.rt:93:9
-refusing-requires : tie.Need-refusing-requires
-refusing-requires c κs = search needs
-
--- src/lib.rt:93:9
 returns : tie.Need-returns
 unfolding entryRuling
 returns c = λ ms ready. rw (sym (c .before .before .directory-columns .ensures) ∙ not-true _ (c .before .if1 .taken)) (c .refusing .ensures)
 
--- src/lib.rt:96:9
-refusing-requires-2 : tie.Need-refusing-requires-2
-refusing-requires-2 c κs = search needs
-
--- src/lib.rt:96:9
 returns-2 : tie.Need-returns-2
 unfolding entryRuling
 returns-2 c = λ ms ready. rw (sym (c .before .before .before .directory-columns .ensures) ∙ not-false _ (c .before .before .if1 .left), ne-eqb _ _ (c .before .if2 .taken)) (c .refusing2 .ensures)
 
--- src/lib.rt:98:9
 misplaced-requires : tie.Need-misplaced-requires
 misplaced-requires c κs = (c .before .before .before .before .before .before .before .before .before .pre .1, c .before .before .before .before .before .before .before .before .before .pre .2)
 
--- src/lib.rt:100:9
-refusing-requires-3 : tie.Need-refusing-requires-3
-refusing-requires-3 c κs = search needs
-
--- src/lib.rt:100:9
 returns-3 : tie.Need-returns-3
 unfolding entryRuling
 returns-3 c = λ ms ready. rw (sym (c .before .before .before .before .before .directory-columns .ensures) ∙ not-false _ (c .before .before .before .before .if1 .left), eq-eqb _ _ (c .before .before .before .if2 .left), ← c .before .before .misplaced .ensures, ne-eqb _ _ (c .before .if3 .taken)) (c .refusing3 .ensures)
 
--- src/lib.rt:102:25
 rank-requires : tie.Need-rank-requires
 rank-requires c κs = omega arith
 
--- src/lib.rt:102:5
 ruled-requires : tie.Need-ruled-requires
 ruled-requires c κs = (c .before .before .before .before .before .before .before .before .before .before .before .before .pre .0, c .rank .ensures, omega (arith, place-low (now (c .before .before .before .before .before .before .before .before .before .before .before .before .args .depths)) (c .before .before .before .before .before .before .before .before .before .before .before .before .args .count) (c .before .before .before .before .before .before .before .before .before .before .before .before .args .lacks) (c .before .before .before .before .before .before .before .before .before .before .before .before .args .a) (sym (c .before .before .misplaced .ensures) ∙ c .before .if3 .left), c .before .before .before .before .before .before .before .before .before .before .before .before .pre .1))
 
--- src/lib.rt:88:1
 returns-4 : tie.Need-returns-4
 unfolding entryRuling
 returns-4 c = λ ms ready. rw (sym (c .before .before .before .before .before .before .directory-columns .ensures) ∙ not-false _ (c .before .before .before .before .before .if1 .left), eq-eqb _ _ (c .before .before .before .before .if2 .left), ← c .before .before .before .misplaced .ensures, eq-eqb _ _ (c .before .before .if3 .left)) (c .ruled .ensures ms ready)
@@ -69,15 +39,5 @@ returns-4 c = λ ms ready. rw (sym (c .before .before .before .before .before .b
 pub entry-line-spec : {M : Type 1} → statement M
 entry-line-spec =
     tie.close
-    (tie.spec
-    directory-columns-requires
-    refusing-requires
-    returns
-    refusing-requires-2
-    returns-2
-    misplaced-requires
-    refusing-requires-3
-    returns-3
-    rank-requires
-    ruled-requires
-    returns-4)
+    (tie.spec (λ c κs. search needs) (λ c κs. search needs) returns (λ c κs. search needs) returns-2 misplaced-requires (λ c κs. search needs) returns-3
+    rank-requires ruled-requires returns-4)

@@ -6,41 +6,31 @@ use mathlib.Core.Path.{_≡_, refl, sym, ap, ap₂, _∙_}
 use native.Mathlib.Omega.{arith}
 use Prim.Native.Nat.{ℕ, _+_, _*_, _/_, _%_, _-_, _≤_, _<_}
 use denote.Ref.{now}
-use borrow.Author.Needs.{needs}
 use Rattle.hierarchy.proofs.misplaced.Statement.{statement}
 use Rattle.hierarchy.proofs.misplaced.Tie as tie
-use Rattle.hierarchy.proofs.misplaced.Reads as reads
-use Rattle.hierarchy.proofs.misplaced.Lts as lts
 
--- src/lib.rt:72:9
 returns : tie.Need-returns
 unfolding placeRefusal
 returns c = rw (lt-ltb _ _ (c .if1 .taken))
 
--- src/lib.rt:75:9
 returns-2 : tie.Need-returns-2
 unfolding placeRefusal
 returns-2 c = rw (le-ltb _ _ (c .before .if1 .left), c .if2 .taken)
 
--- src/lib.rt:78:9
 returns-3 : tie.Need-returns-3
 unfolding placeRefusal
 returns-3 c = rw (le-ltb _ _ (c .before .before .if1 .left), c .before .if2 .left, le-leb _ _ (c .if3 .taken))
 
--- src/lib.rt:81:13
 mul-if4 : tie.Need-mul-if4
 mul-if4 c = omega (arith, c .before .before .if1 .left, c .before .before .before .pre .0)
 
--- src/lib.rt:81:13
 shared-slice-read-if4 : tie.Need-shared-slice-read-if4
 shared-slice-read-if4 c = omega (arith, c .before .before .before .if1 .left, c .before .before .before .before .pre .0, c .before .before .before .before .pre .1)
 
--- src/lib.rt:82:9
 returns-4 : tie.Need-returns-4
 unfolding placeRefusal
 returns-4 c = rw (le-ltb _ _ (c .before .before .before .before .if1 .left), c .before .before .before .if2 .left, lt-leb _ _ (c .before .before .if3 .left), le-leb _ _ (c .if4 .taken))
 
--- src/lib.rt:67:1
 returns-5 : tie.Need-returns-5
 unfolding placeRefusal
 returns-5 c = rw (le-ltb _ _ (c .before .before .before .before .if1 .left), c .before .before .before .if2 .left, lt-leb _ _ (c .before .before .if3 .left), lt-leb _ _ (c .if4 .left))

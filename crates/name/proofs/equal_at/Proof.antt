@@ -9,43 +9,19 @@ use Prim.Native.Nat.{ℕ, _+_, _-_, _*_, _≤_, _<_}
 use borrow.Author.Needs.{needs}
 use Rattle.name.proofs.equal_at.Statement.{statement}
 use Rattle.name.proofs.equal_at.Tie as tie
-use Rattle.name.proofs.equal_at.Reads as reads
-use Rattle.name.proofs.equal_at.Lts as lts
-use Rattle.name.proofs.equal.Reads as equal-reads
-use Rattle.sheet.proofs.value_at.Reads as value-at-reads
 
--- src/entries.rt:21:9
 returns : tie.Need-returns
 returns c = let a = c .before .before .before .before .args in
     sym (equal-beyond (schemaOf (now (a .schema))) (a .w) (now (a .d)) (a .at) (a .len) (a .t) (now (a .v)) (omega (arith, c .if1 .taken)))
 
--- src/entries.rt:23:16
-sub-room : tie.Need-sub-room
-sub-room c = search needs
-
--- src/entries.rt:24:16
-mul-from : tie.Need-mul-from
-mul-from c = search needs
-
--- src/entries.rt:26:9
 returns-2 : tie.Need-returns-2
 returns-2 c = let a = c .before .before .before .before .before .args in
     sym (equal-beyond (schemaOf (now (a .schema))) (a .w) (now (a .d)) (a .at) (a .len) (a .t) (now (a .v)) (omega (arith, c .if2 .taken, c .before .if1 .left)))
 
--- src/entries.rt:29:9
 returns-3 : tie.Need-returns-3
 returns-3 c = let a = c .before .before .before .before .before .before .args in
     sym (equal-beyond (schemaOf (now (a .schema))) (a .w) (now (a .d)) (a .at) (a .len) (a .t) (now (a .v)) (omega (arith, c .if3 .taken, c .before .if2 .left, c .before .before .if1 .left)))
 
--- src/entries.rt:31:31
-value-at-requires : tie.Need-value-at-requires
-value-at-requires c κs = search needs
-
--- src/entries.rt:31:5
-equal-requires : tie.Need-equal-requires
-equal-requires c κs = search needs
-
--- src/entries.rt:16:1
 returns-4 : tie.Need-returns-4
 returns-4 c = let a = c .before .before .before .before .before .before .before .before .args in
     c .equal .ensures
@@ -55,12 +31,4 @@ returns-4 c = let a = c .before .before .before .before .before .before .before 
 pub equal-at-spec : {M : Type 1} → statement M
 equal-at-spec =
     tie.close
-    (tie.spec
-    returns
-    sub-room
-    mul-from
-    returns-2
-    returns-3
-    value-at-requires
-    equal-requires
-    returns-4)
+    (tie.spec returns (λ c. search needs) (λ c. search needs) returns-2 returns-3 (λ c κs. search needs) (λ c κs. search needs) returns-4)

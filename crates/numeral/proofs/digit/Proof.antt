@@ -5,9 +5,6 @@ use borrow.Author.Needs.{needs}
 use Rattle.numeral.proofs.digit.Statement.{statement}
 use Rattle.numeral.proofs.digit.Tie as tie
 
-cast-result : tie.Need-cast-result
-cast-result c = search needs
-
 returns : tie.Need-returns
 unfolding digit
 returns c = simp (le-leb _ _ (c .before .if1 .taken), le-leb _ _ (c .if2 .taken))
@@ -21,4 +18,4 @@ unfolding digit
 returns-3 c = simp (lt-leb _ _ (c .if1 .left))
 
 pub digit-spec : {M : Type 1} → statement M
-digit-spec = tie.close (tie.spec cast-result returns returns-2 returns-3)
+digit-spec = tie.close (tie.spec (λ c. search needs) returns returns-2 returns-3)

@@ -12,26 +12,11 @@ returns c =
     let A = c .before .before .args in
     sym (integer-none (now (A .v)) (c .if1 .taken))
 
-shared-slice-read-if2 : tie.Need-shared-slice-read-if2
-shared-slice-read-if2 c = search needs
-
-number-requires : tie.Need-number-requires
-number-requires c κs = search needs
-
-negative-requires : tie.Need-negative-requires
-negative-requires c κs = search needs
-
 returns-2 : tie.Need-returns-2
 returns-2 c =
     let A = c .before .before .before .before .before .before .args in
     c .negative .ensures ∙ ap negative (c .before .number .ensures) ∙ negative-bounded _
     ∙ sym (integer-minus (now (A .v)) (c .before .before .before .before .if1 .left) (c .before .before .if2 .taken))
-
-number-requires-2 : tie.Need-number-requires-2
-number-requires-2 c κs = search needs
-
-positive-requires : tie.Need-positive-requires
-positive-requires c κs = search needs
 
 returns-3 : tie.Need-returns-3
 returns-3 c =
@@ -42,12 +27,5 @@ returns-3 c =
 pub integer-spec : {M : Type 1} → statement M
 integer-spec =
     tie.close
-    (tie.spec
-    returns
-    shared-slice-read-if2
-    number-requires
-    negative-requires
-    returns-2
-    number-requires-2
-    positive-requires
+    (tie.spec returns (λ c. search needs) (λ c κs. search needs) (λ c κs. search needs) returns-2 (λ c κs. search needs) (λ c κs. search needs)
     returns-3)

@@ -9,16 +9,10 @@ use borrow.Author.Needs.{needs}
 use Rattle.numeral.proofs.negative.Statement.{statement}
 use Rattle.numeral.proofs.negative.Tie as tie
 
-enum-known-c : tie.Need-enum-known-c
-enum-known-c c = search needs
-
 returns : tie.Need-returns
 returns c =
     let M = c .before .before .c .given in
     rw (M .1, eq-eqb _ _ (c .if1 .taken))
-
-cast-t5 : tie.Need-cast-t5
-cast-t5 c = search needs
 
 sub-t6 : tie.Need-sub-t6
 sub-t6 c =
@@ -38,9 +32,6 @@ returns-3 c =
     let M = c .before .before .before .before .c .given in
     rw (M .1, c .if3 .taken)
 
-enum-told : tie.Need-enum-told
-enum-told c = search needs
-
 returns-4 : tie.Need-returns-4
 returns-4 c =
     let M = c .before .before .before .before .c .given in
@@ -52,13 +43,4 @@ returns-5 c = sym (ap negative (c .enum-told .given .1))
 pub negative-spec : {M : Type 1} → statement M
 negative-spec =
     tie.close
-    (tie.spec
-    enum-known-c
-    returns
-    cast-t5
-    sub-t6
-    returns-2
-    returns-3
-    enum-told
-    returns-4
-    returns-5)
+    (tie.spec (λ c. search needs) returns (λ c. search needs) sub-t6 returns-2 returns-3 (λ c. search needs) returns-4 returns-5)

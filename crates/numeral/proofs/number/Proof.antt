@@ -8,9 +8,6 @@ use borrow.Author.Needs.{needs}
 use Rattle.numeral.proofs.number.Statement.{statement}
 use Rattle.numeral.proofs.number.Tie as tie
 
-sub-n : tie.Need-sub-n
-sub-n c = search needs
-
 returns : tie.Need-returns
 returns c =
     let A = c .before .before .args in
@@ -21,16 +18,10 @@ returns-2 c =
     let A = c .before .before .before .args in
     sym (bounded-long (now (A .s)) (A .from) (c .if2 .taken))
 
-shared-slice-read-if4 : tie.Need-shared-slice-read-if4
-shared-slice-read-if4 c = search needs
-
 returns-3 : tie.Need-returns-3
 returns-3 c =
     let A = c .before .before .before .before .before .before .args in
     sym (bounded-zero (now (A .s)) (A .from) (c .before .before .before .if2 .left) (c .before .before .if3 .taken) (c .if4 .taken))
-
-digits-requires : tie.Need-digits-requires
-digits-requires c κs = search needs
 
 returns-4 : tie.Need-returns-4
 returns-4 c =
@@ -42,4 +33,4 @@ returns-4 c =
 pub number-spec : {M : Type 1} → statement M
 number-spec =
     tie.close
-    (tie.spec sub-n returns returns-2 shared-slice-read-if4 returns-3 digits-requires returns-4)
+    (tie.spec (λ c. search needs) returns returns-2 (λ c. search needs) returns-3 (λ c κs. search needs) returns-4)

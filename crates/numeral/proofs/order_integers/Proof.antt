@@ -6,24 +6,6 @@ use borrow.Author.Needs.{needs}
 use Rattle.numeral.proofs.order_integers.Statement.{statement}
 use Rattle.numeral.proofs.order_integers.Tie as tie
 
-enum-known-x : tie.Need-enum-known-x
-enum-known-x c = search needs
-
-enum-told : tie.Need-enum-told
-enum-told c = search needs
-
-returns : tie.Need-returns
-returns c = search needs
-
-enum-known-y : tie.Need-enum-known-y
-enum-known-y c = search needs
-
-enum-told-2 : tie.Need-enum-told-2
-enum-told-2 c = search needs
-
-returns-2 : tie.Need-returns-2
-returns-2 c = search needs
-
 returns-3 : tie.Need-returns-3
 returns-3 c =
     let X = c .before .before .before .before .before .x .given in
@@ -51,13 +33,5 @@ returns-5 c =
 pub order-integers-spec : {M : Type 1} → statement M
 order-integers-spec =
     tie.close
-    (tie.spec
-    enum-known-x
-    enum-told
-    returns
-    enum-known-y
-    enum-told-2
-    returns-2
-    returns-3
-    returns-4
-    returns-5)
+    (tie.spec (λ c. search needs) (λ c. search needs) (λ c. search needs) (λ c. search needs) (λ c. search needs) (λ c. search needs) returns-3
+    returns-4 returns-5)

@@ -10,20 +10,11 @@ use borrow.Author.Needs.{needs}
 use Rattle.numeral.proofs.positive.Statement.{statement}
 use Rattle.numeral.proofs.positive.Tie as tie
 
-enum-known-c : tie.Need-enum-known-c
-enum-known-c c = search needs
-
-cast-t5 : tie.Need-cast-t5
-cast-t5 c = search needs
-
 returns : tie.Need-returns
 returns c =
     let M = c .before .before .c .given in
     let h : M .0 .0 < 9223372036854775808 = omega (arith, c .if1 .taken) in
     rw (M .1, toZ-pos w64 h, lt-ltb _ _ h)
-
-enum-told : tie.Need-enum-told
-enum-told c = search needs
 
 returns-2 : tie.Need-returns-2
 returns-2 c =
@@ -34,4 +25,4 @@ returns-3 : tie.Need-returns-3
 returns-3 c = sym (ap positive (c .enum-told .given .1))
 
 pub positive-spec : {M : Type 1} → statement M
-positive-spec = tie.close (tie.spec enum-known-c cast-t5 returns enum-told returns-2 returns-3)
+positive-spec = tie.close (tie.spec (λ c. search needs) (λ c. search needs) returns (λ c. search needs) returns-2 returns-3)

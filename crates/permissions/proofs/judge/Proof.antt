@@ -8,12 +8,6 @@ use Rattle.rules.specs.Places.{schemaOf}
 use Rattle.permissions.specs.Reading.{Reading, Ahead, reading-start, reading-lengths, reading-on, item-small, item-value, item-less, judged-long, judged-over, judged-item, judged-end}
 use Rattle.permissions.proofs.judge.Statement.{statement}
 use Rattle.permissions.proofs.judge.Tie as tie
-use Rattle.permissions.proofs.judge.Reads as reads
-use Rattle.permissions.proofs.judge.Lts as lts
-use Rattle.item.proofs.item_at.Reads as item-at-reads
-use Rattle.component.proofs.surplus_at.Reads as surplus-at-reads
-use Rattle.permissions.proofs.refused.Reads as refused-reads
-use Rattle.permissions.proofs.row.note.Reads as note-reads
 
 abbrev Inv-loop : tie.InvT-loop
 Inv-loop p w schema rights₀ scopes₀ count₀ at₀ rights scopes count at = Reading w p (schemaOf schema) count at rights scopes
@@ -26,29 +20,14 @@ ahead : (c : tie.After-item-at Inv-loop μ-loop) → let A = c .before .before .
     Ahead (A .w) (now (A .p)) (schemaOf (now (A .schema))) (L .count) (L .at) (c .item-at .result)
 ahead c = record { inside = c .before .before .loop-test .taken; room = c .before .if2 .left; is = c .item-at .ensures }
 
-refused-requires : tie.Need-refused-requires Inv-loop μ-loop
-refused-requires c κs = search needs
-
 returns : tie.Need-returns Inv-loop μ-loop
 returns c = let A = c .before .before .before .before .args in rw (c .refused .ensures) (judged-long (A .w) (now (A .p)) (now (A .schema)) (c .before .if1 .taken))
 
 loop-holds : tie.Need-loop-holds Inv-loop μ-loop
 loop-holds c = let A = c .before .before .before .args in reading-start (A .w) (now (A .p)) (schemaOf (now (A .schema)))
 
-surplus-at-requires : tie.Need-surplus-at-requires Inv-loop μ-loop
-surplus-at-requires c κs = search needs
-
-refused-requires-2 : tie.Need-refused-requires-2 Inv-loop μ-loop
-refused-requires-2 c κs = search needs
-
 returns-2 : tie.Need-returns-2 Inv-loop μ-loop
 returns-2 c = let A = c .before .before .before .before .before .before .before .before .args in let L = c .before .before .before .before .loop in rw (c .refused2 .ensures) (judged-over (A .w) (now (A .p)) (now (A .schema)) (c .before .before .before .before .before .if1 .left) (L .inv) (c .before .before .before .loop-test .taken) (c .before .before .if2 .taken) (c .before .surplus-at .ensures))
-
-item-at-requires : tie.Need-item-at-requires Inv-loop μ-loop
-item-at-requires c κs = search needs
-
-refused-requires-3 : tie.Need-refused-requires-3 Inv-loop μ-loop
-refused-requires-3 c κs = search needs
 
 returns-3 : tie.Need-returns-3 Inv-loop μ-loop
 returns-3 c = let A = c .before .before .before .before .before .before .before .before .before .before .args in let L = c .before .before .before .before .before .before .loop in rw (c .refused3 .ensures) (judged-item (A .w) (now (A .p)) (now (A .schema)) (c .before .before .before .before .before .before .before .if1 .left) (L .inv) (ahead (c .before .before .before)) (c .before .if3 .taken))
@@ -62,9 +41,6 @@ slice-aggregate-note-2 c = sym (reading-lengths (c .before .before .before .befo
 note-requires : tie.Need-note-requires Inv-loop μ-loop
 note-requires c κs = let s = c .before .before .before .before .before .before .before .loop .inv in let n = ahead (c .before .before .before .before) in let h = reading-lengths s in let z = c .before .before .if3 .left in (n .room, h .0, h .1, item-small s n z, item-value s n z)
 
-add-count : tie.Need-add-count Inv-loop μ-loop
-add-count c = search needs
-
 loop-less : tie.Need-loop-less Inv-loop μ-loop
 loop-less c = item-less (c .before .before .before .before .before .before .before .before .before .before .loop .inv) (ahead (c .before .before .before .before .before .before .before)) (c .before .before .before .before .before .if3 .left)
 
@@ -77,22 +53,5 @@ returns-4 c = let A = c .before .before .before .before .before .args in judged-
 pub judge-spec : {M : Type 1} → statement M
 judge-spec =
     tie.close
-    (tie.spec
-    Inv-loop
-    μ-loop
-    refused-requires
-    returns
-    loop-holds
-    surplus-at-requires
-    refused-requires-2
-    returns-2
-    item-at-requires
-    refused-requires-3
-    returns-3
-    slice-aggregate-note
-    slice-aggregate-note-2
-    note-requires
-    add-count
-    loop-less
-    loop-again
-    returns-4)
+    (tie.spec Inv-loop μ-loop (λ c κs. search needs) returns loop-holds (λ c κs. search needs) (λ c κs. search needs) returns-2 (λ c κs. search needs)
+    (λ c κs. search needs) returns-3 slice-aggregate-note slice-aggregate-note-2 note-requires (λ c. search needs) loop-less loop-again returns-4)

@@ -1,21 +1,15 @@
 -- By the place of the piece.
 use native.Mathlib.Omega.{arith}
 use borrow.Author.Tests.{eq-eqb, ne-eqb}
-use borrow.Author.Needs.{needs}
 use Rattle.piece.proofs.in_place.Statement.{statement}
 use Rattle.piece.proofs.in_place.Tie as tie
-use Rattle.piece.proofs.in_place.Reads as reads
-use Rattle.piece.proofs.in_place.Lts as lts
 
--- src/lib.rt:26:1
 returns : tie.Need-returns
 returns c = rw (eq-eqb (c .before .args .a) 0 (c .match .keys1))
 
--- src/lib.rt:26:1
 returns-2 : tie.Need-returns-2
 returns-2 c = rw (ne-eqb (c .before .args .a) 0 (omega (arith, c .match .keys2)), eq-eqb (c .before .args .a) 2 (c .match .keys2))
 
--- src/lib.rt:26:1
 returns-3 : tie.Need-returns-3
 returns-3 c = rw (ne-eqb (c .before .args .a) 0 (c .match .rest .0 .1), ne-eqb (c .before .args .a) 2 (c .match .rest .1))
 

@@ -4,25 +4,15 @@ use borrow.Author.Tests.{eq-eqb, ne-eqb}
 use borrow.Author.Needs.{needs}
 use Rattle.piece.proofs.piece_of.Statement.{statement}
 use Rattle.piece.proofs.piece_of.Tie as tie
-use Rattle.piece.proofs.piece_of.Reads as reads
-use Rattle.piece.proofs.piece_of.Lts as lts
-use Rattle.piece.proofs.in_place.Reads as in-place-reads
 
--- src/lib.rt:41:9
 returns : tie.Need-returns
 returns c = rw (ne-eqb _ 28 (c .if1 .taken))
 
--- src/lib.rt:43:8
-in-place-requires : tie.Need-in-place-requires
-in-place-requires c κs = search needs
-
--- src/lib.rt:37:1
 returns-2 : tie.Need-returns-2
 returns-2 c = rw (eq-eqb _ 28 (c .before .before .if1 .left), sym (c .before .in-place .ensures) ∙ c .if2 .taken)
 
--- src/lib.rt:37:1
 returns-3 : tie.Need-returns-3
 returns-3 c = rw (eq-eqb _ 28 (c .before .before .if1 .left), sym (c .before .in-place .ensures) ∙ c .if2 .left)
 
 pub piece-of-spec : {M : Type 1} → statement M
-piece-of-spec = tie.close (tie.spec returns in-place-requires returns-2 returns-3)
+piece-of-spec = tie.close (tie.spec returns (λ c κs. search needs) returns-2 returns-3)

@@ -7,9 +7,6 @@ use mathlib.Core.Path.{_≡_, refl, sym, _∙_}
 use borrow.Author.Needs.{needs}
 use Rattle.piece.proofs.pieces_at.Statement.{statement}
 use Rattle.piece.proofs.pieces_at.Tie as tie
-use Rattle.piece.proofs.pieces_at.Reads as reads
-use Rattle.piece.proofs.pieces_at.Lts as lts
-use Rattle.piece.proofs.piece_at.Reads as piece-at-reads
 
 abbrev Inv-loop : tie.InvT-loop
 Inv-loop q at w count left pos₀ room₀ first₀ n₀ pos room first n = piecesAt w q first n pos room ≡ piecesAt w q true count at left
@@ -17,59 +14,20 @@ Inv-loop q at w count left pos₀ room₀ first₀ n₀ pos room first n = piece
 abbrev μ-loop : tie.MeasureT-loop
 μ-loop q at w count left pos₀ room₀ first₀ n₀ pos room first n = n
 
--- src/lib.rt:91:5
 loop-holds : tie.Need-loop-holds Inv-loop μ-loop
 loop-holds c = refl
 
--- src/lib.rt:92:42
-sub-piece-at : tie.Need-sub-piece-at Inv-loop μ-loop
-sub-piece-at c = search needs
-
--- src/lib.rt:92:15
-piece-at-requires : tie.Need-piece-at-requires Inv-loop μ-loop
-piece-at-requires c κs = search needs
-
--- src/lib.rt:93:26
-enum-known-next : tie.Need-enum-known-next Inv-loop μ-loop
-enum-known-next c = search needs
-
--- src/lib.rt:97:27
-enum-known-number : tie.Need-enum-known-number Inv-loop μ-loop
-enum-known-number c = search needs
-
--- src/lib.rt:98:17
 returns : tie.Need-returns Inv-loop μ-loop
 returns c = let A = c .before .before .before .before .before .before .before .args in let L = c .before .before .before .before .before .loop in sym (pieces-stop (A .w) (now (A .q)) (L .first) (L .pos) (L .room) (L .n) (c .before .before .before .before .loop-test .taken) (sym (c .before .before .before .piece-at .ensures) ∙ c .before .number .given .1)) ∙ L .inv
 
--- src/lib.rt:102:9
-sub-n : tie.Need-sub-n Inv-loop μ-loop
-sub-n c = search needs
-
--- src/lib.rt:91:5
-loop-less : tie.Need-loop-less Inv-loop μ-loop
-loop-less c = search needs
-
--- src/lib.rt:91:5
 loop-again : tie.Need-loop-again Inv-loop μ-loop
 loop-again c = let A = c .before .before .before .before .before .before .before .args in let L = c .before .before .before .before .before .loop in sym (pieces-on (A .w) (now (A .q)) (L .first) (L .pos) (L .room) (L .n) (c .before .before .before .before .loop-test .taken) (sym (c .before .before .before .piece-at .ensures) ∙ c .before .next .given .1)) ∙ L .inv
 
--- src/lib.rt:83:1
 returns-2 : tie.Need-returns-2 Inv-loop μ-loop
 returns-2 c = let A = c .before .before .before .args in let L = c .before .loop in sym (pieces-none (A .w) (now (A .q)) (L .first) (L .pos) (L .room) (L .n) (c .loop-test .left)) ∙ L .inv
 
 pub pieces-at-spec : {M : Type 1} → statement M
 pieces-at-spec =
     tie.close
-    (tie.spec
-    Inv-loop
-    μ-loop
-    loop-holds
-    sub-piece-at
-    piece-at-requires
-    enum-known-next
-    enum-known-number
-    returns
-    sub-n
-    loop-less
-    loop-again
+    (tie.spec Inv-loop μ-loop loop-holds (λ c. search needs) (λ c κs. search needs) (λ c. search needs) (λ c. search needs) returns (λ c. search needs) (λ c. search needs) loop-again
     returns-2)

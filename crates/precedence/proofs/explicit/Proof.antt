@@ -3,8 +3,6 @@ use borrow.Author.Tests.{eq-eqb, ne-eqb}
 use Rattle.precedence.specs.Weight.{explicitOf}
 use Rattle.precedence.proofs.explicit.Statement.{statement}
 use Rattle.precedence.proofs.explicit.Tie as tie
-use Rattle.precedence.proofs.explicit.Reads as reads
-use Rattle.precedence.proofs.explicit.Lts as lts
 
 returns : tie.Need-returns
 unfolding explicitOf

@@ -3,8 +3,6 @@ use borrow.Author.Tests.{le-leb, lt-leb}
 use Rattle.precedence.specs.Weight.{rankOf}
 use Rattle.precedence.proofs.rank.Statement.{statement}
 use Rattle.precedence.proofs.rank.Tie as tie
-use Rattle.precedence.proofs.rank.Reads as reads
-use Rattle.precedence.proofs.rank.Lts as lts
 
 returns : tie.Need-returns
 unfolding rankOf

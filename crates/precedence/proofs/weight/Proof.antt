@@ -5,25 +5,12 @@ use Rattle.precedence.specs.Weight.{weightOf}
 use Rattle.precedence.specs.Laws.{rank-small, explicit-small}
 use Rattle.precedence.proofs.weight.Statement.{statement}
 use Rattle.precedence.proofs.weight.Tie as tie
-use Rattle.precedence.proofs.weight.Reads as reads
-use Rattle.precedence.proofs.weight.Lts as lts
-use Rattle.precedence.proofs.explicit.Reads as explicit-reads
-use Rattle.precedence.proofs.rank.Reads as rank-reads
-
-mul-result : tie.Need-mul-result
-mul-result c = search needs
-
-rank-requires : tie.Need-rank-requires
-rank-requires c κs = search needs
 
 add-result : tie.Need-add-result
 add-result c = omega (arith, c .rank .ensures, rank-small (c .before .args .who))
 
 mul-result-2 : tie.Need-mul-result-2
 mul-result-2 c = omega (arith, c .rank .ensures, rank-small (c .before .args .who))
-
-explicit-requires : tie.Need-explicit-requires
-explicit-requires c κs = search needs
 
 add-result-2 : tie.Need-add-result-2
 add-result-2 c = omega (arith, c .before .rank .ensures, c .explicit .ensures, rank-small (c .before .before .args .who), explicit-small (c .before .before .args .what))
@@ -35,11 +22,4 @@ returns c = rw (c .before .rank .ensures, c .explicit .ensures)
 pub weight-spec : {M : Type 1} → statement M
 weight-spec =
     tie.close
-    (tie.spec
-    mul-result
-    rank-requires
-    add-result
-    mul-result-2
-    explicit-requires
-    add-result-2
-    returns)
+    (tie.spec (λ c. search needs) (λ c κs. search needs) add-result mul-result-2 (λ c κs. search needs) add-result-2 returns)

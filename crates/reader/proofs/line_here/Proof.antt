@@ -8,18 +8,6 @@ use borrow.Author.Needs.{needs}
 use Rattle.reader.proofs.line_here.Statement.{statement}
 use Rattle.reader.proofs.line_here.Tie as tie
 
-sub-front : tie.Need-sub-front
-sub-front c = search needs
-
-part-front-start : tie.Need-part-front-start
-part-front-start c = search needs
-
-part-front-end : tie.Need-part-front-end
-part-front-end c = search needs
-
-front-requires : tie.Need-front-requires
-front-requires c κs = search needs
-
 returns : tie.Need-returns
 returns c = let A = c .before .before .before .before .args in c .front .ensures ∙ ap (frontOf (A .w)) (part-rest (now (A .s)) (A .at))
 
@@ -28,4 +16,4 @@ returns-2 c = let A = c .before .before .args in sym (front-past (A .w) (now (A 
 
 pub line-here-spec : {M : Type 1} → statement M
 line-here-spec =
-    tie.close (tie.spec sub-front part-front-start part-front-end front-requires returns returns-2)
+    tie.close (tie.spec (λ c. search needs) (λ c. search needs) (λ c. search needs) (λ c κs. search needs) returns returns-2)

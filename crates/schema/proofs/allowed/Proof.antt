@@ -7,34 +7,22 @@ use denote.Ref.{now}
 use borrow.Author.Needs.{needs}
 use Rattle.schema.proofs.allowed.Statement.{statement}
 use Rattle.schema.proofs.allowed.Tie as tie
-use Rattle.schema.proofs.allowed.Reads as reads
-use Rattle.schema.proofs.allowed.Lts as lts
-use Rattle.value.proofs.fits.Reads as fits-reads
 
--- src/lib.rt:41:9
 returns : tie.Need-returns
 returns c = sym (allowed-past′ (now (c .before .before .before .args .schema)) (c .before .before .before .pre .1) (c .before .before .before .args .t) (now (c .before .before .before .args .v)) (c .before .before .before .args .rank) (c .before .before .before .pre .0) (c .if1 .taken))
 
--- src/lib.rt:43:13
 mul-k : tie.Need-mul-k
 mul-k c = omega (arith, c .before .before .before .pre .0, rank-most (now (c .before .before .before .args .schema)) (c .before .before .before .args .t))
 
--- src/lib.rt:43:13
 shared-slice-read-k : tie.Need-shared-slice-read-k
 shared-slice-read-k c = omega (arith, c .before .before .before .before .pre .0, rank-most (now (c .before .before .before .before .args .schema)) (c .before .before .before .before .args .t))
 
--- src/lib.rt:45:9
 returns-2 : tie.Need-returns-2
 returns-2 c = sym (allowed-other′ (now (c .before .before .before .before .before .args .schema)) (c .before .before .before .before .before .pre .1) (c .before .before .before .before .before .args .t) (now (c .before .before .before .before .before .args .v)) (c .before .before .before .before .before .args .rank) (c .before .before .before .before .before .pre .0) (c .before .before .if1 .left) (c .if2 .taken))
 
--- src/lib.rt:47:5
-fits-requires : tie.Need-fits-requires
-fits-requires c κs = search needs
-
--- src/lib.rt:36:1
 returns-3 : tie.Need-returns-3
 returns-3 c = c .fits2 .ensures ∙ sym (allowed-fits′ (now (c .before .before .before .before .before .before .args .schema)) (c .before .before .before .before .before .before .pre .1) (c .before .before .before .before .before .before .args .t) (now (c .before .before .before .before .before .before .args .v)) (c .before .before .before .before .before .before .args .rank) (c .before .before .before .before .before .before .pre .0) (c .before .before .before .if1 .left) (c .before .if2 .left))
 
 pub allowed-spec : {M : Type 1} → statement M
 allowed-spec =
-    tie.close (tie.spec returns mul-k shared-slice-read-k returns-2 fits-requires returns-3)
+    tie.close (tie.spec returns mul-k shared-slice-read-k returns-2 (λ c κs. search needs) returns-3)

@@ -8,8 +8,6 @@ use Prim.Native.Nat.{_+_, _-_, _≤_}
 use borrow.Author.Needs.{needs}
 use Rattle.schema.proofs.rank.Statement.{statement}
 use Rattle.schema.proofs.rank.Tie as tie
-use Rattle.schema.proofs.rank.Reads as reads
-use Rattle.schema.proofs.rank.Lts as lts
 
 abbrev Inv-loop : tie.InvT-loop
 Inv-loop schema from t i₀ i = (i ≤ length schema) × (i + rankOf (drop i schema) t ≡ rankOf schema t)
@@ -17,49 +15,19 @@ Inv-loop schema from t i₀ i = (i ≤ length schema) × (i + rankOf (drop i sch
 abbrev μ-loop : tie.MeasureT-loop
 μ-loop schema from t i₀ i = length schema - i
 
--- src/lib.rt:26:5
 loop-holds : tie.Need-loop-holds Inv-loop μ-loop
 loop-holds c = (omega (arith, c .pre, rank-most (now (c .args .schema)) (c .args .t)), rank-from (now (c .args .schema)) (c .args .t) (c .args .from) (c .pre))
 
--- src/lib.rt:27:17
-mul-if1 : tie.Need-mul-if1 Inv-loop μ-loop
-mul-if1 c = search needs
-
--- src/lib.rt:27:17
-shared-slice-read-if1 : tie.Need-shared-slice-read-if1 Inv-loop μ-loop
-shared-slice-read-if1 c = search needs
-
--- src/lib.rt:28:13
 returns : tie.Need-returns Inv-loop μ-loop
 returns c = omega (arith, c .before .before .before .loop .inv .1, rank-stop (now (c .before .before .before .before .args .schema)) (c .before .before .before .before .args .t) (c .before .before .before .loop .i) (c .before .before .loop-test .taken) (c .if1 .taken))
 
--- src/lib.rt:30:9
-add-i : tie.Need-add-i Inv-loop μ-loop
-add-i c = search needs
-
--- src/lib.rt:26:5
-loop-less : tie.Need-loop-less Inv-loop μ-loop
-loop-less c = search needs
-
--- src/lib.rt:26:5
 loop-again : tie.Need-loop-again Inv-loop μ-loop
 loop-again c = (search needs, omega (arith, c .before .before .before .loop .inv .1, rank-on (now (c .before .before .before .before .args .schema)) (c .before .before .before .before .args .t) (c .before .before .before .loop .i) (c .before .before .loop-test .taken) (c .if1 .left)))
 
--- src/lib.rt:21:1
 returns-2 : tie.Need-returns-2 Inv-loop μ-loop
 returns-2 c = omega (arith, c .before .loop .inv .1, rank-end (now (c .before .before .args .schema)) (c .before .before .args .t) (c .before .loop .i) (c .loop-test .left))
 
 pub rank-spec : {M : Type 1} → statement M
 rank-spec =
     tie.close
-    (tie.spec
-    Inv-loop
-    μ-loop
-    loop-holds
-    mul-if1
-    shared-slice-read-if1
-    returns
-    add-i
-    loop-less
-    loop-again
-    returns-2)
+    (tie.spec Inv-loop μ-loop loop-holds (λ c. search needs) (λ c. search needs) returns (λ c. search needs) (λ c. search needs) loop-again returns-2)

@@ -21,22 +21,10 @@ returns c =
     let A = c .before .before .before .args in
     sym (any-empty (now (A .p)) _ (c .if1 .taken))
 
-sub-if2 : tie.Need-sub-if2 Inv-loop μ-loop
-sub-if2 c = search needs
-
 returns-2 : tie.Need-returns-2 Inv-loop μ-loop
 returns-2 c =
     let A = c .before .before .before .before .args in
     sym (any-short (now (A .v)) (now (A .p)) (A .from) 0 (c .if2 .taken))
-
-shared-slice-read-small : tie.Need-shared-slice-read-small Inv-loop μ-loop
-shared-slice-read-small c = search needs
-
-small-requires : tie.Need-small-requires Inv-loop μ-loop
-small-requires c κs = search needs
-
-seek-requires : tie.Need-seek-requires Inv-loop μ-loop
-seek-requires c κs = search needs
 
 loop-holds : tie.Need-loop-holds Inv-loop μ-loop
 loop-holds c =
@@ -48,29 +36,11 @@ loop-holds c =
       any-first (now (A .v)) (now (A .p)) (B .result) (omega arith) (B .ensures) (A .from) (S .result) (S .ensures),
     )
 
-sub-loop : tie.Need-sub-loop Inv-loop μ-loop
-sub-loop c = search needs
-
-stands-requires : tie.Need-stands-requires Inv-loop μ-loop
-stands-requires c κs = search needs
-
-sub-used : tie.Need-sub-used Inv-loop μ-loop
-sub-used c = search needs
-
-add-used : tie.Need-add-used Inv-loop μ-loop
-add-used c = search needs
-
 returns-3 : tie.Need-returns-3 Inv-loop μ-loop
 returns-3 c =
     let A = c .before .before .before .before .before .before .before .before .before .before .before .args in
     let L = c .before .before .before .loop in
     sym (any-found (now (A .v)) (now (A .p)) (L .i) (L .i - A .from) (sym (c .before .stands .ensures) ∙ c .if3 .taken)) ∙ L .inv .2
-
-add-seek : tie.Need-add-seek Inv-loop μ-loop
-add-seek c = search needs
-
-seek-requires-2 : tie.Need-seek-requires-2 Inv-loop μ-loop
-seek-requires-2 c κs = search needs
 
 loop-less : tie.Need-loop-less Inv-loop μ-loop
 loop-less c = omega (arith, c .seek2 .ensures)
@@ -95,23 +65,6 @@ returns-4 c =
 pub any-spec : {M : Type 1} → statement M
 any-spec =
     tie.close
-    (tie.spec
-    Inv-loop
-    μ-loop
-    returns
-    sub-if2
-    returns-2
-    shared-slice-read-small
-    small-requires
-    seek-requires
-    loop-holds
-    sub-loop
-    stands-requires
-    sub-used
-    add-used
-    returns-3
-    add-seek
-    seek-requires-2
-    loop-less
-    loop-again
-    returns-4)
+    (tie.spec Inv-loop μ-loop returns (λ c. search needs) returns-2 (λ c. search needs) (λ c κs. search needs) (λ c κs. search needs) loop-holds
+    (λ c. search needs) (λ c κs. search needs) (λ c. search needs) (λ c. search needs) returns-3 (λ c. search needs) (λ c κs. search needs) loop-less
+    loop-again returns-4)

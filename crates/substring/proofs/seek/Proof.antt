@@ -15,29 +15,14 @@ Inv-loop v from b i₀ i = Sought b (normal text v) from i
 abbrev μ-loop : tie.MeasureT-loop
 μ-loop v from b i₀ i = length v - i
 
-leap-requires : tie.Need-leap-requires Inv-loop μ-loop
-leap-requires c κs = search needs
-
 loop-holds : tie.Need-loop-holds Inv-loop μ-loop
 loop-holds c = c .leap .ensures
-
-shared-slice-read-small : tie.Need-shared-slice-read-small Inv-loop μ-loop
-shared-slice-read-small c = search needs
-
-small-requires : tie.Need-small-requires Inv-loop μ-loop
-small-requires c κs = search needs
 
 returns : tie.Need-returns Inv-loop μ-loop
 returns c =
     let A = c .before .before .before .before .before .before .before .args in
     let L = c .before .before .before .before .loop in
     sought-at (A .b) (now (A .v)) (A .from) (L .i) (L .inv) (c .before .before .before .loop-test .taken) (sym (c .before .small .ensures) ∙ c .if1 .taken)
-
-add-i : tie.Need-add-i Inv-loop μ-loop
-add-i c = search needs
-
-loop-less : tie.Need-loop-less Inv-loop μ-loop
-loop-less c = search needs
 
 loop-again : tie.Need-loop-again Inv-loop μ-loop
 loop-again c =
@@ -54,15 +39,5 @@ returns-2 c =
 pub seek-spec : {M : Type 1} → statement M
 seek-spec =
     tie.close
-    (tie.spec
-    Inv-loop
-    μ-loop
-    leap-requires
-    loop-holds
-    shared-slice-read-small
-    small-requires
-    returns
-    add-i
-    loop-less
-    loop-again
-    returns-2)
+    (tie.spec Inv-loop μ-loop (λ c κs. search needs) loop-holds (λ c. search needs) (λ c κs. search needs) returns (λ c. search needs)
+    (λ c. search needs) loop-again returns-2)

@@ -10,21 +10,9 @@ returns : tie.Need-returns
 unfolding fits sized
 returns c = rw (eq-eqb _ _ (c .if1 .taken))
 
-printable-requires : tie.Need-printable-requires
-printable-requires c κs = search needs
-
 returns-2 : tie.Need-returns-2
 unfolding fits sized
 returns-2 c = rw (ne-eqb _ _ (c .before .before .if1 .left), eq-eqb _ _ (c .before .if2 .taken), c .printable .ensures)
-
-integer-requires : tie.Need-integer-requires
-integer-requires c κs = search needs
-
-enum-told : tie.Need-enum-told
-enum-told c = search needs
-
-enum-told-2 : tie.Need-enum-told-2
-enum-told-2 c = search needs
 
 returns-3 : tie.Need-returns-3
 unfolding fits
@@ -37,12 +25,4 @@ returns-4 c = rw (ne-eqb _ _ (c .before .before .before .before .if1 .left), ne-
 pub fits-spec : {M : Type 1} → statement M
 fits-spec =
     tie.close
-    (tie.spec
-    returns
-    printable-requires
-    returns-2
-    integer-requires
-    enum-told
-    enum-told-2
-    returns-3
-    returns-4)
+    (tie.spec returns (λ c κs. search needs) returns-2 (λ c κs. search needs) (λ c. search needs) (λ c. search needs) returns-3 returns-4)

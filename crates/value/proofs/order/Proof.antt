@@ -5,21 +5,9 @@ use borrow.Author.Needs.{needs}
 use Rattle.value.proofs.order.Statement.{statement}
 use Rattle.value.proofs.order.Tie as tie
 
-integer-requires : tie.Need-integer-requires
-integer-requires c κs = search needs
-
-integer-requires-2 : tie.Need-integer-requires-2
-integer-requires-2 c κs = search needs
-
-order-integers-requires : tie.Need-order-integers-requires
-order-integers-requires c κs = search needs
-
 returns : tie.Need-returns
 unfolding order
 returns c = rw (eq-eqb _ _ (c .before .before .before .if1 .taken), c .order-integers .ensures, c .before .integer2 .ensures, c .before .before .integer .ensures)
-
-order-bytes-requires : tie.Need-order-bytes-requires
-order-bytes-requires c κs = search needs
 
 returns-2 : tie.Need-returns-2
 unfolding order
@@ -28,10 +16,4 @@ returns-2 c = rw (ne-eqb _ _ (c .before .if1 .left)) (c .order-bytes .ensures)
 pub order-spec : {M : Type 1} → statement M
 order-spec =
     tie.close
-    (tie.spec
-    integer-requires
-    integer-requires-2
-    order-integers-requires
-    returns
-    order-bytes-requires
-    returns-2)
+    (tie.spec (λ c κs. search needs) (λ c κs. search needs) (λ c κs. search needs) returns (λ c κs. search needs) returns-2)

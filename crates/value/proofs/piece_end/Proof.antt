@@ -10,9 +10,6 @@ use borrow.Author.Needs.{needs}
 use Rattle.value.proofs.piece_end.Statement.{statement}
 use Rattle.value.proofs.piece_end.Tie as tie
 
-stands-requires : tie.Need-stands-requires
-stands-requires c κs = search needs
-
 returns : tie.Need-returns
 unfolding used
 returns c = rw (eq-eqb _ _ (c .before .before .if1 .taken), sym (c .before .stands .ensures) ∙ c .if2 .taken, normal-length text (now (c .before .before .before .before .before .args .p)))
@@ -21,30 +18,15 @@ returns-2 : tie.Need-returns-2
 unfolding used
 returns-2 c = rw (eq-eqb _ _ (c .before .before .if1 .taken), sym (c .before .stands .ensures) ∙ c .if2 .left)
 
-any-requires : tie.Need-any-requires
-any-requires c κs = search needs
-
 returns-3 : tie.Need-returns-3
 unfolding used
 returns-3 c = rw (c .before .if3 .taken) (c .any .ensures)
-
-sub-if4 : tie.Need-sub-if4
-sub-if4 c = search needs
 
 returns-4 : tie.Need-returns-4
 unfolding used
 returns-4 c =
     let A = c .before .before .before .before .before .args in
     rw (ne-eqb _ _ (c .before .before .if1 .left), ne-eqb _ _ (c .before .if3 .left), ends-short (now (A .v)) (now (A .p)) (A .from) (c .if4 .taken))
-
-sub-stands : tie.Need-sub-stands
-sub-stands c = search needs
-
-stands-requires-2 : tie.Need-stands-requires-2
-stands-requires-2 c κs = search needs
-
-sub-t13 : tie.Need-sub-t13
-sub-t13 c = search needs
 
 returns-5 : tie.Need-returns-5
 unfolding used
@@ -61,16 +43,5 @@ returns-6 c =
 pub piece-end-spec : {M : Type 1} → statement M
 piece-end-spec =
     tie.close
-    (tie.spec
-    stands-requires
-    returns
-    returns-2
-    any-requires
-    returns-3
-    sub-if4
-    returns-4
-    sub-stands
-    stands-requires-2
-    sub-t13
-    returns-5
-    returns-6)
+    (tie.spec (λ c κs. search needs) returns returns-2 (λ c κs. search needs) returns-3 (λ c. search needs) returns-4 (λ c. search needs)
+    (λ c κs. search needs) (λ c. search needs) returns-5 returns-6)

@@ -11,13 +11,10 @@ returns c =
     let A = c .before .before .before .args in
     sym (same-never (A .syntax) (now (A .v)) (now (A .w)) (c .if1 .taken))
 
-common-requires : tie.Need-common-requires
-common-requires c κs = search needs
-
 returns-2 : tie.Need-returns-2
 returns-2 c =
     let A = c .before .before .before .before .args in
     rw (c .common .ensures) (sym (same-common (A .syntax) (now (A .v)) (now (A .w)) (c .before .if1 .left)))
 
 pub same-spec : {M : Type 1} → statement M
-same-spec = tie.close (tie.spec returns common-requires returns-2)
+same-spec = tie.close (tie.spec returns (λ c κs. search needs) returns-2)

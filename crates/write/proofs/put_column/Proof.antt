@@ -9,21 +9,6 @@ use borrow.Author.Needs.{needs}
 use Rattle.write.proofs.put_column.Statement.{statement}
 use Rattle.write.proofs.put_column.Tie as tie
 
-sub-i : tie.Need-sub-i
-sub-i c = search needs
-
-cast-out : tie.Need-cast-out
-cast-out c = search needs
-
-add-out : tie.Need-add-out
-add-out c = search needs
-
-add-out-2 : tie.Need-add-out-2
-add-out-2 c = search needs
-
-slice-write-out : tie.Need-slice-write-out
-slice-write-out c = search needs
-
 put-leading-requires : tie.Need-put-leading-requires
 put-leading-requires c κs = simp length-set (omega arith)
 
@@ -38,12 +23,5 @@ returns c =
 pub put-column-spec : {M : Type 1} → statement M
 put-column-spec =
     tie.close
-    (tie.spec
-    sub-i
-    cast-out
-    add-out
-    add-out-2
-    slice-write-out
-    put-leading-requires
-    same-length
+    (tie.spec (λ c. search needs) (λ c. search needs) (λ c. search needs) (λ c. search needs) (λ c. search needs) put-leading-requires same-length
     returns)

@@ -9,21 +9,6 @@ use borrow.Author.Needs.{needs}
 use Rattle.write.proofs.put_line.Statement.{statement}
 use Rattle.write.proofs.put_line.Tie as tie
 
-put-numbers-requires : tie.Need-put-numbers-requires
-put-numbers-requires c κs = search needs
-
-put-requires : tie.Need-put-requires
-put-requires c κs = search needs
-
-add-end : tie.Need-add-end
-add-end c = search needs
-
-slice-write-out : tie.Need-slice-write-out
-slice-write-out c = search needs
-
-add-result : tie.Need-add-result
-add-result c = search needs
-
 same-length : tie.Need-same-length
 same-length c = omega (arith, length-set (c .before .before .put .last .0) (c .before .before .before .before .before .before .put-numbers .result + length (now (c .before .before .before .before .before .before .before .before .before .before .args .bytes))) 10)
 
@@ -37,11 +22,4 @@ returns c =
 pub put-line-spec : {M : Type 1} → statement M
 put-line-spec =
     tie.close
-    (tie.spec
-    put-numbers-requires
-    put-requires
-    add-end
-    slice-write-out
-    add-result
-    same-length
-    returns)
+    (tie.spec (λ c κs. search needs) (λ c κs. search needs) (λ c. search needs) (λ c. search needs) (λ c. search needs) same-length returns)

@@ -8,9 +8,6 @@ use Rattle.access_covers.specs.Laws.Enter.{owned-none, owned-more}
 use borrow.Author.Needs.{needs}
 use Rattle.access_covers.proofs.enter.enter_all.Statement.{statement}
 use Rattle.access_covers.proofs.enter.enter_all.Tie as tie
-use Rattle.access_covers.proofs.enter.enter_all.Reads as reads
-use Rattle.access_covers.proofs.enter.enter_all.Lts as lts
-use Rattle.access_covers.proofs.enter.enter.Reads as enter-reads
 
 abbrev Inv-loop : tie.InvT-loop
 Inv-loop reach order alone₀ down₀ p₀ alone down p = (p ≤ length order) × (length alone ≡ length alone₀) × (length down ≡ length down₀) × Owned p (reachAt reach order) alone down × ((i : ℕ) → 1028 ≤ i → getD alone i 0 ≡ getD alone₀ i 0)
@@ -21,12 +18,6 @@ abbrev μ-loop : tie.MeasureT-loop
 loop-holds : tie.Need-loop-holds Inv-loop μ-loop
 loop-holds c = let A = c .before .before .before .before .args in (omega arith, refl, refl, owned-none (reachAt (now (A .reach)) (now (A .order))) (now (A .alone)) (now (A .down)) (c .before .before .before .before .pre .3) (c .before .before .before .before .pre .4), λ i l. refl)
 
-mul-enter : tie.Need-mul-enter Inv-loop μ-loop
-mul-enter c = search needs
-
-shared-slice-read-enter : tie.Need-shared-slice-read-enter Inv-loop μ-loop
-shared-slice-read-enter c = search needs
-
 mul-enter-2 : tie.Need-mul-enter-2 Inv-loop μ-loop
 mul-enter-2 c = let A = c .before .before .before .before .before .before .before .before .before .args in let f : getD (now (A .order)) (c .before .before .before .before .loop .p) 0 < length (now (A .reach)) = c .before .before .before .before .before .before .before .before .before .pre .5 (c .before .before .before .before .loop .p) (c .before .before .before .loop-test .taken) in search needs
 
@@ -35,12 +26,6 @@ shared-slice-read-enter-2 c = c .before .before .before .before .before .before 
 
 enter-requires : tie.Need-enter-requires Inv-loop μ-loop
 enter-requires c κs = let L = c .before .before .before .before .before .loop in (omega (arith, L .inv .1, c .before .before .before .before .before .before .before .before .before .before .pre .1), omega (arith, L .inv .2, c .before .before .before .before .before .before .before .before .before .before .pre .2), omega (arith, c .before .before .before .before .loop-test .taken, c .before .before .before .before .before .before .before .before .before .before .pre .0))
-
-add-p : tie.Need-add-p Inv-loop μ-loop
-add-p c = search needs
-
-loop-less : tie.Need-loop-less Inv-loop μ-loop
-loop-less c = search needs
 
 loop-again : tie.Need-loop-again Inv-loop μ-loop
 loop-again c = let A = c .before .before .before .before .before .before .before .before .before .before .before .before .before .before .before .args in let L = c .before .before .before .before .before .before .before .before .before .before .loop in let E = c .before .before .before .before .enter in (
@@ -51,30 +36,11 @@ loop-again c = let A = c .before .before .before .before .before .before .before
   λ i l. E .ensures .0 .after i l ∙ L .inv .4 i l,
 )
 
-same-length : tie.Need-same-length Inv-loop μ-loop
-same-length c = search needs
-
-same-length-2 : tie.Need-same-length-2 Inv-loop μ-loop
-same-length-2 c = search needs
-
 returns : tie.Need-returns Inv-loop μ-loop
 returns c = let A = c .before .before .before .before .before .before .args in let L = c .before .loop in let e : L .p ≡ length (now (A .order)) = omega (arith, L .inv .0, c .loop-test .left) in (subst (λ (n : ℕ). Owned n (reachAt (now (A .reach)) (now (A .order))) (L .alone) (L .down)) e (L .inv .3), L .inv .4)
 
 pub enter-all-spec : {M : Type 1} → statement M
 enter-all-spec =
     tie.close
-    (tie.spec
-    Inv-loop
-    μ-loop
-    loop-holds
-    mul-enter
-    shared-slice-read-enter
-    mul-enter-2
-    shared-slice-read-enter-2
-    enter-requires
-    add-p
-    loop-less
-    loop-again
-    same-length
-    same-length-2
-    returns)
+    (tie.spec Inv-loop μ-loop loop-holds (λ c. search needs) (λ c. search needs) mul-enter-2 shared-slice-read-enter-2 enter-requires
+    (λ c. search needs) (λ c. search needs) loop-again (λ c. search needs) (λ c. search needs) returns)

@@ -4,38 +4,9 @@ use Rattle.access_covers.specs.Laws.Row.{inherits-of}
 use borrow.Author.Needs.{needs}
 use Rattle.access_covers.proofs.row.inherit.Statement.{statement}
 use Rattle.access_covers.proofs.row.inherit.Tie as tie
-use Rattle.access_covers.proofs.row.inherit.Reads as reads
-use Rattle.access_covers.proofs.row.inherit.Lts as lts
-use Rattle.access_covers.proofs.row.store.Reads as store-reads
-use Rattle.access_set.proofs.Bits.or.Reads as or-reads
-use Rattle.tables.proofs.sets.row.Reads as row-reads
-
-row-requires : tie.Need-row-requires
-row-requires c κs = search needs
-
-row-requires-2 : tie.Need-row-requires-2
-row-requires-2 c κs = search needs
-
-or-requires : tie.Need-or-requires
-or-requires c κs = search needs
-
-store-requires : tie.Need-store-requires
-store-requires c κs = search needs
-
-row-requires-3 : tie.Need-row-requires-3
-row-requires-3 c κs = search needs
-
-or-requires-2 : tie.Need-or-requires-2
-or-requires-2 c κs = search needs
 
 store-requires-2 : tie.Need-store-requires-2
 store-requires-2 c κs = omega (arith, c .before .before .before .before .before .before .before .before .before .before .before .before .before .before .before .pre .0, c .before .before .before .before .before .before .before .before .before .before .before .before .before .before .before .pre .2)
-
-same-length : tie.Need-same-length
-same-length c = search needs
-
-same-length-2 : tie.Need-same-length-2
-same-length-2 c = search needs
 
 returns : tie.Need-returns
 returns c = let A = c .before .before .before .before .before .before .before .before .before .before .before .before .before .before .before .before .before .before .args in let P = c .before .before .before .before .before .before .before .before .before .before .before .before .before .before .before .before .before .before .pre in
@@ -45,14 +16,5 @@ returns c = let A = c .before .before .before .before .before .before .before .b
 pub inherit-spec : {M : Type 1} → statement M
 inherit-spec =
     tie.close
-    (tie.spec
-    row-requires
-    row-requires-2
-    or-requires
-    store-requires
-    row-requires-3
-    or-requires-2
-    store-requires-2
-    same-length
-    same-length-2
-    returns)
+    (tie.spec (λ c κs. search needs) (λ c κs. search needs) (λ c κs. search needs) (λ c κs. search needs) (λ c κs. search needs)
+    (λ c κs. search needs) store-requires-2 (λ c. search needs) (λ c. search needs) returns)

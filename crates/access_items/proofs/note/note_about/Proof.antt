@@ -10,56 +10,15 @@ use Rattle.access_items.specs.Laws.Note.{present-small, slot-small}
 use borrow.Author.Needs.{needs}
 use Rattle.access_items.proofs.note.note_about.Statement.{statement}
 use Rattle.access_items.proofs.note.note_about.Tie as tie
-use Rattle.access_items.proofs.note.note_about.Reads as reads
-use Rattle.access_items.proofs.note.note_about.Lts as lts
-use Rattle.access_items.proofs.mark.mark.Reads as mark-reads
-use Rattle.access_items.proofs.note.present.Reads as present-reads
-use Rattle.access_items.proofs.note.slot.Reads as slot-reads
-
-add-what : tie.Need-add-what
-add-what c = search needs
-
-mul-what : tie.Need-mul-what
-mul-what c = search needs
-
-shared-slice-read-what : tie.Need-shared-slice-read-what
-shared-slice-read-what c = search needs
-
-add-digest : tie.Need-add-digest
-add-digest c = search needs
-
-mul-digest : tie.Need-mul-digest
-mul-digest c = search needs
-
-shared-slice-read-digest : tie.Need-shared-slice-read-digest
-shared-slice-read-digest c = search needs
-
-add-mark : tie.Need-add-mark
-add-mark c = search needs
-
-mark-requires : tie.Need-mark-requires
-mark-requires c κs = search needs
-
-add-mark-2 : tie.Need-add-mark-2
-add-mark-2 c = search needs
-
-present-requires : tie.Need-present-requires
-present-requires c κs = search needs
 
 mark-requires-2 : tie.Need-mark-requires-2
 mark-requires-2 c κs = let A = c .before .before .before .before .before .before .before .before .before .before .args in (omega (arith, c .before .before .before .before .mark .kept .0, c .before .before .before .before .before .before .before .before .before .before .pre .0, c .before .before .before .before .before .before .before .before .before .before .pre .2), c .before .before .before .before .before .before .before .before .before .before .pre .1, subst (λ (m : ℕ). m < 2) (sym (c .present .ensures)) (present-small (A .rank)))
-
-slot-requires : tie.Need-slot-requires
-slot-requires c κs = search needs
 
 add-mark-3 : tie.Need-add-mark-3
 add-mark-3 c = let h : c .slot .result < 64 = subst (λ (m : ℕ). m < 64) (sym (c .slot .ensures)) (slot-small (getD (now (c .before .before .before .before .before .before .before .before .before .before .before .before .before .before .before .args .rights)) (c .before .before .before .before .before .before .before .before .before .before .before .before .before .before .before .args .at + 1) 0)) in search needs
 
 mark-requires-3 : tie.Need-mark-requires-3
 mark-requires-3 c κs = let h : c .slot .result < 64 = subst (λ (m : ℕ). m < 64) (sym (c .slot .ensures)) (slot-small (getD (now (c .before .before .before .before .before .before .before .before .before .before .before .before .before .before .before .args .rights)) (c .before .before .before .before .before .before .before .before .before .before .before .before .before .before .before .args .at + 1) 0)) in (omega (arith, h, c .before .before .before .before .before .before .before .before .before .mark .kept .0, c .before .before .before .before .mark2 .kept .0, c .before .before .before .before .before .before .before .before .before .before .before .before .before .before .before .pre .0), c .before .before .before .before .before .before .before .before .before .before .before .before .before .before .before .pre .1, omega arith)
-
-same-length : tie.Need-same-length
-same-length c = search needs
 
 returns : tie.Need-returns
 unfolding aboutNoted
@@ -68,20 +27,6 @@ returns c = let A = c .before .before .before .before .before .before .before .b
 pub note-about-spec : {M : Type 1} → statement M
 note-about-spec =
     tie.close
-    (tie.spec
-    add-what
-    mul-what
-    shared-slice-read-what
-    add-digest
-    mul-digest
-    shared-slice-read-digest
-    add-mark
-    mark-requires
-    add-mark-2
-    present-requires
-    mark-requires-2
-    slot-requires
-    add-mark-3
-    mark-requires-3
-    same-length
-    returns)
+    (tie.spec (λ c. search needs) (λ c. search needs) (λ c. search needs) (λ c. search needs) (λ c. search needs) (λ c. search needs)
+    (λ c. search needs) (λ c κs. search needs) (λ c. search needs) (λ c κs. search needs) mark-requires-2 (λ c κs. search needs) add-mark-3
+    mark-requires-3 (λ c. search needs) returns)

@@ -10,9 +10,6 @@ use Rattle.access_items.specs.Note.{permitted}
 use borrow.Author.Needs.{needs}
 use Rattle.access_items.proofs.note.note_permissions.Statement.{statement}
 use Rattle.access_items.proofs.note.note_permissions.Tie as tie
-use Rattle.access_items.proofs.note.note_permissions.Reads as reads
-use Rattle.access_items.proofs.note.note_permissions.Lts as lts
-use Rattle.access_items.proofs.mark.mark.Reads as mark-reads
 
 abbrev Inv-loop : tie.InvT-loop
 Inv-loop mask place sets₀ b₀ sets b = (b ≤ 6) × (length sets ≡ length sets₀) × (sets ≡ permitted b mask place sets₀)
@@ -24,27 +21,12 @@ loop-holds : tie.Need-loop-holds Inv-loop μ-loop
 unfolding permitted
 loop-holds c = (omega arith, refl, refl)
 
-add-mark : tie.Need-add-mark Inv-loop μ-loop
-add-mark c = search needs
-
-shr-mark : tie.Need-shr-mark Inv-loop μ-loop
-shr-mark c = search needs
-
 mark-requires : tie.Need-mark-requires Inv-loop μ-loop
 mark-requires c κs = let L = c .before .before .loop in (omega (arith, c .before .loop-test .taken, L .inv .1, c .before .before .before .before .pre .0), c .before .before .before .before .pre .1, omega arith)
-
-add-b : tie.Need-add-b Inv-loop μ-loop
-add-b c = search needs
-
-loop-less : tie.Need-loop-less Inv-loop μ-loop
-loop-less c = search needs
 
 loop-again : tie.Need-loop-again Inv-loop μ-loop
 unfolding permitted
 loop-again c = let L = c .before .before .before .before .before .loop in let A = c .before .before .before .before .before .before .before .args in (omega (arith, c .before .before .before .before .loop-test .taken), c .before .before .mark .kept .0 ∙ L .inv .1, c .before .before .mark .ensures ∙ ap (λ (t : List ℕ). marked t (258 + L .b) (A .place) (A .mask / 2 ^ L .b % 2)) (L .inv .2) ∙ ap (λ (n : ℕ). permitted n (A .mask) (A .place) (now (A .sets))) (sym (add-one (L .b))))
-
-same-length : tie.Need-same-length Inv-loop μ-loop
-same-length c = search needs
 
 returns : tie.Need-returns Inv-loop μ-loop
 returns c = let L = c .before .loop in let A = c .before .before .before .args in let e : L .b ≡ 6 = omega (arith, L .inv .0, c .loop-test .left) in L .inv .2 ∙ ap (λ (n : ℕ). permitted n (A .mask) (A .place) (now (A .sets))) e
@@ -52,15 +34,5 @@ returns c = let L = c .before .loop in let A = c .before .before .before .args i
 pub note-permissions-spec : {M : Type 1} → statement M
 note-permissions-spec =
     tie.close
-    (tie.spec
-    Inv-loop
-    μ-loop
-    loop-holds
-    add-mark
-    shr-mark
-    mark-requires
-    add-b
-    loop-less
-    loop-again
-    same-length
-    returns)
+    (tie.spec Inv-loop μ-loop loop-holds (λ c. search needs) (λ c. search needs) mark-requires (λ c. search needs) (λ c. search needs) loop-again
+    (λ c. search needs) returns)

@@ -2,8 +2,6 @@ use borrow.Author.Tests.{eq-eqb, ne-eqb}
 use Rattle.access_items.specs.Note.{present}
 use Rattle.access_items.proofs.note.present.Statement.{statement}
 use Rattle.access_items.proofs.note.present.Tie as tie
-use Rattle.access_items.proofs.note.present.Reads as reads
-use Rattle.access_items.proofs.note.present.Lts as lts
 
 returns : tie.Need-returns
 unfolding present

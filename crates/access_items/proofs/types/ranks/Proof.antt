@@ -8,8 +8,6 @@ use Rattle.access_items.specs.Laws.Types.{ranks-none, ranks-more, ranks-
 use borrow.Author.Needs.{needs}
 use Rattle.access_items.proofs.types.ranks.Statement.{statement}
 use Rattle.access_items.proofs.types.ranks.Tie as tie
-use Rattle.access_items.proofs.types.ranks.Reads as reads
-use Rattle.access_items.proofs.types.ranks.Lts as lts
 
 abbrev Inv-loop : tie.InvT-loop
 Inv-loop schema ranks₀ i₀ ranks i = (i ≤ length schema) × Ranks schema i ranks
@@ -20,29 +18,8 @@ abbrev μ-loop : tie.MeasureT-loop
 loop-holds : tie.Need-loop-holds Inv-loop μ-loop
 loop-holds c = (omega arith, ranks-none (now (c .args .schema)))
 
-mul-t : tie.Need-mul-t Inv-loop μ-loop
-mul-t c = search needs
-
-shared-slice-read-t : tie.Need-shared-slice-read-t Inv-loop μ-loop
-shared-slice-read-t c = search needs
-
-add-i : tie.Need-add-i Inv-loop μ-loop
-add-i c = search needs
-
-cast-ranks : tie.Need-cast-ranks Inv-loop μ-loop
-cast-ranks c = search needs
-
-array-write-ranks : tie.Need-array-write-ranks Inv-loop μ-loop
-array-write-ranks c = search needs
-
-loop-less : tie.Need-loop-less Inv-loop μ-loop
-loop-less c = search needs
-
 loop-again : tie.Need-loop-again Inv-loop μ-loop
 loop-again c = let L = c .before .before .before .loop in let A = c .before .before .before .before .args in (omega (arith, c .before .before .loop-test .taken), ranks-more (now (A .schema)) (c .before .before .before .before .pre .0) (L .i) (c .before .before .loop-test .taken) (L .ranks) (L .inv .1) (c .if1 .taken))
-
-loop-less-2 : tie.Need-loop-less-2 Inv-loop μ-loop
-loop-less-2 c = search needs
 
 loop-again-2 : tie.Need-loop-again-2 Inv-loop μ-loop
 loop-again-2 c = let L = c .before .before .before .loop in let A = c .before .before .before .before .args in (omega (arith, c .before .before .loop-test .taken), ranks-skip (now (A .schema)) (c .before .before .before .before .pre .0) (L .i) (c .before .before .loop-test .taken) (L .ranks) (L .inv .1) (c .if1 .left))
@@ -53,17 +30,5 @@ returns c = let L = c .before .loop in let A = c .before .before .args in let e 
 pub ranks-spec : {M : Type 1} → statement M
 ranks-spec =
     tie.close
-    (tie.spec
-    Inv-loop
-    μ-loop
-    loop-holds
-    mul-t
-    shared-slice-read-t
-    add-i
-    cast-ranks
-    array-write-ranks
-    loop-less
-    loop-again
-    loop-less-2
-    loop-again-2
-    returns)
+    (tie.spec Inv-loop μ-loop loop-holds (λ c. search needs) (λ c. search needs) (λ c. search needs) (λ c. search needs) (λ c. search needs)
+    (λ c. search needs) loop-again (λ c. search needs) loop-again-2 returns)

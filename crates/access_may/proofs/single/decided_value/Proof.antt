@@ -10,33 +10,9 @@ use Rattle.access_may.specs.Laws.Single.{slotted, slot-small}
 use borrow.Author.Needs.{needs}
 use Rattle.access_may.proofs.single.decided_value.Statement.{statement}
 use Rattle.access_may.proofs.single.decided_value.Tie as tie
-use Rattle.access_may.proofs.single.decided_value.Reads as reads
-use Rattle.access_may.proofs.single.decided_value.Lts as lts
-use Rattle.access_may.proofs.single.first_same.Reads as first-same-reads
-use Rattle.access_may.proofs.single.place.Reads as place-reads
-use Rattle.access_may.proofs.single.slot.Reads as slot-reads
-use Rattle.access_set.proofs.Bits.and.Reads as and-reads
-use Rattle.access_set.proofs.Bits.has.Reads as has-reads
-use Rattle.tables.proofs.sets.row.Reads as row-reads
-use Rattle.value.proofs.digest.digest.Reads as digest-reads
-
-place-requires : tie.Need-place-requires
-place-requires c κs = search needs
-
-place-requires-2 : tie.Need-place-requires-2
-place-requires-2 c κs = search needs
-
-row-requires : tie.Need-row-requires
-row-requires c κs = search needs
-
-has-requires : tie.Need-has-requires
-has-requires c κs = search needs
 
 returns : tie.Need-returns
 returns c = decided-all (now (c .before .before .before .before .before .before .before .before .args .sets)) (c .before .before .before .before .before .before .before .before .args .all) (c .before .before .before .before .before .before .before .before .args .single) (sameAt (now (c .before .before .before .before .before .before .before .before .args .sets)) (now (c .before .before .before .before .before .before .before .before .args .p)) (c .before .before .before .before .before .before .before .before .args .syntax) (now (c .before .before .before .before .before .before .before .before .args .v))) (c .before .before .before .before .before .place .result) (c .before .before .before .before .before .place .ensures) (c .before .before .before .before .place2 .result) (c .before .before .before .before .place2 .ensures) (c .before .before .before .if1 .taken) (c .has .result) (c .has .ensures ∙ row-member (now (c .before .before .before .before .before .before .before .before .args .sets)) 257 (c .before .row .result) (c .before .row .ensures) (c .before .before .before .before .before .place .result))
-
-digest-requires : tie.Need-digest-requires
-digest-requires c κs = search needs
 
 slot-requires : tie.Need-slot-requires
 slot-requires c κs = omega (arith, c .before .digest .ensures, digest-bound 0 (now (c .before .before .before .before .before .before .before .args .v)))
@@ -47,36 +23,11 @@ add-row c = omega (arith, c .slot .ensures, slot-small (c .before .before .diges
 row-requires-2 : tie.Need-row-requires-2
 row-requires-2 c κs = omega (arith, c .slot .ensures, slot-small (c .before .before .digest .result))
 
-and-requires : tie.Need-and-requires
-and-requires c κs = search needs
-
-first-same-requires : tie.Need-first-same-requires
-first-same-requires c κs = search needs
-
-row-requires-3 : tie.Need-row-requires-3
-row-requires-3 c κs = search needs
-
-has-requires-2 : tie.Need-has-requires-2
-has-requires-2 c κs = search needs
-
 returns-2 : tie.Need-returns-2
 returns-2 c = decided-one (now (c .before .before .before .before .before .before .before .before .before .before .before .before .before .before .args .sets)) (c .before .before .before .before .before .before .before .before .before .before .before .before .before .before .args .all) (c .before .before .before .before .before .before .before .before .before .before .before .before .before .before .args .single) (sameAt (now (c .before .before .before .before .before .before .before .before .before .before .before .before .before .before .args .sets)) (now (c .before .before .before .before .before .before .before .before .before .before .before .before .before .before .args .p)) (c .before .before .before .before .before .before .before .before .before .before .before .before .before .before .args .syntax) (now (c .before .before .before .before .before .before .before .before .before .before .before .before .before .before .args .v))) (c .before .before .before .before .before .before .before .before .before .before .before .place .result) (c .before .before .before .before .before .before .before .before .before .before .before .place .ensures) (λ j. member (c .before .before .before .before .and .result) j && agreesAt (now (c .before .before .before .before .before .before .before .before .before .before .before .before .before .before .args .sets)) (now (c .before .before .before .before .before .before .before .before .before .before .before .before .before .before .args .p)) (c .before .before .before .before .before .before .before .before .before .before .before .before .before .before .args .syntax) (c .before .before .before .before .before .before .before .before .digest .result) (now (c .before .before .before .before .before .before .before .before .before .before .before .before .before .before .args .v)) j) (slotted (now (c .before .before .before .before .before .before .before .before .before .before .before .before .before .before .args .sets)) (now (c .before .before .before .before .before .before .before .before .before .before .before .before .before .before .args .p)) (c .before .before .before .before .before .before .before .before .before .before .before .before .before .before .args .syntax) (now (c .before .before .before .before .before .before .before .before .before .before .before .before .before .before .args .v)) (c .before .before .before .before .before .before .before .before .digest .result) (c .before .before .before .before .before .before .slot .result) (c .before .before .before .before .before .before .before .before .before .before .before .before .before .before .args .single) (c .before .before .before .before .before .row2 .result) (c .before .before .before .before .and .result) (c .before .before .before .before .before .before .before .before .digest .ensures) (c .before .before .before .before .before .before .slot .ensures) (c .before .before .before .before .before .row2 .ensures) (c .before .before .before .before .and .ensures)) (c .before .before .before .first-same .result) (c .before .before .before .first-same .ensures) (c .has2 .result) (c .has2 .ensures ∙ row-member (now (c .before .before .before .before .before .before .before .before .before .before .before .before .before .before .args .sets)) 257 (c .before .row3 .result) (c .before .row3 .ensures) (c .before .before .before .first-same .result))
 
 pub decided-value-spec : {M : Type 1} → statement M
 decided-value-spec =
     tie.close
-    (tie.spec
-    place-requires
-    place-requires-2
-    row-requires
-    has-requires
-    returns
-    digest-requires
-    slot-requires
-    add-row
-    row-requires-2
-    and-requires
-    first-same-requires
-    row-requires-3
-    has-requires-2
-    returns-2)
+    (tie.spec (λ c κs. search needs) (λ c κs. search needs) (λ c κs. search needs) (λ c κs. search needs) returns (λ c κs. search needs) slot-requires
+    add-row row-requires-2 (λ c κs. search needs) (λ c κs. search needs) (λ c κs. search needs) (λ c κs. search needs) returns-2)

@@ -9,20 +9,12 @@ use Rattle.access_may.specs.Laws.Decided.{Left, left-start, left-end, le
 use borrow.Author.Needs.{needs}
 use Rattle.access_may.proofs.single.first_same.Statement.{statement}
 use Rattle.access_may.proofs.single.first_same.Tie as tie
-use Rattle.access_may.proofs.single.first_same.Reads as reads
-use Rattle.access_may.proofs.single.first_same.Lts as lts
-use Rattle.access_may.proofs.single.agrees.Reads as agrees-reads
-use Rattle.access_may.proofs.single.place.Reads as place-reads
-use Rattle.access_set.proofs.Bits.without.Reads as without-reads
 
 abbrev Inv-loop : tie.InvT-loop
 Inv-loop sets p end syntax digest v rest₀ i₀ rest i = Left (λ j. member rest₀ j && agreesAt sets p syntax digest v j) (agreesAt sets p syntax digest v) rest i
 
 abbrev μ-loop : tie.MeasureT-loop
 μ-loop sets p end syntax digest v rest₀ i₀ rest i = 256 - i
-
-place-requires : tie.Need-place-requires Inv-loop μ-loop
-place-requires c κs = search needs
 
 loop-holds : tie.Need-loop-holds Inv-loop μ-loop
 loop-holds c = left-start (agreesAt (now (c .before .before .before .args .sets)) (now (c .before .before .before .args .p)) (c .before .before .before .args .syntax) (c .before .before .before .args .digest) (now (c .before .before .before .args .v))) (c .before .before .before .args .single) (c .place .result) (c .place .ensures)
@@ -36,9 +28,6 @@ returns c = left-found (c .before .before .before .loop .inv) (omega (arith, c .
 without-requires : tie.Need-without-requires Inv-loop μ-loop
 without-requires c κs = (omega (arith, c .before .before .loop-test .taken, c .before .before .before .before .before .before .before .pre .0), left-member (c .before .before .before .loop .inv) (omega (arith, c .before .before .loop-test .taken, c .before .before .before .before .before .before .before .pre .0)))
 
-place-requires-2 : tie.Need-place-requires-2 Inv-loop μ-loop
-place-requires-2 c κs = search needs
-
 loop-less : tie.Need-loop-less Inv-loop μ-loop
 loop-less c = omega (arith, c .before .before .before .before .loop-test .taken, c .before .before .before .before .before .before .before .before .before .pre .0, left-later (c .before .before .before .before .before .loop .inv) (omega (arith, c .before .before .before .before .loop-test .taken, c .before .before .before .before .before .before .before .before .before .pre .0)) (c .before .without .result) (c .before .without .ensures) (c .place2 .result) (c .place2 .ensures))
 
@@ -51,15 +40,5 @@ returns-2 c = left-end (c .before .loop .inv) (c .before .before .before .before
 pub first-same-spec : {M : Type 1} → statement M
 first-same-spec =
     tie.close
-    (tie.spec
-    Inv-loop
-    μ-loop
-    place-requires
-    loop-holds
-    agrees-requires
-    returns
-    without-requires
-    place-requires-2
-    loop-less
-    loop-again
+    (tie.spec Inv-loop μ-loop (λ c κs. search needs) loop-holds agrees-requires returns without-requires (λ c κs. search needs) loop-less loop-again
     returns-2)

@@ -2,8 +2,6 @@ use borrow.Author.Tests.{eq-eqb, ne-eqb}
 use Rattle.access_scope.specs.Scopes.{levelBy}
 use Rattle.access_scope.proofs.asked.level_fits.Statement.{statement}
 use Rattle.access_scope.proofs.asked.level_fits.Tie as tie
-use Rattle.access_scope.proofs.asked.level_fits.Reads as reads
-use Rattle.access_scope.proofs.asked.level_fits.Lts as lts
 
 returns : tie.Need-returns
 returns c = unfold levelBy in rw (eq-eqb _ _ (c .if1 .taken))

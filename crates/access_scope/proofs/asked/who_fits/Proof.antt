@@ -4,9 +4,6 @@ use Rattle.access_scope.specs.Laws.Scopes.{who-all, who-self, who-below,
 use borrow.Author.Needs.{needs}
 use Rattle.access_scope.proofs.asked.who_fits.Statement.{statement}
 use Rattle.access_scope.proofs.asked.who_fits.Tie as tie
-use Rattle.access_scope.proofs.asked.who_fits.Reads as reads
-use Rattle.access_scope.proofs.asked.who_fits.Lts as lts
-use Rattle.entry_lookup.proofs.names.covers.Reads as covers-reads
 
 returns : tie.Need-returns
 returns c = sym (who-all _ _ _ _ (c .if1 .taken))
@@ -17,9 +14,6 @@ returns-2 c = sym (who-self _ _ _ _ (c .before .before .if1 .left) (c .if2 .take
 returns-3 : tie.Need-returns-3
 returns-3 c = sym (who-other _ _ _ _ (c .before .before .before .before .before .before .before .if1 .left) (c .before .before .before .before .before .if2 .left) (c .before .before .before .if3 .taken) (c .if4 .taken))
 
-covers-requires : tie.Need-covers-requires
-covers-requires c κs = search needs
-
 returns-4 : tie.Need-returns-4
 returns-4 c = c .covers .ensures
     ∙ ⊎-elim
@@ -28,4 +22,4 @@ returns-4 c = c .covers .ensures
     (c .before .if3 .came)
 
 pub who-fits-spec : {M : Type 1} → statement M
-who-fits-spec = tie.close (tie.spec returns returns-2 returns-3 covers-requires returns-4)
+who-fits-spec = tie.close (tie.spec returns returns-2 returns-3 (λ c κs. search needs) returns-4)

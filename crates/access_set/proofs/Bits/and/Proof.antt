@@ -1,8 +1,6 @@
 use Rattle.access_set.specs.Sets.{member-and}
 use Rattle.access_set.proofs.Bits.and.Statement.{statement}
 use Rattle.access_set.proofs.Bits.and.Tie as tie
-use Rattle.access_set.proofs.Bits.and.Reads as reads
-use Rattle.access_set.proofs.Bits.and.Lts as lts
 
 returns : tie.Need-returns
 returns c = member-and (c .before .before .before .before .before .before .before .before .args .self) (c .before .before .before .before .before .before .before .before .args .o)

@@ -1,8 +1,6 @@
 use Rattle.access_set.specs.Sets.{member-empty}
 use Rattle.access_set.proofs.Bits.empty.Statement.{statement}
 use Rattle.access_set.proofs.Bits.empty.Tie as tie
-use Rattle.access_set.proofs.Bits.empty.Reads as reads
-use Rattle.access_set.proofs.Bits.empty.Lts as lts
 
 returns : tie.Need-returns
 returns c = member-empty

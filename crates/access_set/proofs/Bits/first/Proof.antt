@@ -3,18 +3,9 @@ use Rattle.access_set.specs.Sets.{least-a, least-b, least-c, least-d, le
 use borrow.Author.Needs.{needs}
 use Rattle.access_set.proofs.Bits.first.Statement.{statement}
 use Rattle.access_set.proofs.Bits.first.Tie as tie
-use Rattle.access_set.proofs.Bits.first.Reads as reads
-use Rattle.access_set.proofs.Bits.first.Lts as lts
-use Rattle.access_set.proofs.lowest.Reads as lowest-reads
-
-lowest-requires : tie.Need-lowest-requires
-lowest-requires c κs = search needs
 
 returns : tie.Need-returns
 returns c = least-a (c .before .before .args .self) _ (c .lowest .ensures)
-
-lowest-requires-2 : tie.Need-lowest-requires-2
-lowest-requires-2 c κs = search needs
 
 add-t9 : tie.Need-add-t9
 add-t9 c = omega (arith, c .lowest2 .ensures .within)
@@ -22,17 +13,11 @@ add-t9 c = omega (arith, c .lowest2 .ensures .within)
 returns-2 : tie.Need-returns-2
 returns-2 c = least-b (c .before .before .before .args .self) _ (omega arith) (c .lowest2 .ensures)
 
-lowest-requires-3 : tie.Need-lowest-requires-3
-lowest-requires-3 c κs = search needs
-
 add-t11 : tie.Need-add-t11
 add-t11 c = omega (arith, c .lowest3 .ensures .within)
 
 returns-3 : tie.Need-returns-3
 returns-3 c = least-c (c .before .before .before .before .args .self) _ (omega arith) (omega arith) (c .lowest3 .ensures)
-
-lowest-requires-4 : tie.Need-lowest-requires-4
-lowest-requires-4 c κs = search needs
 
 add-t13 : tie.Need-add-t13
 add-t13 c = omega (arith, c .lowest4 .ensures .within)
@@ -46,16 +31,5 @@ returns-5 c = least-none (c .before .before .before .before .args .self) (omega 
 pub first-spec : {M : Type 1} → statement M
 first-spec =
     tie.close
-    (tie.spec
-    lowest-requires
-    returns
-    lowest-requires-2
-    add-t9
-    returns-2
-    lowest-requires-3
-    add-t11
-    returns-3
-    lowest-requires-4
-    add-t13
-    returns-4
-    returns-5)
+    (tie.spec (λ c κs. search needs) returns (λ c κs. search needs) add-t9 returns-2 (λ c κs. search needs) add-t11 returns-3 (λ c κs. search needs)
+    add-t13 returns-4 returns-5)

@@ -5,19 +5,10 @@ use Rattle.access_set.specs.Member.{bit, member}
 use borrow.Author.Needs.{needs}
 use Rattle.access_set.proofs.Bits.has.Statement.{statement}
 use Rattle.access_set.proofs.Bits.has.Tie as tie
-use Rattle.access_set.proofs.Bits.has.Reads as reads
-use Rattle.access_set.proofs.Bits.has.Lts as lts
-use Rattle.access_set.proofs.word.Reads as word-reads
-
-word-requires : tie.Need-word-requires
-word-requires c κs = search needs
-
-shr-result : tie.Need-shr-result
-shr-result c = search needs
 
 returns : tie.Need-returns
 unfolding member bit
 returns c = let i = c .before .args .i in ap (λ (x : ℕ). eqb (x / 2 ^ (i % 64) % 2) 1) (c .word .ensures)
 
 pub has-spec : {M : Type 1} → statement M
-has-spec = tie.close (tie.spec word-requires shr-result returns)
+has-spec = tie.close (tie.spec (λ c κs. search needs) (λ c. search needs) returns)

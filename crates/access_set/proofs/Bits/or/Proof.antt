@@ -1,8 +1,6 @@
 use Rattle.access_set.specs.Sets.{member-or}
 use Rattle.access_set.proofs.Bits.or.Statement.{statement}
 use Rattle.access_set.proofs.Bits.or.Tie as tie
-use Rattle.access_set.proofs.Bits.or.Reads as reads
-use Rattle.access_set.proofs.Bits.or.Lts as lts
 
 returns : tie.Need-returns
 returns c = member-or (c .before .before .before .before .before .before .before .before .args .self) (c .before .before .before .before .before .before .before .before .args .o)

@@ -5,11 +5,6 @@ use Rattle.access_set.specs.Sets.{with-a, with-b, with-c, with-d}
 use borrow.Author.Needs.{needs}
 use Rattle.access_set.proofs.Bits.with.Statement.{statement}
 use Rattle.access_set.proofs.Bits.with.Tie as tie
-use Rattle.access_set.proofs.Bits.with.Reads as reads
-use Rattle.access_set.proofs.Bits.with.Lts as lts
-
-shl-x : tie.Need-shl-x
-shl-x c = search needs
 
 returns : tie.Need-returns
 returns c = let A = c .before .before .args in with-a (A .self) (A .i) _ (one-shl (A .i % 64) (omega arith)) (c .before .if1 .taken)
@@ -24,4 +19,4 @@ returns-4 : tie.Need-returns-4
 returns-4 c = let A = c .before .before .before .before .args in with-d (A .self) (A .i) _ (one-shl (A .i % 64) (omega arith)) (omega arith)
 
 pub with-spec : {M : Type 1} → statement M
-with-spec = tie.close (tie.spec shl-x returns returns-2 returns-3 returns-4)
+with-spec = tie.close (tie.spec (λ c. search needs) returns returns-2 returns-3 returns-4)

@@ -5,11 +5,6 @@ use Rattle.access_set.specs.Sets.{without-a, without-b, without-c, witho
 use borrow.Author.Needs.{needs}
 use Rattle.access_set.proofs.Bits.without.Statement.{statement}
 use Rattle.access_set.proofs.Bits.without.Tie as tie
-use Rattle.access_set.proofs.Bits.without.Reads as reads
-use Rattle.access_set.proofs.Bits.without.Lts as lts
-
-shl-x : tie.Need-shl-x
-shl-x c = search needs
 
 returns : tie.Need-returns
 returns c = let A = c .before .before .args in without-a (A .self) (A .i) _ (one-shl (A .i % 64) (omega arith)) (c .before .before .pre .1) (c .before .if1 .taken)
@@ -24,4 +19,4 @@ returns-4 : tie.Need-returns-4
 returns-4 c = let A = c .before .before .before .before .args in without-d (A .self) (A .i) _ (one-shl (A .i % 64) (omega arith)) (c .before .before .before .before .pre .1) (omega arith)
 
 pub without-spec : {M : Type 1} → statement M
-without-spec = tie.close (tie.spec shl-x returns returns-2 returns-3 returns-4)
+without-spec = tie.close (tie.spec (λ c. search needs) returns returns-2 returns-3 returns-4)

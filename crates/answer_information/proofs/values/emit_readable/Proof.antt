@@ -8,23 +8,8 @@ use borrow.Author.Needs.{needs}
 use Rattle.answer_information.proofs.values.emit_readable.Statement.{statement}
 use Rattle.answer_information.proofs.values.emit_readable.Tie as tie
 
-element-copy-out-w : tie.Need-element-copy-out-w
-element-copy-out-w c = search needs
-
-mul-emit-values : tie.Need-mul-emit-values
-mul-emit-values c = search needs
-
-add-emit-values : tie.Need-add-emit-values
-add-emit-values c = search needs
-
-add-emit-values-2 : tie.Need-add-emit-values-2
-add-emit-values-2 c = search needs
-
 emit-values-requires : tie.Need-emit-values-requires
 emit-values-requires c κs = let P = c .before .before .before .before .before .pre in (P .0, P .1, omega (arith, P .2, P .0 .2 .entries .fits .wide))
-
-same-length : tie.Need-same-length
-same-length c = search needs
 
 returns : tie.Need-returns
 returns c = let a = c .before .before .before .before .before .before .before .before .before .before .args in
@@ -39,14 +24,8 @@ mul-emit c = omega (arith, c .before .before .before .before .before .before .be
 element-copy-out-emit : tie.Need-element-copy-out-emit
 element-copy-out-emit c = omega (arith, c .before .before .before .before .before .before .before .before .before .before .before .pre .1 .rank, c .before .before .before .before .before .before .before .before .before .before .before .pre .0 .2 .entries .fits .few-types)
 
-slice-aggregate-emit : tie.Need-slice-aggregate-emit
-slice-aggregate-emit c = search needs
-
 emit-requires : tie.Need-emit-requires
 emit-requires c κs = let P = c .before .before .before .before .before .before .before .before .before .before .before .before .before .pre in let F = P .0 .2 .entries .fits in (omega (arith, F .narrow), F .wide, omega (arith, P .2))
-
-same-length-2 : tie.Need-same-length-2
-same-length-2 c = search needs
 
 returns-2 : tie.Need-returns-2
 returns-2 c = let P = c .before .before .before .before .before .before .before .before .before .before .before .before .before .before .before .before .pre in
@@ -59,18 +38,5 @@ returns-2 c = let P = c .before .before .before .before .before .before .before 
 pub emit-readable-spec : {M : Type 1} → statement M
 emit-readable-spec =
     tie.close
-    (tie.spec
-    element-copy-out-w
-    mul-emit-values
-    add-emit-values
-    add-emit-values-2
-    emit-values-requires
-    same-length
-    returns
-    add-emit
-    mul-emit
-    element-copy-out-emit
-    slice-aggregate-emit
-    emit-requires
-    same-length-2
-    returns-2)
+    (tie.spec (λ c. search needs) (λ c. search needs) (λ c. search needs) (λ c. search needs) emit-values-requires (λ c. search needs) returns
+    add-emit mul-emit element-copy-out-emit (λ c. search needs) emit-requires (λ c. search needs) returns-2)

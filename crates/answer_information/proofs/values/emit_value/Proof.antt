@@ -16,17 +16,8 @@ use Rattle.answer_information.proofs.values.emit_value.Tie as tie
 may-value-requires : tie.Need-may-value-requires
 may-value-requires c κs = let P = c .before .before .before .pre in (omega (arith, P .2, P .0 .2 .2 .entries .fits .few-entries), P .3, omega arith, P .0)
 
-element-copy-out-w : tie.Need-element-copy-out-w
-element-copy-out-w c = search needs
-
 emit-requires : tie.Need-emit-requires
 emit-requires c κs = let P = c .before .before .before .before .before .before .before .pre in let F = P .0 .2 .2 .entries .fits in (omega (arith, F .narrow), F .wide, omega (arith, P .4, P .5))
-
-add-t13 : tie.Need-add-t13
-add-t13 c = search needs
-
-same-length : tie.Need-same-length
-same-length c = search needs
 
 returns : tie.Need-returns
 returns c = let P = c .before .before .before .before .before .before .before .before .before .before .before .pre in
@@ -50,11 +41,4 @@ returns-2 c = let P = c .before .before .before .before .before .pre in
 pub emit-value-spec : {M : Type 1} → statement M
 emit-value-spec =
     tie.close
-    (tie.spec
-    may-value-requires
-    element-copy-out-w
-    emit-requires
-    add-t13
-    same-length
-    returns
-    returns-2)
+    (tie.spec may-value-requires (λ c. search needs) emit-requires (λ c. search needs) (λ c. search needs) returns returns-2)

@@ -99,12 +99,6 @@ add-to-2 c = let P = c .before .before .before .before .before .before .before .
     let room = rows-of E (a .e) (X .some) (X .entry) .room in
     omega (arith, row-within E (a .e) (X .some) (X .entry) (L .i) (omega (arith, X .from, L .inv .0)) (omega (arith, l, X .until)), E .small)
 
-sub-emit-value : tie.Need-sub-emit-value Inv-loop μ-loop
-sub-emit-value c = search needs
-
-part-emit-value-start : tie.Need-part-emit-value-start Inv-loop μ-loop
-part-emit-value-start c = search needs
-
 part-emit-value-end : tie.Need-part-emit-value-end Inv-loop μ-loop
 part-emit-value-end c = let P = c .before .before .before .before .before .before .before .before .pre in
     let a = c .before .before .before .before .before .before .before .before .args in
@@ -137,9 +131,6 @@ add-i c = let P = c .before .before .before .before .before .before .before .bef
     let room = rows-of E (a .e) (X .some) (X .entry) .room in
     omega (arith, l, X .until, room)
 
-loop-less : tie.Need-loop-less Inv-loop μ-loop
-loop-less c = search needs
-
 loop-again : tie.Need-loop-again Inv-loop μ-loop
 loop-again c = let a = c .before .before .before .before .before .before .before .before .before .before .before .before .args in
     let L = c .before .before .before .before .before .before .before .before .loop in
@@ -156,9 +147,6 @@ loop-again c = let a = c .before .before .before .before .before .before .before
       search needs,
     )
 
-same-length : tie.Need-same-length Inv-loop μ-loop
-same-length c = search needs
-
 returns : tie.Need-returns Inv-loop μ-loop
 returns c = let a = c .before .before .before .before .before .args in
     let L = c .before .loop in
@@ -168,23 +156,5 @@ returns c = let a = c .before .before .before .before .before .args in
 pub emit-values-spec : {M : Type 1} → statement M
 emit-values-spec =
     tie.close
-    (tie.spec
-    Inv-loop
-    μ-loop
-    loop-holds
-    add-from
-    mul-from
-    element-copy-out-from
-    add-to
-    mul-to
-    element-copy-out-to
-    add-to-2
-    sub-emit-value
-    part-emit-value-start
-    part-emit-value-end
-    emit-value-requires
-    add-i
-    loop-less
-    loop-again
-    same-length
-    returns)
+    (tie.spec Inv-loop μ-loop loop-holds add-from mul-from element-copy-out-from add-to mul-to element-copy-out-to add-to-2 (λ c. search needs)
+    (λ c. search needs) part-emit-value-end emit-value-requires add-i (λ c. search needs) loop-again (λ c. search needs) returns)

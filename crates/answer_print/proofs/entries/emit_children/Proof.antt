@@ -27,20 +27,11 @@ abbrev μ-loop : tie.MeasureT-loop
 loop-holds : tie.Need-loop-holds Inv-loop μ-loop
 loop-holds c = let a = c .before .before .before .args in (omega arith, refl, omega arith, λ σ es held E. run-start (width (now (a .book))) (now (a .out)) (a .at) (childLines es) (now (a .hits)))
 
-mul-emit-child : tie.Need-mul-emit-child Inv-loop μ-loop
-mul-emit-child c = search needs
-
-shared-slice-read-emit-child : tie.Need-shared-slice-read-emit-child Inv-loop μ-loop
-shared-slice-read-emit-child c = search needs
-
 emit-child-requires : tie.Need-emit-child-requires Inv-loop μ-loop
 emit-child-requires c κs = let P = c .before .before .before .before .before .before .before .pre in let L = c .before .before .before .loop in let l = c .before .before .loop-test .taken in (P .0, omega (arith, L .inv .2, l, P .1, P .2), P .3 (L .i) l)
 
 add-i : tie.Need-add-i Inv-loop μ-loop
 add-i c = omega (arith, c .before .before .before .before .before .loop-test .taken, c .before .before .before .before .before .before .before .before .before .before .pre .2)
-
-loop-less : tie.Need-loop-less Inv-loop μ-loop
-loop-less c = search needs
 
 loop-again : tie.Need-loop-again Inv-loop μ-loop
 loop-again c = let a = c .before .before .before .before .before .before .before .before .before .before .args in
@@ -54,9 +45,6 @@ loop-again c = let a = c .before .before .before .before .before .before .before
           (child-by es (width (now (a .book))) (L .out) (L .next) (getD (now (a .hits)) (L .i) 0) (q .1 σ es held E)),
     )
 
-same-length : tie.Need-same-length Inv-loop μ-loop
-same-length c = search needs
-
 returns : tie.Need-returns Inv-loop μ-loop
 returns c = let a = c .before .before .before .before .before .args in
     let L = c .before .loop in
@@ -65,15 +53,5 @@ returns c = let a = c .before .before .before .before .before .args in
 pub emit-children-spec : {M : Type 1} → statement M
 emit-children-spec =
     tie.close
-    (tie.spec
-    Inv-loop
-    μ-loop
-    loop-holds
-    mul-emit-child
-    shared-slice-read-emit-child
-    emit-child-requires
-    add-i
-    loop-less
-    loop-again
-    same-length
-    returns)
+    (tie.spec Inv-loop μ-loop loop-holds (λ c. search needs) (λ c. search needs) emit-child-requires add-i (λ c. search needs) loop-again
+    (λ c. search needs) returns)

@@ -15,9 +15,6 @@ emit-entry-requires c κs = let P = c .before .before .before .before .pre in le
 emit-information-requires : tie.Need-emit-information-requires
 emit-information-requires c κs = let P = c .before .before .before .before .before .before .before .before .pre in (P .0, P .3, omega (arith, P .1, c .before .before .before .emit-entry .ensures .0))
 
-same-length : tie.Need-same-length
-same-length c = search needs
-
 returns : tie.Need-returns
 returns c = let a = c .before .before .before .before .before .before .before .before .before .before .before .args in
     let p = c .before .before .before .before .before .before .emit-entry .ensures in
@@ -26,4 +23,4 @@ returns c = let a = c .before .before .before .before .before .before .before .b
 
 pub emit-found-spec : {M : Type 1} → statement M
 emit-found-spec =
-    tie.close (tie.spec emit-entry-requires emit-information-requires same-length returns)
+    tie.close (tie.spec emit-entry-requires emit-information-requires (λ c. search needs) returns)

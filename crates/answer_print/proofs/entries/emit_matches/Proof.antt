@@ -29,12 +29,6 @@ abbrev μ-loop : tie.MeasureT-loop
 loop-holds : tie.Need-loop-holds Inv-loop μ-loop
 loop-holds c = let a = c .before .before .before .before .args in (omega arith, refl, omega arith, λ σ es s W C. run-start (width (now (a .book))) (now (a .out)) (a .at) (foundLines σ es s) (now (a .hits)))
 
-mul-e : tie.Need-mul-e Inv-loop μ-loop
-mul-e c = search needs
-
-shared-slice-read-e : tie.Need-shared-slice-read-e Inv-loop μ-loop
-shared-slice-read-e c = search needs
-
 add-e : tie.Need-add-e Inv-loop μ-loop
 add-e c = omega (arith, c .before .before .before .before .before .before .before .pre .3 (c .before .before .loop .i) (c .before .loop-test .taken), c .before .before .before .before .before .before .before .pre .0 .2 .entries .fits .few-entries)
 
@@ -48,9 +42,6 @@ emit-found-requires c κs = let P = c .before .before .before .before .before .b
 add-i : tie.Need-add-i Inv-loop μ-loop
 add-i c = omega (arith, c .before .before .before .before .before .loop-test .taken, c .before .before .before .before .before .before .before .before .before .before .before .pre .2)
 
-loop-less : tie.Need-loop-less Inv-loop μ-loop
-loop-less c = search needs
-
 loop-again : tie.Need-loop-again Inv-loop μ-loop
 loop-again c = let a = c .before .before .before .before .before .before .before .before .before .before .before .args in
     let L = c .before .before .before .before .before .before .loop in
@@ -63,9 +54,6 @@ loop-again c = let a = c .before .before .before .before .before .before .before
           (found-by σ es s (width (now (a .book))) (L .out) (L .next) (getD (now (a .hits)) (L .i) 0) (q .1 σ es s W C)),
     )
 
-same-length : tie.Need-same-length Inv-loop μ-loop
-same-length c = search needs
-
 returns : tie.Need-returns Inv-loop μ-loop
 returns c = let a = c .before .before .before .before .before .before .args in
     let L = c .before .loop in
@@ -74,16 +62,5 @@ returns c = let a = c .before .before .before .before .before .before .args in
 pub emit-matches-spec : {M : Type 1} → statement M
 emit-matches-spec =
     tie.close
-    (tie.spec
-    Inv-loop
-    μ-loop
-    loop-holds
-    mul-e
-    shared-slice-read-e
-    add-e
-    emit-found-requires
-    add-i
-    loop-less
-    loop-again
-    same-length
-    returns)
+    (tie.spec Inv-loop μ-loop loop-holds (λ c. search needs) (λ c. search needs) add-e emit-found-requires add-i (λ c. search needs) loop-again
+    (λ c. search needs) returns)

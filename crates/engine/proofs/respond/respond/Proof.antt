@@ -14,31 +14,12 @@ use Rattle.engine.specs.Laws.Respond.{numbered-of, base-of}
 use borrow.Author.Needs.{needs}
 use Rattle.engine.proofs.respond.respond.Statement.{statement}
 use Rattle.engine.proofs.respond.respond.Tie as tie
-use Rattle.engine.proofs.respond.respond.Reads as reads
-use Rattle.engine.proofs.respond.respond.Lts as lts
-use Rattle.answer_choice.proofs.choice_of.Reads as choice-of-reads
-use Rattle.answer_matched.proofs.matched.Reads as matched-reads
-use Rattle.answer_operation.proofs.plan_of.Reads as plan-of-reads
-use Rattle.answer_print.proofs.write.Reads as write-reads
-use Rattle.entry_lookup.proofs.find.resolve.Reads as resolve-reads
-
-resolve-requires : tie.Need-resolve-requires
-resolve-requires c κs = search needs
-
-matched-requires : tie.Need-matched-requires
-matched-requires c κs = search needs
-
-choice-of-requires : tie.Need-choice-of-requires
-choice-of-requires c κs = search needs
 
 plan-of-requires : tie.Need-plan-of-requires
 plan-of-requires c κs = let A = c .before .before .before .before .before .before .before .before .args in let b = now (A .book) in (c .before .before .before .before .before .before .before .before .pre .0, numbered-of (entries b) _ _ (c .before .before .before .resolve .ensures .0) (c .before .before .matched .ensures .0), search needs, c .before .before .before .before .before .before .before .before .pre .1)
 
 write-requires : tie.Need-write-requires
 write-requires c κs = (c .before .before .before .before .before .before .before .before .before .before .before .pre .0, c .before .before .plan-of .ensures .0)
-
-same-length : tie.Need-same-length
-same-length c = search needs
 
 returns : tie.Need-returns
 returns c = let A = c .before .before .before .before .before .before .before .before .before .before .before .before .before .before .args in let b = now (A .book) in λ σ es x w N.
@@ -52,11 +33,4 @@ returns c = let A = c .before .before .before .before .before .before .before .b
 pub respond-spec : {M : Type 1} → statement M
 respond-spec =
     tie.close
-    (tie.spec
-    resolve-requires
-    matched-requires
-    choice-of-requires
-    plan-of-requires
-    write-requires
-    same-length
-    returns)
+    (tie.spec (λ c κs. search needs) (λ c κs. search needs) (λ c κs. search needs) plan-of-requires write-requires (λ c. search needs) returns)

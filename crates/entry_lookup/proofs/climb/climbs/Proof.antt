@@ -6,8 +6,6 @@ use Rattle.entry_lookup.specs.Laws.Climb.{Climbing, climbing-start, clim
 use borrow.Author.Needs.{needs}
 use Rattle.entry_lookup.proofs.climb.climbs.Statement.{statement}
 use Rattle.entry_lookup.proofs.climb.climbs.Tie as tie
-use Rattle.entry_lookup.proofs.climb.climbs.Reads as reads
-use Rattle.entry_lookup.proofs.climb.climbs.Lts as lts
 
 abbrev Inv-loop : tie.InvT-loop
 Inv-loop book b e k₀ k = (k ≤ entries book) × Climbing book b e k
@@ -17,18 +15,6 @@ abbrev μ-loop : tie.MeasureT-loop
 
 loop-holds : tie.Need-loop-holds Inv-loop μ-loop
 loop-holds c = (c .pre .1, climbing-start _ _ _)
-
-sub-k : tie.Need-sub-k Inv-loop μ-loop
-sub-k c = search needs
-
-add-k : tie.Need-add-k Inv-loop μ-loop
-add-k c = search needs
-
-mul-k : tie.Need-mul-k Inv-loop μ-loop
-mul-k c = search needs
-
-element-copy-out-k : tie.Need-element-copy-out-k Inv-loop μ-loop
-element-copy-out-k c = search needs
 
 loop-less : tie.Need-loop-less Inv-loop μ-loop
 loop-less c = let L = c .before .before .loop in omega (arith, c .before .loop-test .taken, parent-falls (c .before .before .before .pre .0 .1 .3) (L .k - 1) (omega (arith, L .inv .0, c .before .loop-test .taken)))
@@ -43,14 +29,4 @@ returns c = let L = c .before .loop in climbing-end _ _ _ (L .k) (L .inv .0) (L 
 pub climbs-spec : {M : Type 1} → statement M
 climbs-spec =
     tie.close
-    (tie.spec
-    Inv-loop
-    μ-loop
-    loop-holds
-    sub-k
-    add-k
-    mul-k
-    element-copy-out-k
-    loop-less
-    loop-again
-    returns)
+    (tie.spec Inv-loop μ-loop loop-holds (λ c. search needs) (λ c. search needs) (λ c. search needs) (λ c. search needs) loop-less loop-again returns)

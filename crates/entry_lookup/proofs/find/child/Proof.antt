@@ -7,26 +7,6 @@ use Rattle.entry_lookup.specs.Laws.Find.{child-unknown}
 use borrow.Author.Needs.{needs}
 use Rattle.entry_lookup.proofs.find.child.Statement.{statement}
 use Rattle.entry_lookup.proofs.find.child.Tie as tie
-use Rattle.entry_lookup.proofs.find.child.Reads as reads
-use Rattle.entry_lookup.proofs.find.child.Lts as lts
-use Rattle.entry_lookup.proofs.find.child_by.Reads as child-by-reads
-use Rattle.name.proofs.syntax_of.Reads as syntax-of-reads
-use Rattle.tables.proofs.book.schema.Reads as schema-reads
-
-schema-requires : tie.Need-schema-requires
-schema-requires c κs = search needs
-
-syntax-of-requires : tie.Need-syntax-of-requires
-syntax-of-requires c κs = search needs
-
-enum-known-s : tie.Need-enum-known-s
-enum-known-s c = search needs
-
-child-by-requires : tie.Need-child-by-requires
-child-by-requires c κs = search needs
-
-enum-told : tie.Need-enum-told
-enum-told c = search needs
 
 returns : tie.Need-returns
 returns c = (c .child-by .ensures .0, λ σ es held h. c .child-by .ensures .1 σ es held h (sym (ap (λ (ks : List ℕ). syntaxIn ks (c .before .before .before .before .before .before .before .before .before .args .t)) (c .before .before .before .before .before .schema .ensures)) ∙ sym (c .before .before .before .before .syntax-of .ensures) ∙ c .before .before .s .given .1))
@@ -37,11 +17,4 @@ returns-2 c = (tt, λ σ es held h. child-unknown h (c .before .before .before .
 pub child-spec : {M : Type 1} → statement M
 child-spec =
     tie.close
-    (tie.spec
-    schema-requires
-    syntax-of-requires
-    enum-known-s
-    child-by-requires
-    enum-told
-    returns
-    returns-2)
+    (tie.spec (λ c κs. search needs) (λ c κs. search needs) (λ c. search needs) (λ c κs. search needs) (λ c. search needs) returns returns-2)

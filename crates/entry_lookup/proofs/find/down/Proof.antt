@@ -10,11 +10,6 @@ use Rattle.entry_lookup.specs.Laws.Find.{up-to, step-ended, step-found}
 use borrow.Author.Needs.{needs}
 use Rattle.entry_lookup.proofs.find.down.Statement.{statement}
 use Rattle.entry_lookup.proofs.find.down.Tie as tie
-use Rattle.entry_lookup.proofs.find.down.Reads as reads
-use Rattle.entry_lookup.proofs.find.down.Lts as lts
-use Rattle.entry_lookup.proofs.find.child.Reads as child-reads
-use Rattle.entry_lookup.proofs.names.part_at.Reads as part-at-reads
-use Rattle.sheet.proofs.value_at.Reads as value-at-reads
 
 -- a position within the sheet is a number of the machine
 room : (c : tie.After-part-at) → length (now (c .before .before .before .before .args .s)) < 18446744073709551616
@@ -24,12 +19,6 @@ room c = omega arith
 there : (c : tie.Else1) → let a = c .before .before .before .before .before .before .args in Parted (width (now (a .book))) (now (a .s)) (a .j) (a .n) (c .before .before .part-at .result)
 there c = let a = c .before .before .before .before .before .before .args in next-some (width (now (a .book))) (now (a .s)) (a .j) (a .n) _ (c .before .before .part-at .ensures) (not-false _ (c .if1 .left))
 
-element-copy-out-w : tie.Need-element-copy-out-w
-element-copy-out-w c = search needs
-
-part-at-requires : tie.Need-part-at-requires
-part-at-requires c κs = search needs
-
 returns : tie.Need-returns
 returns c = let a = c .before .before .before .before .before .before .args in
     (tt, λ σ es held h. sym (step-ended (σ .schema) es (a .from) (width (now (a .book))) (now (a .s)) (a .j) (a .n) _ (c .before .before .part-at .ensures) (not-true _ (c .if1 .taken))))
@@ -37,26 +26,11 @@ returns c = let a = c .before .before .before .before .before .before .args in
 value-at-requires : tie.Need-value-at-requires
 value-at-requires c κs = omega (arith, there c .within)
 
-child-requires : tie.Need-child-requires
-child-requires c κs = search needs
-
-enum-known-number : tie.Need-enum-known-number
-enum-known-number c = search needs
-
-mul-t17 : tie.Need-mul-t17
-mul-t17 c = search needs
-
-add-t18 : tie.Need-add-t18
-add-t18 c = search needs
-
 add-t19 : tie.Need-add-t19
 add-t19 c = omega (arith, there (c .before .before .before .before .before .before) .within, room (c .before .before .before .before .before .before .before .before))
 
 add-t20 : tie.Need-add-t20
 add-t20 c = omega (arith, there (c .before .before .before .before .before .before) .within, room (c .before .before .before .before .before .before .before .before))
-
-enum-told : tie.Need-enum-told
-enum-told c = search needs
 
 returns-2 : tie.Need-returns-2
 returns-2 c = let a = c .before .before .before .before .before .before .before .before .before .before .before .before .args in
@@ -69,17 +43,5 @@ returns-3 c = let a = c .before .before .before .before .before .before .before 
 pub down-spec : {M : Type 1} → statement M
 down-spec =
     tie.close
-    (tie.spec
-    element-copy-out-w
-    part-at-requires
-    returns
-    value-at-requires
-    child-requires
-    enum-known-number
-    mul-t17
-    add-t18
-    add-t19
-    add-t20
-    enum-told
-    returns-2
-    returns-3)
+    (tie.spec (λ c. search needs) (λ c κs. search needs) returns value-at-requires (λ c κs. search needs) (λ c. search needs) (λ c. search needs)
+    (λ c. search needs) add-t19 add-t20 (λ c. search needs) returns-2 returns-3)

@@ -8,48 +8,16 @@ use Rattle.entry_lookup.specs.Laws.Entry.{naming-within}
 use borrow.Author.Needs.{needs}
 use Rattle.entry_lookup.proofs.find.naming_value.Statement.{statement}
 use Rattle.entry_lookup.proofs.find.naming_value.Tie as tie
-use Rattle.entry_lookup.proofs.find.naming_value.Reads as reads
-use Rattle.entry_lookup.proofs.find.naming_value.Lts as lts
 
 -- the value ends within the directory
 within : (c : tie.After-from2) → getD (now (c .before .before .args .book)) (72 + c .before .before .args .k) 0 + 5 * width (now (c .before .before .args .book)) + getD (now (c .before .before .args .book)) (840 + c .before .before .args .k) 0 ≤ length (now (c .before .before .args .d))
 within c = naming-within (c .before .before .pre .0 .3) (c .before .before .args .k) (c .before .before .pre .1)
 
-add-from : tie.Need-add-from
-add-from c = search needs
-
-mul-from : tie.Need-mul-from
-mul-from c = search needs
-
-element-copy-out-from : tie.Need-element-copy-out-from
-element-copy-out-from c = search needs
-
-element-copy-out-from-2 : tie.Need-element-copy-out-from-2
-element-copy-out-from-2 c = search needs
-
-mul-from-2 : tie.Need-mul-from-2
-mul-from-2 c = search needs
-
 add-from-2 : tie.Need-add-from-2
 add-from-2 c = omega (arith, within c)
 
-add-n : tie.Need-add-n
-add-n c = search needs
-
-mul-n : tie.Need-mul-n
-mul-n c = search needs
-
-element-copy-out-n : tie.Need-element-copy-out-n
-element-copy-out-n c = search needs
-
 add-result : tie.Need-add-result
 add-result c = omega (arith, within (c .before))
-
-sub-result : tie.Need-sub-result
-sub-result c = search needs
-
-part-result-start : tie.Need-part-result-start
-part-result-start c = search needs
 
 part-result-end : tie.Need-part-result-end
 part-result-end c = omega (arith, within (c .before))
@@ -60,18 +28,5 @@ returns c = cut-part (now (c .before .before .before .before .args .d)) (getD (n
 pub naming-value-spec : {M : Type 1} → statement M
 naming-value-spec =
     tie.close
-    (tie.spec
-    add-from
-    mul-from
-    element-copy-out-from
-    element-copy-out-from-2
-    mul-from-2
-    add-from-2
-    add-n
-    mul-n
-    element-copy-out-n
-    add-result
-    sub-result
-    part-result-start
-    part-result-end
-    returns)
+    (tie.spec (λ c. search needs) (λ c. search needs) (λ c. search needs) (λ c. search needs) (λ c. search needs) add-from-2 (λ c. search needs)
+    (λ c. search needs) (λ c. search needs) add-result (λ c. search needs) (λ c. search needs) part-result-end returns)

@@ -4,9 +4,6 @@ use Rattle.entry_lookup.specs.Laws.Find.{within-of, Led, led-start, led-
 use borrow.Author.Needs.{needs}
 use Rattle.entry_lookup.proofs.find.resolve.Statement.{statement}
 use Rattle.entry_lookup.proofs.find.resolve.Tie as tie
-use Rattle.entry_lookup.proofs.find.resolve.Reads as reads
-use Rattle.entry_lookup.proofs.find.resolve.Lts as lts
-use Rattle.entry_lookup.proofs.find.down.Reads as down-reads
 
 abbrev Inv-loop : tie.InvT-loop
 Inv-loop book d s i n from₀ j₀ left₀ from j left = (from ≤ entries book) × Led book d s i n from j left
@@ -17,29 +14,11 @@ abbrev μ-loop : tie.MeasureT-loop
 loop-holds : tie.Need-loop-holds Inv-loop μ-loop
 loop-holds c = (zero-le, led-start _ _ _ _ _)
 
-down-requires : tie.Need-down-requires Inv-loop μ-loop
-down-requires c κs = search needs
-
-enum-known-number : tie.Need-enum-known-number Inv-loop μ-loop
-enum-known-number c = search needs
-
-sub-left : tie.Need-sub-left Inv-loop μ-loop
-sub-left c = search needs
-
-loop-less : tie.Need-loop-less Inv-loop μ-loop
-loop-less c = search needs
-
 loop-again : tie.Need-loop-again Inv-loop μ-loop
 loop-again c = let L = c .before .before .before .before .before .loop in (within-of _ _ _ _ (c .before .before .before .down .ensures .0) (c .before .number .given .1), led-on _ _ _ _ _ (L .from) (L .j) (L .left) (L .inv .1) _ (c .before .before .before .down .ensures .1) _ _ (c .before .number .given .1))
 
-enum-told : tie.Need-enum-told Inv-loop μ-loop
-enum-told c = search needs
-
 returns : tie.Need-returns Inv-loop μ-loop
 returns c = let L = c .before .before .before .before .loop in (tt, led-lost _ _ _ _ _ (L .from) (L .j) (L .left) (L .inv .1) _ (c .before .before .down .ensures .1) (c .enum-told .given .1))
-
-enum-told-2 : tie.Need-enum-told-2 Inv-loop μ-loop
-enum-told-2 c = search needs
 
 returns-2 : tie.Need-returns-2 Inv-loop μ-loop
 returns-2 c = let L = c .before .before .before .before .loop in (L .inv .0, led-ended _ _ _ _ _ (L .from) (L .j) (L .left) (L .inv .1) _ (c .before .before .down .ensures .1) (c .enum-told2 .given .1))
@@ -50,17 +29,5 @@ returns-3 c = let L = c .before .loop in (L .inv .0, led-end _ _ _ _ _ (L .from)
 pub resolve-spec : {M : Type 1} → statement M
 resolve-spec =
     tie.close
-    (tie.spec
-    Inv-loop
-    μ-loop
-    loop-holds
-    down-requires
-    enum-known-number
-    sub-left
-    loop-less
-    loop-again
-    enum-told
-    returns
-    enum-told-2
-    returns-2
-    returns-3)
+    (tie.spec Inv-loop μ-loop loop-holds (λ c κs. search needs) (λ c. search needs) (λ c. search needs) (λ c. search needs) loop-again
+    (λ c. search needs) returns (λ c. search needs) returns-2 returns-3)

@@ -13,12 +13,6 @@ use Rattle.entry_lookup.specs.Laws.Names.{Parted, next-none, next-some, 
 use borrow.Author.Needs.{needs}
 use Rattle.entry_lookup.proofs.names.covers.Statement.{statement}
 use Rattle.entry_lookup.proofs.names.covers.Tie as tie
-use Rattle.entry_lookup.proofs.names.covers.Reads as reads
-use Rattle.entry_lookup.proofs.names.covers.Lts as lts
-use Rattle.entry_lookup.proofs.names.part_at.Reads as part-at-reads
-use Rattle.entry_lookup.proofs.names.same_part.Reads as same-part-reads
-use Rattle.sheet.proofs.value_at.Reads as value-at-reads
-use Rattle.tables.proofs.book.schema.Reads as schema-reads
 
 abbrev Inv-loop : tie.InvT-loop
 Inv-loop book s i n t j m types w step k₀ l₀ a₀ b₀ k l a b = (length s < 18446744073709551616) × (length t < 18446744073709551616)
@@ -52,30 +46,12 @@ same : (c : tie.After-same-part Inv-loop μ-loop) → let a = c .before .before 
 same c = c .same-part .ensures
     ∙ ap₂ (λ (v u : Bytes). samePart (schemaOf (now (c .before .before .before .before .before .before .before .before .before .before .before .before .schema .result))) (part (c .before .before .before .before .before .before .before .before .part-at .result .of) v) (part (c .before .before .before .before .before .part-at2 .result .of) u)) (c .before .before .value-at .ensures) (c .before .value-at2 .ensures)
 
-schema-requires : tie.Need-schema-requires Inv-loop μ-loop
-schema-requires c κs = search needs
-
-element-copy-out-w : tie.Need-element-copy-out-w Inv-loop μ-loop
-element-copy-out-w c = search needs
-
-mul-step : tie.Need-mul-step Inv-loop μ-loop
-mul-step c = search needs
-
-add-step : tie.Need-add-step Inv-loop μ-loop
-add-step c = search needs
-
 loop-holds : tie.Need-loop-holds Inv-loop μ-loop
 loop-holds c = (omega arith, omega arith, ap (λ (ks : List ℕ). covers (schemaOf ks) (partsOf (c .before .before .before .before .before .args .n) (linesAt (width (now (c .before .before .before .before .before .args .book))) (now (c .before .before .before .before .before .args .s)) (c .before .before .before .before .before .args .i))) (partsOf (c .before .before .before .before .before .args .m) (linesAt (width (now (c .before .before .before .before .before .args .book))) (now (c .before .before .before .before .before .args .t)) (c .before .before .before .before .before .args .j)))) (c .before .schema .ensures))
-
-part-at-requires : tie.Need-part-at-requires Inv-loop μ-loop
-part-at-requires c κs = search needs
 
 returns : tie.Need-returns Inv-loop μ-loop
 returns c = let a = c .before .before .before .before .before .before .before .before .before .before .args in let L = c .before .before .before .before .loop in
     sym (covers-all (schemaOf (now (c .before .before .before .before .before .before .schema .result))) _ (partsOf (L .b) (linesAt (width (now (a .book))) (now (a .t)) (L .l))) (next-none (width (now (a .book))) (now (a .s)) (L .k) (L .a) _ (c .before .before .part-at .ensures) (not-true _ (c .if1 .taken)))) ∙ L .inv .2
-
-part-at-requires-2 : tie.Need-part-at-requires-2 Inv-loop μ-loop
-part-at-requires-2 c κs = search needs
 
 returns-2 : tie.Need-returns-2 Inv-loop μ-loop
 returns-2 c = let a = c .before .before .before .before .before .before .before .before .before .before .before .before .before .args in let L = c .before .before .before .before .before .before .before .loop in let X = first (c .before .before .before) in
@@ -86,9 +62,6 @@ value-at-requires c κs = let X = first (c .before .before .before) in omega (ar
 
 value-at-requires-2 : tie.Need-value-at-requires-2 Inv-loop μ-loop
 value-at-requires-2 c κs = let Y = second (c .before) in omega (arith, Y .within)
-
-same-part-requires : tie.Need-same-part-requires Inv-loop μ-loop
-same-part-requires c κs = search needs
 
 returns-3 : tie.Need-returns-3 Inv-loop μ-loop
 returns-3 c = let L = c .before .before .before .before .before .before .before .before .before .before .before .loop in sym (covers-apart (schemaOf (now (c .before .before .before .before .before .before .before .before .before .before .before .before .before .schema .result))) _ _ _ _ (first (c .before .before .before .before .before .before .before) .parts) _ _ (second (c .before .before .before .before) .parts) (sym (same (c .before)) ∙ not-true _ (c .if3 .taken))) ∙ L .inv .2
@@ -105,14 +78,8 @@ add-l c = let Y = second (c .before .before .before .before .before .before) in 
 add-l-2 : tie.Need-add-l-2 Inv-loop μ-loop
 add-l-2 c = let Y = second (c .before .before .before .before .before .before) in omega (arith, Y .within, c .before .before .before .before .before .before .before .before .before .before .before .before .before .loop .inv .1)
 
-sub-a : tie.Need-sub-a Inv-loop μ-loop
-sub-a c = search needs
-
 sub-b : tie.Need-sub-b Inv-loop μ-loop
 sub-b c = let Y = second (c .before .before .before .before .before .before) in omega (arith, Y .more)
-
-loop-less : tie.Need-loop-less Inv-loop μ-loop
-loop-less c = search needs
 
 loop-again : tie.Need-loop-again Inv-loop μ-loop
 loop-again c = let L = c .before .before .before .before .before .before .before .before .before .before .before .before .before .loop in (L .inv .0, L .inv .1, sym (covers-on (schemaOf (now (c .before .before .before .before .before .before .before .before .before .before .before .before .before .before .before .schema .result))) _ _ _ _ (first (c .before .before .before .before .before .before .before .before .before) .parts) _ _ (second (c .before .before .before .before .before .before) .parts) (sym (same (c .before .before .before)) ∙ not-false _ (c .before .before .if3 .left))) ∙ L .inv .2)
@@ -124,28 +91,6 @@ returns-4 c = let a = c .before .before .before .before .before .before .before 
 pub covers-spec : {M : Type 1} → statement M
 covers-spec =
     tie.close
-    (tie.spec
-    Inv-loop
-    μ-loop
-    schema-requires
-    element-copy-out-w
-    mul-step
-    add-step
-    loop-holds
-    part-at-requires
-    returns
-    part-at-requires-2
-    returns-2
-    value-at-requires
-    value-at-requires-2
-    same-part-requires
-    returns-3
-    add-k
-    add-k-2
-    add-l
-    add-l-2
-    sub-a
-    sub-b
-    loop-less
-    loop-again
-    returns-4)
+    (tie.spec Inv-loop μ-loop (λ c κs. search needs) (λ c. search needs) (λ c. search needs) (λ c. search needs) loop-holds (λ c κs. search needs)
+    returns (λ c κs. search needs) returns-2 value-at-requires value-at-requires-2 (λ c κs. search needs) returns-3 add-k add-k-2 add-l add-l-2
+    (λ c. search needs) sub-b (λ c. search needs) loop-again returns-4)

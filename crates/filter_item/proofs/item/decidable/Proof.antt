@@ -6,13 +6,6 @@ use Rattle.filter_item.specs.Items.{definedBy}
 use borrow.Author.Needs.{needs}
 use Rattle.filter_item.proofs.item.decidable.Statement.{statement}
 use Rattle.filter_item.proofs.item.decidable.Tie as tie
-use Rattle.filter_item.proofs.item.decidable.Reads as reads
-use Rattle.filter_item.proofs.item.decidable.Lts as lts
-use Rattle.filter_item.proofs.item.defined.Reads as defined-reads
-use Rattle.filter_item.proofs.seen.in_word.Reads as in-word-reads
-
-in-word-requires : tie.Need-in-word-requires
-in-word-requires c κs = search needs
 
 defined-requires : tie.Need-defined-requires
 defined-requires c κs = (c .before .before .before .pre .1, c .before .before .before .pre .2)
@@ -24,4 +17,4 @@ returns-2 : tie.Need-returns-2
 returns-2 c = ap (λ (b : Bool). b && definedBy (c .before .before .before .args .s) (kindAt (now (c .before .before .before .args .rows)) (c .before .before .before .args .k)) (piecesAt (c .before .before .before .args .w) (now (c .before .before .before .args .q)) (now (c .before .before .before .args .rows)) (c .before .before .before .args .k)) (valueAt (c .before .before .before .args .w) (now (c .before .before .before .args .q)) (now (c .before .before .before .args .rows)) (c .before .before .before .args .k))) (sym (c .if1 .left) ∙ c .before .in-word .ensures)
 
 pub decidable-spec : {M : Type 1} → statement M
-decidable-spec = tie.close (tie.spec in-word-requires defined-requires returns returns-2)
+decidable-spec = tie.close (tie.spec (λ c κs. search needs) defined-requires returns returns-2)

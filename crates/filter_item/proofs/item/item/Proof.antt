@@ -13,32 +13,9 @@ use Rattle.filter_item.specs.Laws.Entry.{item-beyond, item-undecidable, 
 use borrow.Author.Needs.{needs}
 use Rattle.filter_item.proofs.item.item.Statement.{statement}
 use Rattle.filter_item.proofs.item.item.Tie as tie
-use Rattle.filter_item.proofs.item.item.Reads as reads
-use Rattle.filter_item.proofs.item.item.Lts as lts
-use Rattle.filter_item.proofs.item.decidable.Reads as decidable-reads
-use Rattle.filter_item.proofs.item.satisfied.Reads as satisfied-reads
-use Rattle.filter_lines.proofs.truth.truth_of.Reads as truth-of-reads
-
-mul-rank : tie.Need-mul-rank
-mul-rank c = search needs
-
-add-rank : tie.Need-add-rank
-add-rank c = search needs
-
-mul-rank-2 : tie.Need-mul-rank-2
-mul-rank-2 c = search needs
-
-element-copy-out-rank : tie.Need-element-copy-out-rank
-element-copy-out-rank c = search needs
-
-element-copy-out-if1 : tie.Need-element-copy-out-if1
-element-copy-out-if1 c = search needs
 
 returns : tie.Need-returns
 returns c = λ σ es asked e s w. item-beyond σ es (now (c .before .before .before .before .before .args .d)) (now (c .before .before .before .before .before .args .book)) (now (c .before .before .before .before .before .args .held)) e (c .before .before .before .before .before .args .k) (omega (arith, c .before .before .before .before .before .pre .1, e .count)) (kindAt (now (c .before .before .before .before .before .args .rows)) (c .before .before .before .before .before .args .line)) (firstAt (now (c .before .before .before .before .before .args .rows)) (c .before .before .before .before .before .args .line)) (placeAt (now (c .before .before .before .before .before .args .rows)) (c .before .before .before .before .before .args .line)) (valueAt (width (now (c .before .before .before .before .before .args .book))) (now (c .before .before .before .before .before .args .q)) (now (c .before .before .before .before .before .args .rows)) (c .before .before .before .before .before .args .line)) (piecesAt (width (now (c .before .before .before .before .before .args .book))) (now (c .before .before .before .before .before .args .q)) (now (c .before .before .before .before .before .args .rows)) (c .before .before .before .before .before .args .line)) (c .before .before .before .before .before .pre .3 .placed (c .before .before .before .before .before .args .line) (c .before .before .before .before .before .pre .4)) (c .if1 .taken)
-
-element-copy-out-w : tie.Need-element-copy-out-w
-element-copy-out-w c = search needs
 
 add-s : tie.Need-add-s
 add-s c = omega (arith, c .before .if1 .left, (c .before .before .before .before .before .before .pre .0 .2 .fits) .few-types)
@@ -73,9 +50,6 @@ element-copy-out-t39 c = omega (arith, c .before .before .before .before .before
 satisfied-requires : tie.Need-satisfied-requires
 satisfied-requires c κs = (rows-within (c .before .before .before .before .before .before .before .before .before .before .before .pre .0 .2) (c .before .before .before .before .before .before .before .before .before .before .before .args .k) (c .before .before .before .before .before .before .before .before .before .before .before .pre .1), c .before .before .before .before .before .before .before .before .before .before .before .pre .2, c .before .before .before .before .before .before .before .before .before .before .before .pre .4)
 
-truth-of-requires : tie.Need-truth-of-requires
-truth-of-requires c κs = search needs
-
 returns-2 : tie.Need-returns-2
 returns-2 c = λ σ es asked e s w. c .truth-of .ensures ∙ ap truth (c .before .satisfied .ensures) ∙ ap (λ (x : ℕ). truth (satisfiedIn (now (c .before .before .before .before .before .before .before .before .before .before .before .before .before .args .d)) (now (c .before .before .before .before .before .before .before .before .before .before .before .before .before .args .held)) (now (c .before .before .before .before .before .before .before .before .before .before .before .before .before .args .values)) (Book.firstAt (now (c .before .before .before .before .before .before .before .before .before .before .before .before .before .args .book)) (c .before .before .before .before .before .before .before .before .before .before .before .before .before .args .k)) x (placeAt (now (c .before .before .before .before .before .before .before .before .before .before .before .before .before .args .rows)) (c .before .before .before .before .before .before .before .before .before .before .before .before .before .args .line)) (getD (now (c .before .before .before .before .before .before .before .before .before .before .before .before .before .args .book)) (8 + placeAt (now (c .before .before .before .before .before .before .before .before .before .before .before .before .before .args .rows)) (c .before .before .before .before .before .before .before .before .before .before .before .before .before .args .line)) 0 % 4) (kindAt (now (c .before .before .before .before .before .before .before .before .before .before .before .before .before .args .rows)) (c .before .before .before .before .before .before .before .before .before .before .before .before .before .args .line)) (piecesAt (width (now (c .before .before .before .before .before .before .before .before .before .before .before .before .before .args .book))) (now (c .before .before .before .before .before .before .before .before .before .before .before .before .before .args .q)) (now (c .before .before .before .before .before .before .before .before .before .before .before .before .before .args .rows)) (c .before .before .before .before .before .before .before .before .before .before .before .before .before .args .line)) (valueAt (width (now (c .before .before .before .before .before .before .before .before .before .before .before .before .before .args .book))) (now (c .before .before .before .before .before .before .before .before .before .before .before .before .before .args .q)) (now (c .before .before .before .before .before .before .before .before .before .before .before .before .before .args .rows)) (c .before .before .before .before .before .before .before .before .before .before .before .before .before .args .line)))) (end-at (now (c .before .before .before .before .before .before .before .before .before .before .before .before .before .args .book)) (c .before .before .before .before .before .before .before .before .before .before .before .before .before .args .k)) ∙ item-told σ es (now (c .before .before .before .before .before .before .before .before .before .before .before .before .before .args .d)) (now (c .before .before .before .before .before .before .before .before .before .before .before .before .before .args .book)) (now (c .before .before .before .before .before .before .before .before .before .before .before .before .before .args .held)) e (c .before .before .before .before .before .before .before .before .before .before .before .before .before .args .k) (omega (arith, c .before .before .before .before .before .before .before .before .before .before .before .before .before .pre .1, e .count)) (kindAt (now (c .before .before .before .before .before .before .before .before .before .before .before .before .before .args .rows)) (c .before .before .before .before .before .before .before .before .before .before .before .before .before .args .line)) (firstAt (now (c .before .before .before .before .before .before .before .before .before .before .before .before .before .args .rows)) (c .before .before .before .before .before .before .before .before .before .before .before .before .before .args .line)) (placeAt (now (c .before .before .before .before .before .before .before .before .before .before .before .before .before .args .rows)) (c .before .before .before .before .before .before .before .before .before .before .before .before .before .args .line)) (valueAt (width (now (c .before .before .before .before .before .before .before .before .before .before .before .before .before .args .book))) (now (c .before .before .before .before .before .before .before .before .before .before .before .before .before .args .q)) (now (c .before .before .before .before .before .before .before .before .before .before .before .before .before .args .rows)) (c .before .before .before .before .before .before .before .before .before .before .before .before .before .args .line)) (piecesAt (width (now (c .before .before .before .before .before .before .before .before .before .before .before .before .before .args .book))) (now (c .before .before .before .before .before .before .before .before .before .before .before .before .before .args .q)) (now (c .before .before .before .before .before .before .before .before .before .before .before .before .before .args .rows)) (c .before .before .before .before .before .before .before .before .before .before .before .before .before .args .line)) (c .before .before .before .before .before .before .before .before .before .before .before .before .before .pre .3 .placed (c .before .before .before .before .before .before .before .before .before .before .before .before .before .args .line) (c .before .before .before .before .before .before .before .before .before .before .before .before .before .pre .4)) (c .before .before .before .before .before .before .before .before .if1 .left) asked (c .before .before .before .before .before .before .before .before .before .before .before .before .before .args .types) (now (c .before .before .before .before .before .before .before .before .before .before .before .before .before .args .values)) s (w (c .before .before .before .before .before .before .before .before .if1 .left)) (sym (c .before .before .before .before .before .decidable .ensures) ∙ c .before .before .before .before .if2 .taken)
 
@@ -85,25 +59,6 @@ returns-3 c = λ σ es asked e s w. item-undecidable σ es (now (c .before .befo
 pub item-spec : {M : Type 1} → statement M
 item-spec =
     tie.close
-    (tie.spec
-    mul-rank
-    add-rank
-    mul-rank-2
-    element-copy-out-rank
-    element-copy-out-if1
-    returns
-    element-copy-out-w
-    add-s
-    mul-s
-    element-copy-out-s
-    decidable-requires
-    add-t29
-    mul-t30
-    element-copy-out-t33
-    add-t35
-    mul-t36
-    element-copy-out-t39
-    satisfied-requires
-    truth-of-requires
-    returns-2
-    returns-3)
+    (tie.spec (λ c. search needs) (λ c. search needs) (λ c. search needs) (λ c. search needs) (λ c. search needs) returns (λ c. search needs) add-s
+    mul-s element-copy-out-s decidable-requires add-t29 mul-t30 element-copy-out-t33 add-t35 mul-t36 element-copy-out-t39 satisfied-requires
+    (λ c κs. search needs) returns-2 returns-3)

@@ -7,22 +7,6 @@ use Rattle.filter_item.specs.Laws.Items.{satisfied-present, satisfied-eq
 use borrow.Author.Needs.{needs}
 use Rattle.filter_item.proofs.item.satisfied.Statement.{statement}
 use Rattle.filter_item.proofs.item.satisfied.Tie as tie
-use Rattle.filter_item.proofs.item.satisfied.Reads as reads
-use Rattle.filter_item.proofs.item.satisfied.Lts as lts
-use Rattle.filter_item.proofs.rows.holds.Reads as holds-reads
-use Rattle.filter_item.proofs.rows.some_containing.Reads as some-containing-reads
-use Rattle.filter_item.proofs.rows.some_equal.Reads as some-equal-reads
-use Rattle.filter_item.proofs.rows.some_ordered.Reads as some-ordered-reads
-use Rattle.filter_lines.proofs.lines.value_of.Reads as value-of-reads
-
-mul-kind : tie.Need-mul-kind
-mul-kind c = search needs
-
-mul-kind-2 : tie.Need-mul-kind-2
-mul-kind-2 c = search needs
-
-element-copy-out-kind : tie.Need-element-copy-out-kind
-element-copy-out-kind c = search needs
 
 holds-requires : tie.Need-holds-requires
 holds-requires c κs = c .before .before .before .before .pre .0 .room
@@ -33,26 +17,14 @@ returns c = c .holds .ensures ∙ satisfied-present (c .before .before .before .
 value-of-requires : tie.Need-value-of-requires
 value-of-requires c κs = let h = c .before .before .before .before .before .pre .1 in let l = c .before .before .before .before .before .pre .2 in (omega (arith, l, h .room), line-fits (h .line (c .before .before .before .before .before .args .k) l))
 
-some-equal-requires : tie.Need-some-equal-requires
-some-equal-requires c κs = search needs
-
 returns-2 : tie.Need-returns-2
 returns-2 c = c .some-equal .ensures ∙ satisfied-equality (c .before .before .before .before .before .before .before .before .args .s) (kindAt (now (c .before .before .before .before .before .before .before .before .args .rows)) (c .before .before .before .before .before .before .before .before .args .k)) (piecesAt (c .before .before .before .before .before .before .before .before .args .w) (now (c .before .before .before .before .before .before .before .before .args .q)) (now (c .before .before .before .before .before .before .before .before .args .rows)) (c .before .before .before .before .before .before .before .before .args .k)) (valueAt (c .before .before .before .before .before .before .before .before .args .w) (now (c .before .before .before .before .before .before .before .before .args .q)) (now (c .before .before .before .before .before .before .before .before .args .rows)) (c .before .before .before .before .before .before .before .before .args .k)) _ (c .before .before .value-of .ensures) (now (c .before .before .before .before .before .before .before .before .args .d)) (now (c .before .before .before .before .before .before .before .before .args .held)) (now (c .before .before .before .before .before .before .before .before .args .values)) (c .before .before .before .before .before .before .before .before .args .sought .first) (c .before .before .before .before .before .before .before .before .args .sought .end) (c .before .before .before .before .before .before .before .before .args .sought .rank) (c .before .if2 .taken)
-
-some-ordered-requires : tie.Need-some-ordered-requires
-some-ordered-requires c κs = search needs
 
 returns-3 : tie.Need-returns-3
 returns-3 c = c .some-ordered .ensures ∙ satisfied-least (c .before .before .before .before .before .before .before .before .before .args .s) (kindAt (now (c .before .before .before .before .before .before .before .before .before .args .rows)) (c .before .before .before .before .before .before .before .before .before .args .k)) (piecesAt (c .before .before .before .before .before .before .before .before .before .args .w) (now (c .before .before .before .before .before .before .before .before .before .args .q)) (now (c .before .before .before .before .before .before .before .before .before .args .rows)) (c .before .before .before .before .before .before .before .before .before .args .k)) (valueAt (c .before .before .before .before .before .before .before .before .before .args .w) (now (c .before .before .before .before .before .before .before .before .before .args .q)) (now (c .before .before .before .before .before .before .before .before .before .args .rows)) (c .before .before .before .before .before .before .before .before .before .args .k)) _ (c .before .before .before .value-of .ensures) (now (c .before .before .before .before .before .before .before .before .before .args .d)) (now (c .before .before .before .before .before .before .before .before .before .args .held)) (now (c .before .before .before .before .before .before .before .before .before .args .values)) (c .before .before .before .before .before .before .before .before .before .args .sought .first) (c .before .before .before .before .before .before .before .before .before .args .sought .end) (c .before .before .before .before .before .before .before .before .before .args .sought .rank) (c .before .if3 .taken)
 
-some-ordered-requires-2 : tie.Need-some-ordered-requires-2
-some-ordered-requires-2 c κs = search needs
-
 returns-4 : tie.Need-returns-4
 returns-4 c = c .some-ordered2 .ensures ∙ satisfied-most (c .before .before .before .before .before .before .before .before .before .before .args .s) (kindAt (now (c .before .before .before .before .before .before .before .before .before .before .args .rows)) (c .before .before .before .before .before .before .before .before .before .before .args .k)) (piecesAt (c .before .before .before .before .before .before .before .before .before .before .args .w) (now (c .before .before .before .before .before .before .before .before .before .before .args .q)) (now (c .before .before .before .before .before .before .before .before .before .before .args .rows)) (c .before .before .before .before .before .before .before .before .before .before .args .k)) (valueAt (c .before .before .before .before .before .before .before .before .before .before .args .w) (now (c .before .before .before .before .before .before .before .before .before .before .args .q)) (now (c .before .before .before .before .before .before .before .before .before .before .args .rows)) (c .before .before .before .before .before .before .before .before .before .before .args .k)) _ (c .before .before .before .before .value-of .ensures) (now (c .before .before .before .before .before .before .before .before .before .before .args .d)) (now (c .before .before .before .before .before .before .before .before .before .before .args .held)) (now (c .before .before .before .before .before .before .before .before .before .before .args .values)) (c .before .before .before .before .before .before .before .before .before .before .args .sought .first) (c .before .before .before .before .before .before .before .before .before .before .args .sought .end) (c .before .before .before .before .before .before .before .before .before .before .args .sought .rank) (c .before .if4 .taken)
-
-some-containing-requires : tie.Need-some-containing-requires
-some-containing-requires c κs = search needs
 
 returns-5 : tie.Need-returns-5
 returns-5 c = c .some-containing .ensures ∙ satisfied-pieces (c .before .before .before .before .before .before .before .before .before .before .args .s) (kindAt (now (c .before .before .before .before .before .before .before .before .before .before .args .rows)) (c .before .before .before .before .before .before .before .before .before .before .args .k)) (piecesAt (c .before .before .before .before .before .before .before .before .before .before .args .w) (now (c .before .before .before .before .before .before .before .before .before .before .args .q)) (now (c .before .before .before .before .before .before .before .before .before .before .args .rows)) (c .before .before .before .before .before .before .before .before .before .before .args .k)) (valueAt (c .before .before .before .before .before .before .before .before .before .before .args .w) (now (c .before .before .before .before .before .before .before .before .before .before .args .q)) (now (c .before .before .before .before .before .before .before .before .before .before .args .rows)) (c .before .before .before .before .before .before .before .before .before .before .args .k)) (valueAt (c .before .before .before .before .before .before .before .before .before .before .args .w) (now (c .before .before .before .before .before .before .before .before .before .before .args .q)) (now (c .before .before .before .before .before .before .before .before .before .before .args .rows)) (c .before .before .before .before .before .before .before .before .before .before .args .k)) refl (now (c .before .before .before .before .before .before .before .before .before .before .args .d)) (now (c .before .before .before .before .before .before .before .before .before .before .args .held)) (now (c .before .before .before .before .before .before .before .before .before .before .args .values)) (c .before .before .before .before .before .before .before .before .before .before .args .sought .first) (c .before .before .before .before .before .before .before .before .before .before .args .sought .end) (c .before .before .before .before .before .before .before .before .before .before .args .sought .rank) (c .before .before .before .if2 .left) (c .before .before .if3 .left) (c .before .if4 .left) (c .before .before .before .before .before .before .if1 .left)
@@ -60,18 +32,5 @@ returns-5 c = c .some-containing .ensures ∙ satisfied-pieces (c .before .befor
 pub satisfied-spec : {M : Type 1} → statement M
 satisfied-spec =
     tie.close
-    (tie.spec
-    mul-kind
-    mul-kind-2
-    element-copy-out-kind
-    holds-requires
-    returns
-    value-of-requires
-    some-equal-requires
-    returns-2
-    some-ordered-requires
-    returns-3
-    some-ordered-requires-2
-    returns-4
-    some-containing-requires
-    returns-5)
+    (tie.spec (λ c. search needs) (λ c. search needs) (λ c. search needs) holds-requires returns value-of-requires (λ c κs. search needs) returns-2
+    (λ c κs. search needs) returns-3 (λ c κs. search needs) returns-4 (λ c κs. search needs) returns-5)

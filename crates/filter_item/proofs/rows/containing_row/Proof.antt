@@ -9,35 +9,12 @@ use Rattle.tables.specs.Held.{bytesAt}
 use borrow.Author.Needs.{needs}
 use Rattle.filter_item.proofs.rows.containing_row.Statement.{statement}
 use Rattle.filter_item.proofs.rows.containing_row.Tie as tie
-use Rattle.filter_item.proofs.rows.containing_row.Reads as reads
-use Rattle.filter_item.proofs.rows.containing_row.Lts as lts
-use Rattle.filter_item.proofs.rows.bytes_of.Reads as bytes-of-reads
-use Rattle.filter_item.proofs.rows.seen_row.Reads as seen-row-reads
-use Rattle.filter_lines.proofs.pieces.substrings.Reads as substrings-reads
 
 seen-row-requires : tie.Need-seen-row-requires
 seen-row-requires c κs = let r = c .before .before .pre .0 .room in (c .before .before .pre .1, omega (arith, r, c .before .before .pre .2))
 
-add-substrings : tie.Need-add-substrings
-add-substrings c = search needs
-
-mul-substrings : tie.Need-mul-substrings
-mul-substrings c = search needs
-
-add-substrings-2 : tie.Need-add-substrings-2
-add-substrings-2 c = search needs
-
-mul-substrings-2 : tie.Need-mul-substrings-2
-mul-substrings-2 c = search needs
-
-element-copy-out-substrings : tie.Need-element-copy-out-substrings
-element-copy-out-substrings c = search needs
-
 bytes-of-requires : tie.Need-bytes-of-requires
 bytes-of-requires c κs = let r = c .before .before .before .before .before .before .pre .0 .room in (omega (arith, r, c .before .before .before .before .before .before .pre .2), c .before .before .before .before .before .before .pre .0 .part (c .before .before .before .before .before .before .args .i) (c .before .before .before .before .before .before .pre .1) (c .before .before .before .before .before .before .pre .2))
-
-substrings-requires : tie.Need-substrings-requires
-substrings-requires c κs = search needs
 
 returns : tie.Need-returns
 returns c = c .substrings .ensures ∙ ap (λ (u : Bytes). contains text (piecesAt (c .before .before .before .before .before .before .before .before .args .w) (now (c .before .before .before .before .before .before .before .before .args .q)) (now (c .before .before .before .before .before .before .before .before .args .rows)) (c .before .before .before .before .before .before .before .before .args .k)) u) (c .before .bytes-of .ensures) ∙ ap (λ (b : Bool). b && contains text (piecesAt (c .before .before .before .before .before .before .before .before .args .w) (now (c .before .before .before .before .before .before .before .before .args .q)) (now (c .before .before .before .before .before .before .before .before .args .rows)) (c .before .before .before .before .before .before .before .before .args .k)) (bytesAt (now (c .before .before .before .before .before .before .before .before .args .d)) (now (c .before .before .before .before .before .before .before .before .args .held)) (c .before .before .before .before .before .before .before .before .args .i))) (sym (c .before .before .before .before .if1 .taken) ∙ c .before .before .before .before .before .seen-row .ensures)
@@ -48,14 +25,5 @@ returns-2 c = ap (λ (b : Bool). b && contains text (piecesAt (c .before .before
 pub containing-row-spec : {M : Type 1} → statement M
 containing-row-spec =
     tie.close
-    (tie.spec
-    seen-row-requires
-    add-substrings
-    mul-substrings
-    add-substrings-2
-    mul-substrings-2
-    element-copy-out-substrings
-    bytes-of-requires
-    substrings-requires
-    returns
-    returns-2)
+    (tie.spec seen-row-requires (λ c. search needs) (λ c. search needs) (λ c. search needs) (λ c. search needs) (λ c. search needs) bytes-of-requires
+    (λ c κs. search needs) returns returns-2)

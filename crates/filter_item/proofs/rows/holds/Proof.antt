@@ -9,8 +9,6 @@ use Rattle.filter_item.specs.Laws.Rows.{some-here, some-on, some-end}
 use borrow.Author.Needs.{needs}
 use Rattle.filter_item.proofs.rows.holds.Statement.{statement}
 use Rattle.filter_item.proofs.rows.holds.Tie as tie
-use Rattle.filter_item.proofs.rows.holds.Reads as reads
-use Rattle.filter_item.proofs.rows.holds.Lts as lts
 
 abbrev Inv-loop : tie.InvT-loop
 Inv-loop held rank end i₀ i = someFrom (λ j. eqb (rankAt held j) rank) i (end - i) ≡ heldRow held i₀ end rank
@@ -22,20 +20,8 @@ loop-holds : tie.Need-loop-holds Inv-loop μ-loop
 unfolding heldRow
 loop-holds c = refl
 
-mul-if1 : tie.Need-mul-if1 Inv-loop μ-loop
-mul-if1 c = search needs
-
-element-copy-out-if1 : tie.Need-element-copy-out-if1 Inv-loop μ-loop
-element-copy-out-if1 c = search needs
-
 returns : tie.Need-returns Inv-loop μ-loop
 returns c = sym (some-here (λ j. eqb (rankAt (now (c .before .before .before .before .args .held)) j) (c .before .before .before .before .args .sought .rank)) (c .before .before .before .loop .i) (c .before .before .before .before .args .sought .end) (c .before .before .loop-test .taken) (eq-eqb _ _ (c .if1 .taken))) ∙ c .before .before .before .loop .inv
-
-add-i : tie.Need-add-i Inv-loop μ-loop
-add-i c = search needs
-
-loop-less : tie.Need-loop-less Inv-loop μ-loop
-loop-less c = search needs
 
 loop-again : tie.Need-loop-again Inv-loop μ-loop
 loop-again c = sym (some-on (λ j. eqb (rankAt (now (c .before .before .before .before .args .held)) j) (c .before .before .before .before .args .sought .rank)) (c .before .before .before .loop .i) (c .before .before .before .before .args .sought .end) (c .before .before .loop-test .taken) (ne-eqb _ _ (c .if1 .left))) ∙ c .before .before .before .loop .inv
@@ -46,14 +32,4 @@ returns-2 c = sym (some-end (λ j. eqb (rankAt (now (c .before .before .args .he
 pub holds-spec : {M : Type 1} → statement M
 holds-spec =
     tie.close
-    (tie.spec
-    Inv-loop
-    μ-loop
-    loop-holds
-    mul-if1
-    element-copy-out-if1
-    returns
-    add-i
-    loop-less
-    loop-again
-    returns-2)
+    (tie.spec Inv-loop μ-loop loop-holds (λ c. search needs) (λ c. search needs) returns (λ c. search needs) (λ c. search needs) loop-again returns-2)

@@ -11,9 +11,6 @@ use Rattle.filter_item.specs.Laws.Rows.{some-here, some-on, some-end}
 use borrow.Author.Needs.{needs}
 use Rattle.filter_item.proofs.rows.some_containing.Statement.{statement}
 use Rattle.filter_item.proofs.rows.some_containing.Tie as tie
-use Rattle.filter_item.proofs.rows.some_containing.Reads as reads
-use Rattle.filter_item.proofs.rows.some_containing.Lts as lts
-use Rattle.filter_item.proofs.rows.containing_row.Reads as containing-row-reads
 
 abbrev Inv-loop : tie.InvT-loop
 Inv-loop held values d sought w q rows lines k end i₀ i = (sought .first ≤ i) × (someFrom (λ j. seenAt held values (sought .first) (sought .rank) j && contains text (piecesAt w q rows k) (bytesAt d held j)) i (end - i) ≡ someRow d held values (sought .first) end (sought .rank) (λ u. contains text (piecesAt w q rows k) u))
@@ -31,12 +28,6 @@ containing-row-requires c κs = (c .before .before .before .before .pre .0, c .b
 returns : tie.Need-returns Inv-loop μ-loop
 returns c = sym (some-here (λ j. seenAt (now (c .before .before .before .before .before .before .args .held)) (now (c .before .before .before .before .before .before .args .values)) (c .before .before .before .before .before .before .args .sought .first) (c .before .before .before .before .before .before .args .sought .rank) j && contains text (piecesAt (c .before .before .before .before .before .before .args .w) (now (c .before .before .before .before .before .before .args .q)) (now (c .before .before .before .before .before .before .args .rows)) (c .before .before .before .before .before .before .args .k)) (bytesAt (now (c .before .before .before .before .before .before .args .d)) (now (c .before .before .before .before .before .before .args .held)) j)) (c .before .before .before .loop .i) (c .before .before .before .before .before .before .args .sought .end) (c .before .before .loop-test .taken) (sym (c .before .containing-row .ensures) ∙ c .if1 .taken)) ∙ c .before .before .before .loop .inv .1
 
-add-i : tie.Need-add-i Inv-loop μ-loop
-add-i c = search needs
-
-loop-less : tie.Need-loop-less Inv-loop μ-loop
-loop-less c = search needs
-
 loop-again : tie.Need-loop-again Inv-loop μ-loop
 loop-again c = (omega (arith, c .before .before .before .loop .inv .0), sym (some-on (λ j. seenAt (now (c .before .before .before .before .before .before .args .held)) (now (c .before .before .before .before .before .before .args .values)) (c .before .before .before .before .before .before .args .sought .first) (c .before .before .before .before .before .before .args .sought .rank) j && contains text (piecesAt (c .before .before .before .before .before .before .args .w) (now (c .before .before .before .before .before .before .args .q)) (now (c .before .before .before .before .before .before .args .rows)) (c .before .before .before .before .before .before .args .k)) (bytesAt (now (c .before .before .before .before .before .before .args .d)) (now (c .before .before .before .before .before .before .args .held)) j)) (c .before .before .before .loop .i) (c .before .before .before .before .before .before .args .sought .end) (c .before .before .loop-test .taken) (sym (c .before .containing-row .ensures) ∙ c .if1 .left)) ∙ c .before .before .before .loop .inv .1)
 
@@ -46,13 +37,4 @@ returns-2 c = sym (some-end (λ j. seenAt (now (c .before .before .before .befor
 pub some-containing-spec : {M : Type 1} → statement M
 some-containing-spec =
     tie.close
-    (tie.spec
-    Inv-loop
-    μ-loop
-    loop-holds
-    containing-row-requires
-    returns
-    add-i
-    loop-less
-    loop-again
-    returns-2)
+    (tie.spec Inv-loop μ-loop loop-holds containing-row-requires returns (λ c. search needs) (λ c. search needs) loop-again returns-2)

@@ -9,9 +9,6 @@ use Rattle.filter_item.specs.Laws.Rows.{some-here, some-on, some-end}
 use borrow.Author.Needs.{needs}
 use Rattle.filter_item.proofs.rows.some_ordered.Statement.{statement}
 use Rattle.filter_item.proofs.rows.some_ordered.Tie as tie
-use Rattle.filter_item.proofs.rows.some_ordered.Reads as reads
-use Rattle.filter_item.proofs.rows.some_ordered.Lts as lts
-use Rattle.filter_item.proofs.rows.ordered_row.Reads as ordered-row-reads
 
 abbrev Inv-loop : tie.InvT-loop
 Inv-loop held values d sought s least v end i₀ i = (sought .first ≤ i) × (someFrom (λ j. seenAt held values (sought .first) (sought .rank) j && besideBy s least v (bytesAt d held j)) i (end - i) ≡ someRow d held values (sought .first) end (sought .rank) (λ u. besideBy s least v u))
@@ -29,12 +26,6 @@ ordered-row-requires c κs = (c .before .before .before .before .pre, c .before 
 returns : tie.Need-returns Inv-loop μ-loop
 returns c = sym (some-here (λ j. seenAt (now (c .before .before .before .before .before .before .args .held)) (now (c .before .before .before .before .before .before .args .values)) (c .before .before .before .before .before .before .args .sought .first) (c .before .before .before .before .before .before .args .sought .rank) j && besideBy (c .before .before .before .before .before .before .args .s) (c .before .before .before .before .before .before .args .least) (now (c .before .before .before .before .before .before .args .v)) (bytesAt (now (c .before .before .before .before .before .before .args .d)) (now (c .before .before .before .before .before .before .args .held)) j)) (c .before .before .before .loop .i) (c .before .before .before .before .before .before .args .sought .end) (c .before .before .loop-test .taken) (sym (c .before .ordered-row .ensures) ∙ c .if1 .taken)) ∙ c .before .before .before .loop .inv .1
 
-add-i : tie.Need-add-i Inv-loop μ-loop
-add-i c = search needs
-
-loop-less : tie.Need-loop-less Inv-loop μ-loop
-loop-less c = search needs
-
 loop-again : tie.Need-loop-again Inv-loop μ-loop
 loop-again c = (omega (arith, c .before .before .before .loop .inv .0), sym (some-on (λ j. seenAt (now (c .before .before .before .before .before .before .args .held)) (now (c .before .before .before .before .before .before .args .values)) (c .before .before .before .before .before .before .args .sought .first) (c .before .before .before .before .before .before .args .sought .rank) j && besideBy (c .before .before .before .before .before .before .args .s) (c .before .before .before .before .before .before .args .least) (now (c .before .before .before .before .before .before .args .v)) (bytesAt (now (c .before .before .before .before .before .before .args .d)) (now (c .before .before .before .before .before .before .args .held)) j)) (c .before .before .before .loop .i) (c .before .before .before .before .before .before .args .sought .end) (c .before .before .loop-test .taken) (sym (c .before .ordered-row .ensures) ∙ c .if1 .left)) ∙ c .before .before .before .loop .inv .1)
 
@@ -44,13 +35,4 @@ returns-2 c = sym (some-end (λ j. seenAt (now (c .before .before .before .befor
 pub some-ordered-spec : {M : Type 1} → statement M
 some-ordered-spec =
     tie.close
-    (tie.spec
-    Inv-loop
-    μ-loop
-    loop-holds
-    ordered-row-requires
-    returns
-    add-i
-    loop-less
-    loop-again
-    returns-2)
+    (tie.spec Inv-loop μ-loop loop-holds ordered-row-requires returns (λ c. search needs) (λ c. search needs) loop-again returns-2)

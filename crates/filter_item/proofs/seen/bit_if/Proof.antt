@@ -6,11 +6,6 @@ use Rattle.access_set.specs.Bit.{one-shl}
 use borrow.Author.Needs.{needs}
 use Rattle.filter_item.proofs.seen.bit_if.Statement.{statement}
 use Rattle.filter_item.proofs.seen.bit_if.Tie as tie
-use Rattle.filter_item.proofs.seen.bit_if.Reads as reads
-use Rattle.filter_item.proofs.seen.bit_if.Lts as lts
-
-shl-result : tie.Need-shl-result
-shl-result c = search needs
 
 returns : tie.Need-returns
 returns c = one-shl (c .before .args .j % 64) (omega arith) ∙ ap (λ (b : Bool). cond b (2 ^ (c .before .args .j % 64)) 0) (sym (c .if1 .taken))
@@ -19,4 +14,4 @@ returns-2 : tie.Need-returns-2
 returns-2 c = ap (λ (b : Bool). cond b (2 ^ (c .before .args .j % 64)) 0) (sym (c .if1 .left))
 
 pub bit-if-spec : {M : Type 1} → statement M
-bit-if-spec = tie.close (tie.spec shl-result returns returns-2)
+bit-if-spec = tie.close (tie.spec (λ c. search needs) returns returns-2)

@@ -13,10 +13,6 @@ use Rattle.filter_item.specs.Laws.Seen.{Clear, clear-none, clear-on, typ
 use borrow.Author.Needs.{needs}
 use Rattle.filter_item.proofs.seen.seen_types.Statement.{statement}
 use Rattle.filter_item.proofs.seen.seen_types.Tie as tie
-use Rattle.filter_item.proofs.seen.seen_types.Reads as reads
-use Rattle.filter_item.proofs.seen.seen_types.Lts as lts
-use Rattle.filter_item.proofs.seen.bit_if.Reads as bit-if-reads
-use Rattle.filter_item.proofs.seen.type_seen.Reads as type-seen-reads
 
 abbrev Inv-loop : tie.InvT-loop
 Inv-loop sets n e asked x₀ r₀ x r = (r ≤ n) × Clear x r × ((σ : Setting) (es : List Stored) (d p : Bytes) (book held : List ℕ) → World σ es d p book held sets → e ≤ length es → n ≤ length (schema book) → SeenTypes σ es book e asked r x)
@@ -30,15 +26,6 @@ loop-holds c = (omega arith, clear-none, λ σ es d p book held w l m. types-non
 type-seen-requires : tie.Need-type-seen-requires Inv-loop μ-loop
 type-seen-requires c κs = let n = c .before .before .pre .1 in let t = c .loop-test .taken in (c .before .before .pre .0, omega (arith, n, t), c .before .before .pre .2)
 
-bit-if-requires : tie.Need-bit-if-requires Inv-loop μ-loop
-bit-if-requires c κs = search needs
-
-add-r : tie.Need-add-r Inv-loop μ-loop
-add-r c = search needs
-
-loop-less : tie.Need-loop-less Inv-loop μ-loop
-loop-less c = search needs
-
 loop-again : tie.Need-loop-again Inv-loop μ-loop
 loop-again c = let r = c .before .before .before .loop .r in let s : r < 64 = omega (arith, c .before .before .before .before .pre .1, c .before .before .loop-test .taken) in (omega (arith, c .before .before .loop-test .taken), clear-on (c .before .before .before .loop .x) (c .bit-if .result) (c .before .type-seen .result) r s (c .bit-if .ensures) (c .before .before .before .loop .inv .1), λ σ es d p book held w l m. types-on (c .before .before .before .loop .x) (c .bit-if .result) (c .before .type-seen .result) r s (c .bit-if .ensures) σ es book (c .before .before .before .before .args .e) (c .before .before .before .before .args .asked) (c .before .before .before .loop .inv .1) (c .before .type-seen .ensures σ es d p book held w l (omega (arith, m, c .before .before .loop-test .taken))) (c .before .before .before .loop .inv .2 σ es d p book held w l m))
 
@@ -48,13 +35,4 @@ returns c = λ σ es d p book held w l m. let z : c .before .loop .r ≡ c .befo
 pub seen-types-spec : {M : Type 1} → statement M
 seen-types-spec =
     tie.close
-    (tie.spec
-    Inv-loop
-    μ-loop
-    loop-holds
-    type-seen-requires
-    bit-if-requires
-    add-r
-    loop-less
-    loop-again
-    returns)
+    (tie.spec Inv-loop μ-loop loop-holds type-seen-requires (λ c κs. search needs) (λ c. search needs) (λ c. search needs) loop-again returns)

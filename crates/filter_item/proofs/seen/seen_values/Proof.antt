@@ -13,10 +13,6 @@ use Rattle.filter_item.specs.Laws.Seen.{Blank, blank-none, blank-on, val
 use borrow.Author.Needs.{needs}
 use Rattle.filter_item.proofs.seen.seen_values.Statement.{statement}
 use Rattle.filter_item.proofs.seen.seen_values.Tie as tie
-use Rattle.filter_item.proofs.seen.seen_values.Reads as reads
-use Rattle.filter_item.proofs.seen.seen_values.Lts as lts
-use Rattle.filter_item.proofs.seen.bit_if.Reads as bit-if-reads
-use Rattle.filter_item.proofs.seen.value_seen.Reads as value-seen-reads
 
 abbrev Inv-loop : tie.InvT-loop
 Inv-loop book held sets d p k asked first end values₀ i₀ values i = (first ≤ i) × (length values ≡ 34) × Blank values (i - first) × ((σ : Setting) (es : List Stored) → World σ es d p book held sets → SeenValues σ es d book held k asked i values)
@@ -57,9 +53,6 @@ array-read-values c = omega (arith, c .loop-test .taken, c .before .loop .inv .0
 value-seen-requires : tie.Need-value-seen-requires Inv-loop μ-loop
 value-seen-requires c κs = (c .before .before .before .before .before .before .pre .0, c .before .before .before .before .before .before .pre .1, c .before .loop .inv .0, omega (arith, c .loop-test .taken, end-at (now (c .before .before .before .before .before .before .args .book)) (c .before .before .before .before .before .before .args .k)))
 
-bit-if-requires : tie.Need-bit-if-requires Inv-loop μ-loop
-bit-if-requires c κs = search needs
-
 mul-values-2 : tie.Need-mul-values-2 Inv-loop μ-loop
 mul-values-2 c = omega (arith, c .before .before .loop-test .taken, c .before .before .before .loop .inv .0, rows-end (c .before .before .before .before .before .before .before .before .pre .0 .2 .entries) (c .before .before .before .before .before .before .before .before .args .k) (c .before .before .before .before .before .before .before .before .pre .1), end-at (now (c .before .before .before .before .before .before .before .before .args .book)) (c .before .before .before .before .before .before .before .before .args .k))
 
@@ -81,24 +74,5 @@ returns c = λ σ es w. values-until σ es (now (c .before .before .before .befo
 pub seen-values-spec : {M : Type 1} → statement M
 seen-values-spec =
     tie.close
-    (tie.spec
-    Inv-loop
-    μ-loop
-    add-first
-    mul-first
-    element-copy-out-first
-    add-end
-    mul-end
-    element-copy-out-end
-    loop-holds
-    sub-j
-    mul-values
-    array-read-values
-    value-seen-requires
-    bit-if-requires
-    mul-values-2
-    array-write-values
-    add-i
-    loop-less
-    loop-again
-    returns)
+    (tie.spec Inv-loop μ-loop add-first mul-first element-copy-out-first add-end mul-end element-copy-out-end loop-holds sub-j mul-values
+    array-read-values value-seen-requires (λ c κs. search needs) mul-values-2 array-write-values add-i loop-less loop-again returns)

@@ -8,16 +8,6 @@ use Rattle.tables.specs.Sets.{grantedAt}
 use borrow.Author.Needs.{needs}
 use Rattle.filter_item.proofs.seen.type_seen.Statement.{statement}
 use Rattle.filter_item.proofs.seen.type_seen.Tie as tie
-use Rattle.filter_item.proofs.seen.type_seen.Reads as reads
-use Rattle.filter_item.proofs.seen.type_seen.Lts as lts
-use Rattle.access_may.proofs.may_type.Reads as may-type-reads
-use Rattle.filter_item.proofs.seen.in_word.Reads as in-word-reads
-
-in-word-requires : tie.Need-in-word-requires
-in-word-requires c κs = search needs
-
-may-type-requires : tie.Need-may-type-requires
-may-type-requires c κs = search needs
 
 returns : tie.Need-returns
 returns c = λ σ es d p book held w l k. c .may-type .ensures σ es d p book held w l k ∙ ap (λ (b : Bool). b && grantedAt σ es (c .before .before .before .args .e) (ofType (typeAt (schema book) (c .before .before .before .args .r))) FilterMatch) (sym (c .before .if1 .taken) ∙ c .before .before .in-word .ensures)
@@ -26,4 +16,4 @@ returns-2 : tie.Need-returns-2
 returns-2 c = λ σ es d p book held w l k. ap (λ (b : Bool). b && grantedAt σ es (c .before .before .args .e) (ofType (typeAt (schema book) (c .before .before .args .r))) FilterMatch) (sym (c .if1 .left) ∙ c .before .in-word .ensures)
 
 pub type-seen-spec : {M : Type 1} → statement M
-type-seen-spec = tie.close (tie.spec in-word-requires may-type-requires returns returns-2)
+type-seen-spec = tie.close (tie.spec (λ c κs. search needs) (λ c κs. search needs) returns returns-2)

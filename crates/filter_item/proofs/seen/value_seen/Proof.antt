@@ -15,10 +15,6 @@ use Rattle.filter_item.specs.Laws.Seen.{rows-end, row-rank, row-within}
 use borrow.Author.Needs.{needs}
 use Rattle.filter_item.proofs.seen.value_seen.Statement.{statement}
 use Rattle.filter_item.proofs.seen.value_seen.Tie as tie
-use Rattle.filter_item.proofs.seen.value_seen.Reads as reads
-use Rattle.filter_item.proofs.seen.value_seen.Lts as lts
-use Rattle.access_may.proofs.may_value.Reads as may-value-reads
-use Rattle.filter_item.proofs.seen.in_word.Reads as in-word-reads
 
 mul-rank : tie.Need-mul-rank
 mul-rank c = omega (arith, c .before .before .pre .3, rows-end (c .before .before .pre .0 .2 .entries) (c .before .before .args .k) (c .before .before .pre .1))
@@ -53,12 +49,6 @@ add-may-value c = omega (arith, c .before .before .before .before .before .befor
 add-may-value-2 : tie.Need-add-may-value-2
 add-may-value-2 c = omega (arith, row-within (c .before .before .before .before .before .before .before .pre .0 .2 .entries) (c .before .before .before .before .before .before .before .args .k) (c .before .before .before .before .before .before .before .pre .1) (c .before .before .before .before .before .before .before .args .i) (c .before .before .before .before .before .before .before .pre .2) (c .before .before .before .before .before .before .before .pre .3))
 
-sub-may-value : tie.Need-sub-may-value
-sub-may-value c = search needs
-
-part-may-value-start : tie.Need-part-may-value-start
-part-may-value-start c = search needs
-
 part-may-value-end : tie.Need-part-may-value-end
 part-may-value-end c = omega (arith, row-within (c .before .before .before .before .before .before .before .pre .0 .2 .entries) (c .before .before .before .before .before .before .before .args .k) (c .before .before .before .before .before .before .before .pre .1) (c .before .before .before .before .before .before .before .args .i) (c .before .before .before .before .before .before .before .pre .2) (c .before .before .before .before .before .before .before .pre .3))
 
@@ -74,21 +64,5 @@ returns-2 c = λ σ es w. ap (λ (b : Bool). b && grantedAt σ es (suc (c .befor
 pub value-seen-spec : {M : Type 1} → statement M
 value-seen-spec =
     tie.close
-    (tie.spec
-    mul-rank
-    element-copy-out-rank
-    in-word-requires
-    add-from
-    mul-from
-    element-copy-out-from
-    add-size
-    mul-size
-    element-copy-out-size
-    add-may-value
-    add-may-value-2
-    sub-may-value
-    part-may-value-start
-    part-may-value-end
-    may-value-requires
-    returns
-    returns-2)
+    (tie.spec mul-rank element-copy-out-rank in-word-requires add-from mul-from element-copy-out-from add-size mul-size element-copy-out-size
+    add-may-value add-may-value-2 (λ c. search needs) (λ c. search needs) part-may-value-end may-value-requires returns returns-2)

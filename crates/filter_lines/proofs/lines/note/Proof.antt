@@ -10,11 +10,6 @@ use Rattle.filter_lines.specs.Laws.Lines.{Noting, noting-start, noting-o
 use borrow.Author.Needs.{needs}
 use Rattle.filter_lines.proofs.lines.note.Statement.{statement}
 use Rattle.filter_lines.proofs.lines.note.Tie as tie
-use Rattle.filter_lines.proofs.lines.note.Reads as reads
-use Rattle.filter_lines.proofs.lines.note.Lts as lts
-use Rattle.filter_lines.proofs.lines.note_line.Reads as note-line-reads
-use Rattle.filter_lines.proofs.lines.place_of.Reads as place-of-reads
-use Rattle.sheet.proofs.line_at.Reads as line-at-reads
 
 abbrev Inv-loop : tie.InvT-loop
 Inv-loop schema w q at rows₀ n₀ j₀ rows n j = (length rows ≡ length rows₀) × (n ≤ 265) × (n * (5 * w + 1) ≤ j) × (length q < 18446744073709551616) × (1596 ≤ length rows₀) × Noting schema w q rows at n j
@@ -22,23 +17,8 @@ Inv-loop schema w q at rows₀ n₀ j₀ rows n j = (length rows ≡ length rows
 abbrev μ-loop : tie.MeasureT-loop
 μ-loop schema w q at rows₀ n₀ j₀ rows n j = length q - j
 
-slice-write-rows : tie.Need-slice-write-rows Inv-loop μ-loop
-slice-write-rows c = search needs
-
 loop-holds : tie.Need-loop-holds Inv-loop μ-loop
 loop-holds c = let a = c .before .before .before .args in (refl, omega arith, omega arith, search needs, subst (λ (m : ℕ). 1596 ≤ m) (sym (length-set (now (a .rows)) 3 (a .at))) (c .before .before .before .pre .2), noting-start (now (a .schema)) (a .w) (now (a .q)) (now (a .rows)) (a .at) (omega (arith, c .before .before .before .pre .2)))
-
-line-at-requires : tie.Need-line-at-requires Inv-loop μ-loop
-line-at-requires c κs = search needs
-
-enum-known-kind : tie.Need-enum-known-kind Inv-loop μ-loop
-enum-known-kind c = search needs
-
-mul-next : tie.Need-mul-next Inv-loop μ-loop
-mul-next c = search needs
-
-add-next : tie.Need-add-next Inv-loop μ-loop
-add-next c = search needs
 
 add-next-2 : tie.Need-add-next-2 Inv-loop μ-loop
 add-next-2 c = let a = c .before .before .before .before .before .before .before .before .args in let h = taken-fits (a .w) (now (a .q)) (c .before .before .before .before .loop .j) (sym (c .before .before .before .line-at .ensures) ∙ c .before .kind .given .1) in omega (arith, h .0, h .1)
@@ -46,21 +26,12 @@ add-next-2 c = let a = c .before .before .before .before .before .before .before
 add-next-3 : tie.Need-add-next-3 Inv-loop μ-loop
 add-next-3 c = let a = c .before .before .before .before .before .before .before .before .args in let h = taken-fits (a .w) (now (a .q)) (c .before .before .before .before .loop .j) (sym (c .before .before .before .line-at .ensures) ∙ c .before .kind .given .1) in omega (arith, h .0, h .1, c .before .before .before .before .loop .inv .3)
 
-mul-note-line : tie.Need-mul-note-line Inv-loop μ-loop
-mul-note-line c = search needs
-
-place-of-requires : tie.Need-place-of-requires Inv-loop μ-loop
-place-of-requires c κs = search needs
-
 note-line-requires : tie.Need-note-line-requires Inv-loop μ-loop
 note-line-requires c κs = let a = c .before .before .before .before .before .before .before .before .before .before .args in
     let L = c .before .before .before .before .before .before .loop in
     let h = taken-fits (a .w) (now (a .q)) (L .j) (sym (c .before .before .before .before .before .line-at .ensures) ∙ c .before .before .before .kind .given .1) in
     let r = room-left (5 * a .w + 1) (L .n) 265 (L .j) _ (length (now (a .q))) (omega arith) (L .inv .2) (h .1) (c .before .before .before .before .before .before .before .before .before .before .pre .1) in
     omega (arith, r, L .inv .0, L .inv .4)
-
-add-n : tie.Need-add-n Inv-loop μ-loop
-add-n c = search needs
 
 loop-less : tie.Need-loop-less Inv-loop μ-loop
 loop-less c = let a = c .before .before .before .before .before .before .before .before .before .before .before .before .before .args in let h = taken-fits (a .w) (now (a .q)) (c .before .before .before .before .before .before .before .before .before .loop .j) (sym (c .before .before .before .before .before .before .before .before .line-at .ensures) ∙ c .before .before .before .before .before .before .kind .given .1) in omega (arith, h .0, h .1)
@@ -81,18 +52,12 @@ loop-again c = let a = c .before .before .before .before .before .before .before
       subst (λ (x : List ℕ). Noting (now (a .schema)) (a .w) (now (a .q)) x (a .at) (L .n + 1) (L .j + (5 * a .w + 1 + c .before .before .before .before .before .before .kind .given .0 .1 .1 .1 .1 .0))) (sym k) (noting-on (now (a .schema)) (a .w) (now (a .q)) (L .rows) (a .at) (L .n) (L .j) (L .inv .5) m e _ (c .before .before .before .place-of .ensures)),
     )
 
-enum-told : tie.Need-enum-told Inv-loop μ-loop
-enum-told c = search needs
-
 same-length : tie.Need-same-length Inv-loop μ-loop
 same-length c = c .before .before .before .loop .inv .0 ∙ length-set (now (c .before .before .before .before .before .before .before .args .rows)) 3 (c .before .before .before .before .before .before .before .args .at)
 
 returns : tie.Need-returns Inv-loop μ-loop
 returns c = let a = c .before .before .before .before .before .before .before .args in let L = c .before .before .before .loop in
     (lines-noted (now (a .schema)) (a .w) (now (a .q)) (L .rows) (a .at) (L .n) (L .j) (L .inv .5) (omega (arith, L .inv .0, L .inv .1, L .inv .4)) (L .inv .1) true (sym (c .before .before .line-at .ensures) ∙ c .enum-told .given .1), record { placed = L .inv .5 .placed }, L .inv .5 .first)
-
-enum-told-2 : tie.Need-enum-told-2 Inv-loop μ-loop
-enum-told-2 c = search needs
 
 same-length-2 : tie.Need-same-length-2 Inv-loop μ-loop
 same-length-2 c = c .before .before .before .loop .inv .0 ∙ length-set (now (c .before .before .before .before .before .before .before .args .rows)) 3 (c .before .before .before .before .before .before .before .args .at)
@@ -104,26 +69,6 @@ returns-2 c = let a = c .before .before .before .before .before .before .before 
 pub note-spec : {M : Type 1} → statement M
 note-spec =
     tie.close
-    (tie.spec
-    Inv-loop
-    μ-loop
-    slice-write-rows
-    loop-holds
-    line-at-requires
-    enum-known-kind
-    mul-next
-    add-next
-    add-next-2
-    add-next-3
-    mul-note-line
-    place-of-requires
-    note-line-requires
-    add-n
-    loop-less
-    loop-again
-    enum-told
-    same-length
-    returns
-    enum-told-2
-    same-length-2
-    returns-2)
+    (tie.spec Inv-loop μ-loop (λ c. search needs) loop-holds (λ c κs. search needs) (λ c. search needs) (λ c. search needs) (λ c. search needs)
+    add-next-2 add-next-3 (λ c. search needs) (λ c κs. search needs) note-line-requires (λ c. search needs) loop-less loop-again (λ c. search needs)
+    same-length returns (λ c. search needs) same-length-2 returns-2)

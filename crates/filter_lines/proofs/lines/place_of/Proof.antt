@@ -7,8 +7,6 @@ use Rattle.filter_lines.specs.Laws.Lines.{placed-here, placed-nowhere}
 use borrow.Author.Needs.{needs}
 use Rattle.filter_lines.proofs.lines.place_of.Statement.{statement}
 use Rattle.filter_lines.proofs.lines.place_of.Tie as tie
-use Rattle.filter_lines.proofs.lines.place_of.Reads as reads
-use Rattle.filter_lines.proofs.lines.place_of.Lts as lts
 
 abbrev Inv-loop : tie.InvT-loop
 Inv-loop schema t i₀ i = (i ≤ length schema) × (syntaxIn (drop i schema) t ≡ syntaxIn schema t)
@@ -16,23 +14,8 @@ Inv-loop schema t i₀ i = (i ≤ length schema) × (syntaxIn (drop i schema) t 
 abbrev μ-loop : tie.MeasureT-loop
 μ-loop schema t i₀ i = length schema - i
 
-loop-holds : tie.Need-loop-holds Inv-loop μ-loop
-loop-holds c = search needs
-
-mul-if1 : tie.Need-mul-if1 Inv-loop μ-loop
-mul-if1 c = search needs
-
-shared-slice-read-if1 : tie.Need-shared-slice-read-if1 Inv-loop μ-loop
-shared-slice-read-if1 c = search needs
-
 returns : tie.Need-returns Inv-loop μ-loop
 returns c = let a = c .before .before .before .before .args in let L = c .before .before .before .loop in placed-here (now (a .schema)) (a .t) (L .i) (L .inv .1) (c .before .before .loop-test .taken) (c .if1 .taken)
-
-add-i : tie.Need-add-i Inv-loop μ-loop
-add-i c = search needs
-
-loop-less : tie.Need-loop-less Inv-loop μ-loop
-loop-less c = search needs
 
 loop-again : tie.Need-loop-again Inv-loop μ-loop
 loop-again c = let a = c .before .before .before .before .args in let L = c .before .before .before .loop in (search needs, sym (syntax-on (now (a .schema)) (L .i) (a .t) (c .before .before .loop-test .taken) (c .if1 .left)) ∙ L .inv .1)
@@ -43,14 +26,5 @@ returns-2 c = let a = c .before .before .args in let L = c .before .loop in plac
 pub place-of-spec : {M : Type 1} → statement M
 place-of-spec =
     tie.close
-    (tie.spec
-    Inv-loop
-    μ-loop
-    loop-holds
-    mul-if1
-    shared-slice-read-if1
-    returns
-    add-i
-    loop-less
-    loop-again
+    (tie.spec Inv-loop μ-loop (λ c. search needs) (λ c. search needs) (λ c. search needs) returns (λ c. search needs) (λ c. search needs) loop-again
     returns-2)

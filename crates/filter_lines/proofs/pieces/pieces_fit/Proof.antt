@@ -8,10 +8,6 @@ use Rattle.filter_lines.specs.Laws.Pieces.{not-true, not-false, allFit, 
 use borrow.Author.Needs.{needs}
 use Rattle.filter_lines.proofs.pieces.pieces_fit.Statement.{statement}
 use Rattle.filter_lines.proofs.pieces.pieces_fit.Tie as tie
-use Rattle.filter_lines.proofs.pieces.pieces_fit.Reads as reads
-use Rattle.filter_lines.proofs.pieces.pieces_fit.Lts as lts
-use Rattle.filter_lines.proofs.lines.value_of.Reads as value-of-reads
-use Rattle.value.proofs.fits.Reads as fits-reads
 
 abbrev Inv-loop : tie.InvT-loop
 Inv-loop syntax w q rows lines k n j₀ left₀ j left = (j ≤ lines) × (allFit syntax w q (positionAt rows j) left ≡ allFit syntax w q (positionAt rows k) n)
@@ -28,20 +24,8 @@ returns c = let a = c .before .before .before .before .before .args in let L = c
 value-of-requires : tie.Need-value-of-requires Inv-loop μ-loop
 value-of-requires c κs = let L = c .before .before .loop in let h = c .before .before .before .before .before .pre .0 in let l = c .if1 .left in (omega (arith, l, h .room), line-fits (h .line (L .j) l))
 
-fits-requires : tie.Need-fits-requires Inv-loop μ-loop
-fits-requires c κs = search needs
-
 returns-2 : tie.Need-returns-2 Inv-loop μ-loop
 returns-2 c = let a = c .before .before .before .before .before .before .before .before .args in let L = c .before .before .before .before .before .loop in sym (fit-row-lost (c .before .before .before .before .before .before .before .before .pre .0) (a .syntax) (L .j) (L .left) (c .before .before .before .if1 .left) _ (c .before .before .value-of .ensures) (c .before .before .before .before .loop-test .taken) (sym (c .before .fits2 .ensures) ∙ not-true _ (c .if2 .taken))) ∙ L .inv .1
-
-add-j : tie.Need-add-j Inv-loop μ-loop
-add-j c = search needs
-
-sub-left : tie.Need-sub-left Inv-loop μ-loop
-sub-left c = search needs
-
-loop-less : tie.Need-loop-less Inv-loop μ-loop
-loop-less c = search needs
 
 loop-again : tie.Need-loop-again Inv-loop μ-loop
 loop-again c = let a = c .before .before .before .before .before .before .before .before .args in let L = c .before .before .before .before .before .loop in (omega (arith, c .before .before .before .if1 .left), sym (fit-row-on (c .before .before .before .before .before .before .before .before .pre .0) (a .syntax) (L .j) (L .left) (c .before .before .before .if1 .left) _ (c .before .before .value-of .ensures) (c .before .before .before .before .loop-test .taken) (sym (c .before .fits2 .ensures) ∙ not-false _ (c .if2 .left))) ∙ L .inv .1)
@@ -52,16 +36,5 @@ returns-3 c = let a = c .before .before .before .before .args in let L = c .befo
 pub pieces-fit-spec : {M : Type 1} → statement M
 pieces-fit-spec =
     tie.close
-    (tie.spec
-    Inv-loop
-    μ-loop
-    loop-holds
-    returns
-    value-of-requires
-    fits-requires
-    returns-2
-    add-j
-    sub-left
-    loop-less
-    loop-again
-    returns-3)
+    (tie.spec Inv-loop μ-loop loop-holds returns value-of-requires (λ c κs. search needs) returns-2 (λ c. search needs) (λ c. search needs)
+    (λ c. search needs) loop-again returns-3)

@@ -13,10 +13,6 @@ use Rattle.filter_lines.specs.Laws.Pieces.{standFrom, stand-start, stand
 use borrow.Author.Needs.{needs}
 use Rattle.filter_lines.proofs.pieces.substrings.Statement.{statement}
 use Rattle.filter_lines.proofs.pieces.substrings.Tie as tie
-use Rattle.filter_lines.proofs.pieces.substrings.Reads as reads
-use Rattle.filter_lines.proofs.pieces.substrings.Lts as lts
-use Rattle.filter_lines.proofs.lines.value_of.Reads as value-of-reads
-use Rattle.value.proofs.piece_end.Reads as piece-end-reads
 
 abbrev Inv-loop : tie.InvT-loop
 Inv-loop w q rows lines k n v from₀ j₀ left₀ from j left = (j ≤ lines) × (from ≤ length v) × (standFrom v from w q (positionAt rows j) left ≡ contains text (piecesOf n (linesAt w q (positionAt rows k))) v)
@@ -36,38 +32,17 @@ mul-piece-end c = omega (arith, c .if1 .left, c .before .before .before .before 
 add-piece-end : tie.Need-add-piece-end Inv-loop μ-loop
 add-piece-end c = omega (arith, c .if1 .left, c .before .before .before .before .before .before .pre .0 .room)
 
-mul-piece-end-2 : tie.Need-mul-piece-end-2 Inv-loop μ-loop
-mul-piece-end-2 c = search needs
-
 shared-slice-read-piece-end : tie.Need-shared-slice-read-piece-end Inv-loop μ-loop
 shared-slice-read-piece-end c = omega (arith, c .before .if1 .left, c .before .before .before .before .before .before .before .pre .0 .room)
 
 value-of-requires : tie.Need-value-of-requires Inv-loop μ-loop
 value-of-requires c κs = let L = c .before .before .before .loop in let h = c .before .before .before .before .before .before .before .pre .0 in let l = c .before .if1 .left in (omega (arith, l, h .room), line-fits (h .line (L .j) l))
 
-piece-end-requires : tie.Need-piece-end-requires Inv-loop μ-loop
-piece-end-requires c κs = search needs
-
-enum-known-used : tie.Need-enum-known-used Inv-loop μ-loop
-enum-known-used c = search needs
-
-enum-told : tie.Need-enum-told Inv-loop μ-loop
-enum-told c = search needs
-
 returns-2 : tie.Need-returns-2 Inv-loop μ-loop
 returns-2 c = let a = c .before .before .before .before .before .before .before .before .before .before .before .args in let L = c .before .before .before .before .before .before .before .loop in sym (stand-row-lost (c .before .before .before .before .before .before .before .before .before .before .before .pre .0) (now (a .v)) (L .from) (L .j) (L .left) (c .before .before .before .before .before .if1 .left) _ (c .before .before .before .value-of .ensures) (c .before .before .before .before .before .before .loop-test .taken) (sym (c .before .before .piece-end .ensures) ∙ c .enum-told .given .1)) ∙ L .inv .2
 
 add-from : tie.Need-add-from Inv-loop μ-loop
 add-from c = let a = c .before .before .before .before .before .before .before .before .before .before .before .before .args in let L = c .before .before .before .before .before .before .before .before .loop in omega (arith, used-fits _ _ text (now (a .v)) (L .from) _ (L .inv .1) (sym (c .before .before .before .piece-end .ensures) ∙ c .before .used .given .1))
-
-add-j : tie.Need-add-j Inv-loop μ-loop
-add-j c = search needs
-
-sub-left : tie.Need-sub-left Inv-loop μ-loop
-sub-left c = search needs
-
-loop-less : tie.Need-loop-less Inv-loop μ-loop
-loop-less c = search needs
 
 loop-again : tie.Need-loop-again Inv-loop μ-loop
 loop-again c = let a = c .before .before .before .before .before .before .before .before .before .before .before .before .args in let L = c .before .before .before .before .before .before .before .before .loop in (
@@ -82,23 +57,6 @@ returns-3 c = let a = c .before .before .before .before .before .args in let L =
 pub substrings-spec : {M : Type 1} → statement M
 substrings-spec =
     tie.close
-    (tie.spec
-    Inv-loop
-    μ-loop
-    loop-holds
-    returns
-    mul-piece-end
-    add-piece-end
-    mul-piece-end-2
-    shared-slice-read-piece-end
-    value-of-requires
-    piece-end-requires
-    enum-known-used
-    enum-told
-    returns-2
-    add-from
-    add-j
-    sub-left
-    loop-less
-    loop-again
-    returns-3)
+    (tie.spec Inv-loop μ-loop loop-holds returns mul-piece-end add-piece-end (λ c. search needs) shared-slice-read-piece-end value-of-requires
+    (λ c κs. search needs) (λ c. search needs) (λ c. search needs) returns-2 add-from (λ c. search needs) (λ c. search needs) (λ c. search needs)
+    loop-again returns-3)

@@ -9,19 +9,6 @@ use Rattle.filter_tree.specs.Laws.Truths.{truth-number}
 use borrow.Author.Needs.{needs}
 use Rattle.filter_tree.proofs.items.line_truth.Statement.{statement}
 use Rattle.filter_tree.proofs.items.line_truth.Tie as tie
-use Rattle.filter_tree.proofs.items.line_truth.Reads as reads
-use Rattle.filter_tree.proofs.items.line_truth.Lts as lts
-use Rattle.filter_item.proofs.item.item.Reads as item-reads
-use Rattle.filter_tree.proofs.items.number_of.Reads as number-of-reads
-
-mul-kind : tie.Need-mul-kind
-mul-kind c = search needs
-
-mul-kind-2 : tie.Need-mul-kind-2
-mul-kind-2 c = search needs
-
-element-copy-out-kind : tie.Need-element-copy-out-kind
-element-copy-out-kind c = search needs
 
 returns : tie.Need-returns
 returns c = λ σ es asked e s m. record { told = λ ne g. absurd (true≢false (sym (c .if1 .taken) ∙ g)) }
@@ -32,21 +19,10 @@ returns-2 c = λ σ es asked e s m. record { told = λ ne g. absurd (ne (c .if2 
 item-requires : tie.Need-item-requires
 item-requires c κs = c .before .before .before .before .before .pre
 
-number-of-requires : tie.Need-number-of-requires
-number-of-requires c κs = search needs
-
 returns-3 : tie.Need-returns-3
 returns-3 c = λ σ es asked e s m. record { told = λ ne g. ap truthOf (c .number-of .ensures) ∙ truth-number _ ∙ c .before .item .ensures σ es asked e s (λ l. m .rank (placeAt (now (c .before .before .before .before .before .before .before .args .rows)) (c .before .before .before .before .before .before .before .args .line)) (omega (arith, l, e .fits .few-types)) ∙ occurs-own (now (c .before .before .before .before .before .before .before .args .rows)) (c .before .before .before .before .before .before .before .args .lines) (c .before .before .before .before .before .before .before .args .line) (c .before .before .before .before .before .before .before .pre .4) (operator-none (now (c .before .before .before .before .before .before .before .args .rows)) (c .before .before .before .before .before .before .before .args .line) g ne)) }
 
 pub line-truth-spec : {M : Type 1} → statement M
 line-truth-spec =
     tie.close
-    (tie.spec
-    mul-kind
-    mul-kind-2
-    element-copy-out-kind
-    returns
-    returns-2
-    item-requires
-    number-of-requires
-    returns-3)
+    (tie.spec (λ c. search needs) (λ c. search needs) (λ c. search needs) returns returns-2 item-requires (λ c κs. search needs) returns-3)

@@ -16,9 +16,6 @@ use Rattle.filter_tree.specs.Laws.Truths.{truths-none, truths-on}
 use borrow.Author.Needs.{needs}
 use Rattle.filter_tree.proofs.items.note_truths.Statement.{statement}
 use Rattle.filter_tree.proofs.items.note_truths.Tie as tie
-use Rattle.filter_tree.proofs.items.note_truths.Reads as reads
-use Rattle.filter_tree.proofs.items.note_truths.Lts as lts
-use Rattle.filter_tree.proofs.items.line_truth.Reads as line-truth-reads
 
 abbrev Inv-loop : tie.InvT-loop
 Inv-loop book held d types values k q rows lines truths₀ line₀ truths line = (line ≤ lines) × (length truths ≡ 265) × ((σ : Setting) (es : List Stored) (asked : ℕ) → Entries σ es d book held → SeenAt σ es d book held k asked types values → Masks rows lines asked → Truths (itemTruth σ (entryOf (getD es k blank))) (width book) q rows line truths)
@@ -35,12 +32,6 @@ line-truth-requires c κs = (c .before .before .before .before .pre .0, c .befor
 array-write-truths : tie.Need-array-write-truths Inv-loop μ-loop
 array-write-truths c = omega (arith, c .before .loop-test .taken, c .before .before .before .before .before .pre .2 .few)
 
-add-line : tie.Need-add-line Inv-loop μ-loop
-add-line c = search needs
-
-loop-less : tie.Need-loop-less Inv-loop μ-loop
-loop-less c = search needs
-
 loop-again : tie.Need-loop-again Inv-loop μ-loop
 loop-again c = (omega (arith, c .before .loop-test .taken), length-set (c .before .before .loop .truths) _ _ ∙ c .before .before .loop .inv .1, λ σ es asked e s m. truths-on (itemTruth σ (entryOf (getD es (c .before .before .before .before .before .args .k) blank))) (width (now (c .before .before .before .before .before .args .book))) (now (c .before .before .before .before .before .args .q)) (now (c .before .before .before .before .before .args .rows)) (c .before .before .loop .line) (c .line-truth .result) (c .before .before .loop .truths) (omega (arith, c .before .loop-test .taken, c .before .before .before .before .before .pre .2 .few, c .before .before .loop .inv .1)) (c .line-truth .ensures σ es asked e s m) (c .before .before .loop .inv .2 σ es asked e s m))
 
@@ -50,13 +41,4 @@ returns c = λ σ es asked e s m. let z : c .before .loop .line ≡ c .before .b
 pub note-truths-spec : {M : Type 1} → statement M
 note-truths-spec =
     tie.close
-    (tie.spec
-    Inv-loop
-    μ-loop
-    loop-holds
-    line-truth-requires
-    array-write-truths
-    add-line
-    loop-less
-    loop-again
-    returns)
+    (tie.spec Inv-loop μ-loop loop-holds line-truth-requires array-write-truths (λ c. search needs) (λ c. search needs) loop-again returns)

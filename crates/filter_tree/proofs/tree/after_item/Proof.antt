@@ -7,8 +7,6 @@ use Rattle.filter_tree.specs.Tree.{afterBy}
 use borrow.Author.Needs.{needs}
 use Rattle.filter_tree.proofs.tree.after_item.Statement.{statement}
 use Rattle.filter_tree.proofs.tree.after_item.Tie as tie
-use Rattle.filter_tree.proofs.tree.after_item.Reads as reads
-use Rattle.filter_tree.proofs.tree.after_item.Lts as lts
 
 mul-kind : tie.Need-mul-kind
 mul-kind c = omega (arith, c .pre .0, c .pre .1)
@@ -61,20 +59,5 @@ returns-6 c = (omega (arith, c .if5 .left, c .before .before .before .before .be
 pub after-item-spec : {M : Type 1} → statement M
 after-item-spec =
     tie.close
-    (tie.spec
-    mul-kind
-    mul-kind-2
-    shared-slice-read-kind
-    add-next
-    returns
-    returns-2
-    returns-3
-    returns-4
-    mul-pieces
-    add-pieces
-    mul-pieces-2
-    shared-slice-read-pieces
-    sub-if5
-    returns-5
-    add-result
-    returns-6)
+    (tie.spec mul-kind mul-kind-2 shared-slice-read-kind add-next returns returns-2 returns-3 returns-4 mul-pieces add-pieces mul-pieces-2
+    shared-slice-read-pieces sub-if5 returns-5 add-result returns-6)

@@ -14,12 +14,6 @@ use Rattle.filter_tree.specs.Laws.Tree.{whole-read}
 use borrow.Author.Needs.{needs}
 use Rattle.filter_tree.proofs.tree.matches.Statement.{statement}
 use Rattle.filter_tree.proofs.tree.matches.Tie as tie
-use Rattle.filter_tree.proofs.tree.matches.Reads as reads
-use Rattle.filter_tree.proofs.tree.matches.Lts as lts
-use Rattle.filter_item.proofs.seen.ask.Reads as ask-reads
-use Rattle.filter_tree.proofs.items.note_truths.Reads as note-truths-reads
-use Rattle.filter_tree.proofs.tree.evaluate.Reads as evaluate-reads
-use Rattle.filter_tree.proofs.truth.is_true.Reads as is-true-reads
 
 ask-requires : tie.Need-ask-requires
 ask-requires c κs = (c .before .before .before .pre .0, c .before .before .before .pre .3)
@@ -27,14 +21,8 @@ ask-requires c κs = (c .before .before .before .pre .0, c .before .before .befo
 note-truths-requires : tie.Need-note-truths-requires
 note-truths-requires c κs = ((c .before .before .before .before .before .before .pre .0 .0, c .before .before .before .before .before .before .pre .0 .1, c .before .before .before .before .before .before .pre .0 .2 .entries), c .before .before .before .before .before .before .pre .3, c .before .before .before .before .before .before .pre .1, c .before .before .before .before .before .before .pre .2)
 
-slice-aggregate-evaluate : tie.Need-slice-aggregate-evaluate
-slice-aggregate-evaluate c = search needs
-
 evaluate-requires : tie.Need-evaluate-requires
 evaluate-requires c κs = (c .before .before .before .before .before .before .before .before .before .pre .1 .room, omega arith)
-
-is-true-requires : tie.Need-is-true-requires
-is-true-requires c κs = search needs
 
 returns : tie.Need-returns
 unfolding matchesAt
@@ -43,10 +31,4 @@ returns c = λ σ es f w read. c .is-true .ensures ∙ ap isTrue (ap (λ (r : Ev
 pub matches-spec : {M : Type 1} → statement M
 matches-spec =
     tie.close
-    (tie.spec
-    ask-requires
-    note-truths-requires
-    slice-aggregate-evaluate
-    evaluate-requires
-    is-true-requires
-    returns)
+    (tie.spec ask-requires note-truths-requires (λ c. search needs) evaluate-requires (λ c κs. search needs) returns)

@@ -25,27 +25,6 @@ others = 3 ∷ 4 ∷ 5 ∷ 6 ∷ 7 ∷ 8 ∷ 9 ∷ 10 ∷ 11 ∷ 12 ∷ 13 ∷ 1
 other : (c : tie.At-match-keys4) (n : ℕ) → T (not (hasKey others (tagOf the-type (kindOf n)))) → eqb (c .before .before .args .kind) n ≡ false
 other c n t = ne-eqb _ n (λ e. miss others (tagOf the-type (kindOf n)) t (rw (c .before .kind-of .ensures, e) at (c .match .keys4)))
 
-kind-of-requires : tie.Need-kind-of-requires
-kind-of-requires c κs = search needs
-
-enum-told : tie.Need-enum-told
-enum-told c = search needs
-
-row-requires : tie.Need-row-requires
-row-requires c κs = search needs
-
-enum-told-2 : tie.Need-enum-told-2
-enum-told-2 c = search needs
-
-row-requires-2 : tie.Need-row-requires-2
-row-requires-2 c κs = search needs
-
-enum-told-3 : tie.Need-enum-told-3
-enum-told-3 c = search needs
-
-row-requires-3 : tie.Need-row-requires-3
-row-requires-3 c κs = search needs
-
 returns : tie.Need-returns
 unfolding inFormOf directoryForms
 returns c = let A = c .before .before .before .before .args in rw (c .row .ensures, kind-is (A .kind) 1 refl (sym (c .before .before .before .kind-of .ensures) ∙ c .before .enum-told .given .1)) (one-form (A .a) (A .b) (A .c) (A .len) (omega arith) (omega arith) (omega arith) (omega arith) _)
@@ -65,15 +44,5 @@ returns-4 c = rw (other c 1 tt, other c 2 tt, other c 3 tt)
 pub directory-columns-spec : {M : Type 1} → statement M
 directory-columns-spec =
     tie.close
-    (tie.spec
-    kind-of-requires
-    enum-told
-    row-requires
-    enum-told-2
-    row-requires-2
-    enum-told-3
-    row-requires-3
-    returns
-    returns-2
-    returns-3
-    returns-4)
+    (tie.spec (λ c κs. search needs) (λ c. search needs) (λ c κs. search needs) (λ c. search needs) (λ c κs. search needs) (λ c. search needs)
+    (λ c κs. search needs) returns returns-2 returns-3 returns-4)

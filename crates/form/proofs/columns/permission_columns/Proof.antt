@@ -25,45 +25,6 @@ others = 0 ∷ 1 ∷ 2 ∷ 9 ∷ 10 ∷ 11 ∷ 12 ∷ 13 ∷ 14 ∷ 15 ∷ 16 �
 other : (c : tie.At-match-keys7) (n : ℕ) → T (not (hasKey others (tagOf the-type (kindOf n)))) → eqb (c .before .before .args .kind) n ≡ false
 other c n t = ne-eqb _ n (λ e. miss others (tagOf the-type (kindOf n)) t (rw (c .before .kind-of .ensures, e) at (c .match .keys7)))
 
-kind-of-requires : tie.Need-kind-of-requires
-kind-of-requires c κs = search needs
-
-enum-told : tie.Need-enum-told
-enum-told c = search needs
-
-row-requires : tie.Need-row-requires
-row-requires c κs = search needs
-
-enum-told-2 : tie.Need-enum-told-2
-enum-told-2 c = search needs
-
-row-requires-2 : tie.Need-row-requires-2
-row-requires-2 c κs = search needs
-
-enum-told-3 : tie.Need-enum-told-3
-enum-told-3 c = search needs
-
-user-class-columns-requires : tie.Need-user-class-columns-requires
-user-class-columns-requires c κs = search needs
-
-enum-told-4 : tie.Need-enum-told-4
-enum-told-4 c = search needs
-
-protected-item-columns-requires : tie.Need-protected-item-columns-requires
-protected-item-columns-requires c κs = search needs
-
-enum-told-5 : tie.Need-enum-told-5
-enum-told-5 c = search needs
-
-row-requires-3 : tie.Need-row-requires-3
-row-requires-3 c κs = search needs
-
-enum-told-6 : tie.Need-enum-told-6
-enum-told-6 c = search needs
-
-row-requires-4 : tie.Need-row-requires-4
-row-requires-4 c κs = search needs
-
 returns : tie.Need-returns
 unfolding inFormOf permissionForms
 returns c = let A = c .before .before .before .before .args in rw (c .row .ensures, kind-is (A .kind) 4 refl (sym (c .before .before .before .kind-of .ensures) ∙ c .before .enum-told .given .1)) (one-form (A .a) (A .b) (A .c) (A .len) (omega arith) (omega arith) (omega arith) (omega arith) _)
@@ -93,24 +54,6 @@ returns-7 c = rw (other c 4 tt, other c 5 tt, other c 6 tt, other c 7 tt, other 
 pub permission-columns-spec : {M : Type 1} → statement M
 permission-columns-spec =
     tie.close
-    (tie.spec
-    kind-of-requires
-    enum-told
-    row-requires
-    enum-told-2
-    row-requires-2
-    enum-told-3
-    user-class-columns-requires
-    enum-told-4
-    protected-item-columns-requires
-    enum-told-5
-    row-requires-3
-    enum-told-6
-    row-requires-4
-    returns
-    returns-2
-    returns-3
-    returns-4
-    returns-5
-    returns-6
-    returns-7)
+    (tie.spec (λ c κs. search needs) (λ c. search needs) (λ c κs. search needs) (λ c. search needs) (λ c κs. search needs) (λ c. search needs)
+    (λ c κs. search needs) (λ c. search needs) (λ c κs. search needs) (λ c. search needs) (λ c κs. search needs) (λ c. search needs)
+    (λ c κs. search needs) returns returns-2 returns-3 returns-4 returns-5 returns-6 returns-7)

@@ -25,57 +25,6 @@ others = 0 ∷ 1 ∷ 2 ∷ 3 ∷ 4 ∷ 5 ∷ 6 ∷ 7 ∷ 16 ∷ 17 ∷ []
 other : (c : tie.At-match-keys9) (n : ℕ) → T (not (hasKey others (tagOf the-type (kindOf n)))) → eqb (c .before .before .args .kind) n ≡ false
 other c n t = ne-eqb _ n (λ e. miss others (tagOf the-type (kindOf n)) t (rw (c .before .kind-of .ensures, e) at (c .match .keys9)))
 
-kind-of-requires : tie.Need-kind-of-requires
-kind-of-requires c κs = search needs
-
-enum-told : tie.Need-enum-told
-enum-told c = search needs
-
-row-requires : tie.Need-row-requires
-row-requires c κs = search needs
-
-enum-told-2 : tie.Need-enum-told-2
-enum-told-2 c = search needs
-
-row-requires-2 : tie.Need-row-requires-2
-row-requires-2 c κs = search needs
-
-enum-told-3 : tie.Need-enum-told-3
-enum-told-3 c = search needs
-
-operation-columns-requires : tie.Need-operation-columns-requires
-operation-columns-requires c κs = search needs
-
-enum-told-4 : tie.Need-enum-told-4
-enum-told-4 c = search needs
-
-selection-columns-requires : tie.Need-selection-columns-requires
-selection-columns-requires c κs = search needs
-
-enum-told-5 : tie.Need-enum-told-5
-enum-told-5 c = search needs
-
-row-requires-3 : tie.Need-row-requires-3
-row-requires-3 c κs = search needs
-
-enum-told-6 : tie.Need-enum-told-6
-enum-told-6 c = search needs
-
-row-requires-4 : tie.Need-row-requires-4
-row-requires-4 c κs = search needs
-
-enum-told-7 : tie.Need-enum-told-7
-enum-told-7 c = search needs
-
-row-requires-5 : tie.Need-row-requires-5
-row-requires-5 c κs = search needs
-
-enum-told-8 : tie.Need-enum-told-8
-enum-told-8 c = search needs
-
-filter-columns-requires : tie.Need-filter-columns-requires
-filter-columns-requires c κs = search needs
-
 returns : tie.Need-returns
 unfolding inFormOf requestForms
 returns c = let A = c .before .before .before .before .args in rw (c .row .ensures, kind-is (A .kind) 9 refl (sym (c .before .before .before .kind-of .ensures) ∙ c .before .enum-told .given .1)) (one-form (A .a) (A .b) (A .c) (A .len) (omega arith) (omega arith) (omega arith) (omega arith) _)
@@ -112,30 +61,7 @@ returns-9 c = rw (other c 9 tt, other c 10 tt, other c 11 tt, other c 12 tt, oth
 pub request-columns-spec : {M : Type 1} → statement M
 request-columns-spec =
     tie.close
-    (tie.spec
-    kind-of-requires
-    enum-told
-    row-requires
-    enum-told-2
-    row-requires-2
-    enum-told-3
-    operation-columns-requires
-    enum-told-4
-    selection-columns-requires
-    enum-told-5
-    row-requires-3
-    enum-told-6
-    row-requires-4
-    enum-told-7
-    row-requires-5
-    enum-told-8
-    filter-columns-requires
-    returns
-    returns-2
-    returns-3
-    returns-4
-    returns-5
-    returns-6
-    returns-7
-    returns-8
-    returns-9)
+    (tie.spec (λ c κs. search needs) (λ c. search needs) (λ c κs. search needs) (λ c. search needs) (λ c κs. search needs) (λ c. search needs)
+    (λ c κs. search needs) (λ c. search needs) (λ c κs. search needs) (λ c. search needs) (λ c κs. search needs) (λ c. search needs)
+    (λ c κs. search needs) (λ c. search needs) (λ c κs. search needs) (λ c. search needs) (λ c κs. search needs) returns returns-2 returns-3 returns-4
+    returns-5 returns-6 returns-7 returns-8 returns-9)

@@ -7,27 +7,6 @@ use borrow.Author.Needs.{needs}
 use Rattle.form.proofs.columns.user_class_columns.Statement.{statement}
 use Rattle.form.proofs.columns.user_class_columns.Tie as tie
 
-row-requires : tie.Need-row-requires
-row-requires c κs = search needs
-
-row-requires-2 : tie.Need-row-requires-2
-row-requires-2 c κs = search needs
-
-row-requires-3 : tie.Need-row-requires-3
-row-requires-3 c κs = search needs
-
-row-requires-4 : tie.Need-row-requires-4
-row-requires-4 c κs = search needs
-
-or-requires : tie.Need-or-requires
-or-requires c κs = search needs
-
-or-requires-2 : tie.Need-or-requires-2
-or-requires-2 c κs = search needs
-
-or-requires-3 : tie.Need-or-requires-3
-or-requires-3 c κs = search needs
-
 returns : tie.Need-returns
 unfolding inFormOf permissionForms
 returns c = let A = c .before .before .before .before .before .before .before .args in rw (c .or3 .ensures, c .before .or2 .ensures, c .before .before .or .ensures, c .before .before .before .before .before .before .row .ensures, c .before .before .before .before .before .row2 .ensures, c .before .before .before .before .row3 .ensures, c .before .before .before .row4 .ensures) (four-forms (A .a) (A .b) (A .c) (A .len) (omega arith) (omega arith) (omega arith) (omega arith) _ _ _ _)
@@ -35,12 +14,5 @@ returns c = let A = c .before .before .before .before .before .before .before .a
 pub user-class-columns-spec : {M : Type 1} → statement M
 user-class-columns-spec =
     tie.close
-    (tie.spec
-    row-requires
-    row-requires-2
-    row-requires-3
-    row-requires-4
-    or-requires
-    or-requires-2
-    or-requires-3
-    returns)
+    (tie.spec (λ c κs. search needs) (λ c κs. search needs) (λ c κs. search needs) (λ c κs. search needs) (λ c κs. search needs)
+    (λ c κs. search needs) (λ c κs. search needs) returns)

@@ -11,8 +11,6 @@ use denote.Ref.{now}
 use Rattle.permissions.specs.Rows.{put-done}
 use Rattle.permissions.proofs.row.put.Statement.{statement}
 use Rattle.permissions.proofs.row.put.Tie as tie
-use Rattle.permissions.proofs.row.put.Reads as reads
-use Rattle.permissions.proofs.row.put.Lts as lts
 
 abbrev Inv-loop : tie.InvT-loop
 Inv-loop rows₀ at row i₀ rows i = (i ≤ length row) × (length rows ≡ length rows₀) × (rows ≡ paste rows₀ at row i)
@@ -23,32 +21,8 @@ abbrev μ-loop : tie.MeasureT-loop
 loop-holds : tie.Need-loop-holds Inv-loop μ-loop
 loop-holds c = (search needs, refl, paste-zero (now (c .args .rows)) (c .args .at) (now (c .args .row)))
 
-mul-rows : tie.Need-mul-rows Inv-loop μ-loop
-mul-rows c = search needs
-
-shared-slice-read-rows : tie.Need-shared-slice-read-rows Inv-loop μ-loop
-shared-slice-read-rows c = search needs
-
-add-rows : tie.Need-add-rows Inv-loop μ-loop
-add-rows c = search needs
-
-mul-rows-2 : tie.Need-mul-rows-2 Inv-loop μ-loop
-mul-rows-2 c = search needs
-
-slice-write-rows : tie.Need-slice-write-rows Inv-loop μ-loop
-slice-write-rows c = search needs
-
-add-i : tie.Need-add-i Inv-loop μ-loop
-add-i c = search needs
-
-loop-less : tie.Need-loop-less Inv-loop μ-loop
-loop-less c = search needs
-
 loop-again : tie.Need-loop-again Inv-loop μ-loop
 loop-again c = let A = c .before .before .before .args in let L = c .before .before .loop in let h : A .at + L .i < length (now (A .rows)) = omega arith in (search needs, simp length-set (L .inv .1), ap (λ (x : List ℕ). set x (A .at + L .i) (getD (now (A .row)) (L .i) 0)) (L .inv .2) ∙ rw add-one (paste-suc (now (A .rows)) (A .at) (now (A .row)) (L .i) 0 h (c .before .loop-test .taken)))
-
-same-length : tie.Need-same-length Inv-loop μ-loop
-same-length c = search needs
 
 returns : tie.Need-returns Inv-loop μ-loop
 returns c = let A = c .before .before .args in let L = c .before .loop in L .inv .2 ∙ put-done (now (A .rows)) (A .at) (now (A .row)) (L .i) (omega arith)
@@ -56,17 +30,5 @@ returns c = let A = c .before .before .args in let L = c .before .loop in L .inv
 pub put-spec : {M : Type 1} → statement M
 put-spec =
     tie.close
-    (tie.spec
-    Inv-loop
-    μ-loop
-    loop-holds
-    mul-rows
-    shared-slice-read-rows
-    add-rows
-    mul-rows-2
-    slice-write-rows
-    add-i
-    loop-less
-    loop-again
-    same-length
-    returns)
+    (tie.spec Inv-loop μ-loop loop-holds (λ c. search needs) (λ c. search needs) (λ c. search needs) (λ c. search needs) (λ c. search needs)
+    (λ c. search needs) (λ c. search needs) loop-again (λ c. search needs) returns)

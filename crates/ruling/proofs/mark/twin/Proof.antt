@@ -10,9 +10,6 @@ use denote.Ref.{now}
 use borrow.Author.Needs.{needs}
 use Rattle.ruling.proofs.mark.twin.Statement.{statement}
 use Rattle.ruling.proofs.mark.twin.Tie as tie
-use Rattle.ruling.proofs.mark.twin.Reads as reads
-use Rattle.ruling.proofs.mark.twin.Lts as lts
-use Rattle.ruling.proofs.mark.bears.Reads as bears-reads
 
 abbrev Inv-loop : tie.InvT-loop
 Inv-loop s w marks slotted head label syntax v k₀ k = (key : ℕ) (all : List Mark) → Walk w s marks slotted head label key v all → (rest : List Mark) × Left w s marks syntax key v k all rest
@@ -20,59 +17,34 @@ Inv-loop s w marks slotted head label syntax v k₀ k = (key : ℕ) (all : List 
 abbrev μ-loop : tie.MeasureT-loop
 μ-loop s w marks slotted head label syntax v k₀ k = k
 
--- src/mark.rt:43:9
 returns : tie.Need-returns Inv-loop μ-loop
 returns c = λ key all walk. sym (walk .without (c .if1 .taken) _)
 
--- src/mark.rt:39:5
 loop-holds : tie.Need-loop-holds Inv-loop μ-loop
 loop-holds c = λ key all walk. start walk
 
--- src/mark.rt:40:23
-sub-m : tie.Need-sub-m Inv-loop μ-loop
-sub-m c = search needs
-
--- src/mark.rt:40:17
 mul-m : tie.Need-mul-m Inv-loop μ-loop
 mul-m c = let q = c .before .loop .inv (c .before .before .before .before .before .before .pre .0) (c .before .before .before .before .before .before .pre .1) (c .before .before .before .before .before .before .pre .2) in omega (arith, index (c .before .before .before .before .before .before .pre .2) (q .0) (q .1) (c .loop-test .taken))
 
--- src/mark.rt:40:17
 shared-slice-read-m : tie.Need-shared-slice-read-m Inv-loop μ-loop
 shared-slice-read-m c = let q = c .before .before .loop .inv (c .before .before .before .before .before .before .before .pre .0) (c .before .before .before .before .before .before .before .pre .1) (c .before .before .before .before .before .before .before .pre .2) in omega (arith, index (c .before .before .before .before .before .before .before .pre .2) (q .0) (q .1) (c .before .loop-test .taken))
 
--- src/mark.rt:41:12
 bears-requires : tie.Need-bears-requires Inv-loop μ-loop
 bears-requires c κs = let q = c .before .before .loop .inv (c .before .before .before .before .before .before .before .pre .0) (c .before .before .before .before .before .before .before .pre .1) (c .before .before .before .before .before .before .before .pre .2) in let h = here (c .before .before .before .before .before .before .before .pre .2) (q .0) (q .1) (c .before .loop-test .taken) in readable (c .before .before .before .before .before .before .before .pre .2) (h .2)
 
--- src/mark.rt:42:13
 returns-2 : tie.Need-returns-2 Inv-loop μ-loop
 returns-2 c = λ key all walk. let q = c .before .before .before .before .loop .inv key all walk in let h = here walk (q .0) (q .1) (c .before .before .before .loop-test .taken) in found walk (h .2) (sym (c .before .bears .ensures) ∙ c .if2 .taken)
 
--- src/mark.rt:39:5
 loop-less : tie.Need-loop-less Inv-loop μ-loop
 loop-less c = let q = c .before .before .before .before .loop .inv (c .before .before .before .before .before .before .before .before .before .pre .0) (c .before .before .before .before .before .before .before .before .before .pre .1) (c .before .before .before .before .before .before .before .before .before .pre .2) in let h = here (c .before .before .before .before .before .before .before .before .before .pre .2) (q .0) (q .1) (c .before .before .before .loop-test .taken) in older (c .before .before .before .before .before .before .before .before .before .pre .2) (h .2)
 
--- src/mark.rt:39:5
 loop-again : tie.Need-loop-again Inv-loop μ-loop
 loop-again c = λ key all walk. let q = c .before .before .before .before .loop .inv key all walk in let h = here walk (q .0) (q .1) (c .before .before .before .loop-test .taken) in onward walk (h .2) (sym (c .before .bears .ensures) ∙ c .if2 .left)
 
--- src/mark.rt:34:1
 returns-3 : tie.Need-returns-3 Inv-loop μ-loop
 returns-3 c = λ key all walk. let q = c .before .loop .inv key all walk in gone walk (q .0) (q .1) (c .loop-test .left)
 
 pub twin-spec : {M : Type 1} → statement M
 twin-spec =
     tie.close
-    (tie.spec
-    Inv-loop
-    μ-loop
-    returns
-    loop-holds
-    sub-m
-    mul-m
-    shared-slice-read-m
-    bears-requires
-    returns-2
-    loop-less
-    loop-again
-    returns-3)
+    (tie.spec Inv-loop μ-loop returns loop-holds (λ c. search needs) mul-m shared-slice-read-m bears-requires returns-2 loop-less loop-again returns-3)
