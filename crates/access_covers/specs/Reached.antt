@@ -7,7 +7,7 @@ use Rattle.rules.specs.Directory.{Stored, blank}
 use Rattle.rules.specs.Decision.{Setting}
 use Rattle.rules.specs.Laws.Directory.{Accepted}
 use Rattle.rules.specs.Laws.First.{Ranked}
-use Rattle.rules.specs.Laws.Reach.{reachOf}
+use Rattle.rules.specs.Numbers.{reachOf}
 
 -- of the setting's items and the accepted entries `es`
 pub record Reached (σ : Setting) (es : List Stored) (reach order parents : List ℕ) : Type 0 where

@@ -9,7 +9,7 @@ ghost use lib.ListN.{length, getD, replicate};
 ghost use Rattle.rules.specs.Sheet.{Bytes};
 ghost use Rattle.rules.specs.Directory.{Stored};
 ghost use Rattle.rules.specs.Decision.{Setting};
-ghost use Rattle.schema.specs.Schema.{Rising};
+ghost use Rattle.directory_schema.specs.Schema.{Rising};
 ghost use Rattle.tables.specs.Sets.{Covers, Rights};
 ghost use Rattle.access_items.specs.Sorted.{Sorted};
 ghost use Rattle.access_covers.specs.Reached.{Reached};
@@ -32,16 +32,15 @@ pub fn note_covers(reach: &[usize], order: &[usize], parents: &[u64], sets: &mut
 // What the requester may, into a cleared table.
 pub fn note_rights(
     rights: &[u64],
-    w: usize,
     schema: &[u64],
     order: &[usize],
     reach: &[usize],
     parents: &[u64],
     sets: &mut [u64],
 )
-    requires { ⌜ (now sets ≡ replicate 2360 0) × Rising 0 (now schema) × (length (now schema) ≤ 64) × (w ≤ 18) × ((σ : Setting) × (es : List Stored) × (p : Bytes) × (scopes : List ℕ) × Sorted w p (σ .items) (now rights) scopes (now order) × Reached σ es (now reach) (now order) (now parents)) ⌝ }
-    ensures { λ _. ⌜ ((σ : Setting) (es : List Stored) (p : Bytes) (scopes : List ℕ) → Sorted w p (σ .items) (now (rights .entry)) scopes (now (order .entry)) → Reached σ es (now (reach .entry)) (now (order .entry)) (now (parents .entry)) → Rights σ es (now (schema .entry)) p (now (sets .exit))) ⌝ }
+    requires { ⌜ (now sets ≡ replicate 2360 0) × Rising 0 (now schema) × (length (now schema) ≤ 64) × ((σ : Setting) × (es : List Stored) × (w : ℕ) × (p : Bytes) × (scopes : List ℕ) × Sorted w p (σ .items) (now rights) scopes (now order) × Reached σ es (now reach) (now order) (now parents)) ⌝ }
+    ensures { λ _. ⌜ ((σ : Setting) (es : List Stored) (w : ℕ) (p : Bytes) (scopes : List ℕ) → Sorted w p (σ .items) (now (rights .entry)) scopes (now (order .entry)) → Reached σ es (now (reach .entry)) (now (order .entry)) (now (parents .entry)) → Rights σ es (now (schema .entry)) p (now (sets .exit))) ⌝ }
 {
-    access_items::note_items(rights, w, schema, order, sets);
+    access_items::note_items(rights, schema, order, sets);
     note_covers(reach, order, parents, sets);
 }

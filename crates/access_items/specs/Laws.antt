@@ -1,6 +1,5 @@
 pub mod Rows
 pub mod Mark
-pub mod Types
 pub mod Rank
 pub mod Note
 pub mod Items

@@ -3,9 +3,10 @@
 use Prim.Native.Nat.{ℕ, zero, suc, _+_, _*_, _/_, _%_, _^_, _≤_, _<_}
 use mathlib.Core.Bool.{cond}
 use mathlib.Core.List.{List}
-use lib.Dec.{eqb}
+use lib.Dec.{ltb}
 use lib.ListN.{length, getD, set}
-use Rattle.permissions.specs.Noted.{DIGEST, GRANTS, WHAT, TYPE, PERMISSIONS, VALUE, LENGTH, RIGHTS}
+use Rattle.name.specs.Schema.{rankIn}
+use Rattle.permission_sheet.specs.Noted.{DIGEST, GRANTS, WHAT, TYPE, PERMISSIONS, VALUE, LENGTH, RIGHTS}
 use Rattle.tables.specs.Sets.{slotOf}
 use Rattle.access_items.specs.Mark.{marked}
 
@@ -15,12 +16,6 @@ pub record Small (rights : List ℕ) (at : ℕ) : Type 0 where
   pub digest : getD rights (at + DIGEST) 0 < 4294967296
   pub grants : getD rights (at + GRANTS) 0 < 2
   pub what : getD rights (at + WHAT) 0 < 6
-  pub type : getD rights (at + TYPE) 0 < 1000
-  pub value : getD rights (at + VALUE) 0 ≤ 65536
-
--- 1 for a number that is not 0
-unfoldable pub present : ℕ → ℕ
-present n = cond (eqb n 0) 0 1
 
 -- the first `n` permissions of a mask
 unfoldable pub permitted : ℕ → ℕ → ℕ → List ℕ → List ℕ
@@ -31,22 +26,25 @@ permitted (suc b) mask j t = marked (permitted b mask j t) (258 + b) j (mask / 2
 unfoldable pub grantsNoted : List ℕ → ℕ → ℕ → List ℕ → List ℕ
 grantsNoted rights at j t = permitted 6 (getD rights (at + PERMISSIONS) 0) j (marked t 257 j (getD rights (at + GRANTS) 0))
 
--- what it is about; `rank` is one more than the rank of its type, or 0
-unfoldable pub aboutNoted : List ℕ → ℕ → ℕ → ℕ → List ℕ → List ℕ
-aboutNoted rights at rank j t =
-    marked (marked (marked t (264 + getD rights (at + WHAT) 0) j 1) (269 + rank) j (present rank)) (334 + slotOf (getD rights (at + DIGEST) 0)) j 1
+-- what it is about: the kind, and the slot of its value's digest
+unfoldable pub aboutNoted : List ℕ → ℕ → ℕ → List ℕ → List ℕ
+aboutNoted rights at j t = marked (marked t (264 + getD rights (at + WHAT) 0) j 1) (334 + slotOf (getD rights (at + DIGEST) 0)) j 1
+
+-- the type `a` that it names, if the schema has it
+unfoldable pub typeNoted : List ℕ → ℕ → ℕ → List ℕ → List ℕ
+typeNoted schema a j t = cond (ltb (rankIn schema a) (length schema)) (marked t (270 + rankIn schema a) j 1) t
 
 -- the digest, the place and the length of its value
-unfoldable pub valueNoted : List ℕ → ℕ → ℕ → ℕ → List ℕ → List ℕ
-valueNoted rights at w j t =
-    set (set (set t (1592 + j) (getD rights (at + DIGEST) 0)) (1848 + j) (getD rights (at + VALUE) 0 + 5 * w)) (2104 + j) (getD rights (at + LENGTH) 0)
+unfoldable pub valueNoted : List ℕ → ℕ → ℕ → List ℕ → List ℕ
+valueNoted rights at j t =
+    set (set (set t (1592 + j) (getD rights (at + DIGEST) 0)) (1848 + j) (getD rights (at + VALUE) 0)) (2104 + j) (getD rights (at + LENGTH) 0)
 
 -- the item
-unfoldable pub itemNoted : List ℕ → ℕ → ℕ → List ℕ → ℕ → List ℕ → List ℕ
-itemNoted rights at w ranks j t =
-    valueNoted rights at w j (aboutNoted rights at (getD ranks (getD rights (at + TYPE) 0) 0) j (grantsNoted rights at j t))
+unfoldable pub itemNoted : List ℕ → ℕ → List ℕ → ℕ → List ℕ → List ℕ
+itemNoted rights at schema j t =
+    valueNoted rights at j (typeNoted schema (getD rights (at + TYPE) 0) j (aboutNoted rights at j (grantsNoted rights at j t)))
 
 -- the first `n` items in their order
-unfoldable pub itemsNoted : List ℕ → ℕ → List ℕ → List ℕ → ℕ → List ℕ → List ℕ
-itemsNoted rights w ranks order zero t = t
-itemsNoted rights w ranks order (suc n) t = itemNoted rights (getD order n 0 * RIGHTS) w ranks n (itemsNoted rights w ranks order n t)
+unfoldable pub itemsNoted : List ℕ → List ℕ → List ℕ → ℕ → List ℕ → List ℕ
+itemsNoted rights schema order zero t = t
+itemsNoted rights schema order (suc n) t = itemNoted rights (getD order n 0 * RIGHTS) schema n (itemsNoted rights schema order n t)

@@ -6,7 +6,7 @@ use lib.ListN.{length}
 use Rattle.rules.specs.Sheet.{Bytes}
 use Rattle.rules.specs.Permission.{Item}
 use Rattle.rules.specs.Laws.First.{Ranked}
-use Rattle.permissions.specs.Noted.{Table}
+use Rattle.permission_sheet.specs.Noted.{Table}
 
 -- of the items `is` of the sheet `p`, in columns of `w` bytes
 pub record Sorted (w : ℕ) (p : Bytes) (is : List Item) (rights scopes order : List ℕ) : Type 0 where

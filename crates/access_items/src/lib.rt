@@ -2,10 +2,9 @@
 // A question is then answered by the first member of an intersection.
 pub mod mark;
 mod note;
-mod types;
 
-use permissions::RIGHTS;
-use permissions::SCORE;
+use permission_sheet::RIGHTS;
+use permission_sheet::SCORE;
 ghost use mathlib.Core.Path.{_≡_};
 ghost use mathlib.Core.List.{List};
 ghost use Prim.Native.Nat.{ℕ, _+_, _*_, _≤_, _<_};
@@ -13,8 +12,8 @@ ghost use lib.ListN.{length, getD, drop, replicate};
 ghost use Rattle.rules.specs.Sheet.{Bytes};
 ghost use Rattle.rules.specs.Permission.{Item};
 ghost use Rattle.rules.specs.Laws.First.{Ranked};
-ghost use Rattle.schema.specs.Schema.{Rising};
-ghost use Rattle.permissions.specs.Noted.{Table};
+ghost use Rattle.directory_schema.specs.Schema.{Rising};
+ghost use Rattle.permission_sheet.specs.Noted.{Table};
 ghost use Rattle.tables.specs.Sets.{Items};
 ghost use Rattle.access_items.specs.Sorted.{Sorted};
 
@@ -49,15 +48,14 @@ pub fn rank_items(rights: &[u64], count: usize, order: &mut [usize])
 }
 
 // The sets of the items, and the numbers of their values, into a cleared table. The sets of the entries stay empty.
-pub fn note_items(rights: &[u64], w: usize, schema: &[u64], order: &[usize], sets: &mut [u64])
-    requires { ⌜ (now sets ≡ replicate 2360 0) × Rising 0 (now schema) × (length (now schema) ≤ 64) × (w ≤ 18) × ((p : Bytes) × (is : List Item) × (scopes : List ℕ) × Sorted w p is (now rights) scopes (now order)) ⌝ }
-    ensures { λ _. ⌜ ((p : Bytes) (is : List Item) (scopes : List ℕ) → Sorted w p is (now (rights .entry)) scopes (now (order .entry)) → Items is (now (order .entry)) (now (schema .entry)) p (now (sets .exit))) ⌝ }
+pub fn note_items(rights: &[u64], schema: &[u64], order: &[usize], sets: &mut [u64])
+    requires { ⌜ (now sets ≡ replicate 2360 0) × Rising 0 (now schema) × (length (now schema) ≤ 64) × ((w : ℕ) × (p : Bytes) × (is : List Item) × (scopes : List ℕ) × Sorted w p is (now rights) scopes (now order)) ⌝ }
+    ensures { λ _. ⌜ ((w : ℕ) (p : Bytes) (is : List Item) (scopes : List ℕ) → Sorted w p is (now (rights .entry)) scopes (now (order .entry)) → Items is (now (order .entry)) (now (schema .entry)) p (now (sets .exit))) ⌝ }
     ensures { λ _. ⌜ ((i : ℕ) → i < 1028 → getD (now (sets .exit)) i 0 ≡ 0) ⌝ }
 {
-    let ranks = types::ranks(schema);
     let mut j: usize = 0;
     while j < order.len() {
-        note::note_item(rights, order[j] * RIGHTS, w, &ranks, j, sets);
+        note::note_item(rights, order[j] * RIGHTS, schema, j, sets);
         j += 1;
     }
 }

@@ -5,7 +5,7 @@ use mathlib.Core.List.{List}
 use lib.Dec.{eqb}
 use lib.ListN.{length, getD, take, drop}
 use Rattle.rules.specs.Sheet.{Bytes}
-use Rattle.value.specs.Digest.{digest}
+use Rattle.value_syntax.specs.Digest.{digest}
 use Rattle.name.specs.Schema.{equalBy}
 use Rattle.tables.specs.Sets.{inRow, slotOf}
 

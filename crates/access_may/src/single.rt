@@ -8,22 +8,14 @@ use tables::sets::LENGTH;
 use tables::sets::PLACE;
 use tables::sets::SLOT;
 use tables::sets::row;
-use value::digest::digest;
+use tables::sets::slot;
+use value_syntax::digest::digest;
 ghost use mathlib.Core.Path.{_≡_};
 ghost use mathlib.Core.Bool.{_&&_, _||_};
 ghost use Prim.Native.Nat.{_+_, _≤_, _<_};
 ghost use Rattle.access_set.specs.Member.{member};
-ghost use Rattle.tables.specs.Sets.{slotOf};
 ghost use Rattle.access_may.specs.Decided.{Decided, First};
 ghost use Rattle.access_may.specs.Single.{Within, agreesAt, sameAt};
-
-// The slot of a digest.
-fn slot(digest: u64) -> usize
-    requires { ⌜ digest < 4294967296 ⌝ }
-    ensures { λ r. ⌜ r ≡ slotOf digest ⌝ }
-{
-    ((digest + digest / 2048) % 64) as usize
-}
 
 // Is the value of the item at place `i` the value `v`, by digest and bytes?
 fn agrees(sets: &[u64; 2360], p: &[u8], syntax: u64, digest: u64, v: &[u8], i: usize) -> bool

@@ -1,7 +1,7 @@
 // Is an item for the requester? The level counts for a grant alone; then the users that the item is for.
 use super::Requester;
 use super::Scope;
-use entry_lookup::names::covers;
+use directory_lookup::names::covers;
 ghost use mathlib.Core.Path.{_≡_};
 ghost use Rattle.rules.specs.Name as Name;
 ghost use Rattle.rules.specs.Places.{schemaOf, linesAt, partsOf};

@@ -2,18 +2,18 @@
 mod asked;
 
 use asked::asked;
-use entry_lookup::climb::climbs;
-use entry_lookup::find::resolve;
-use permissions::BASE;
-use permissions::BASE_PARTS;
-use permissions::BELOW;
-use permissions::GRANTS;
-use permissions::LEVEL;
-use permissions::RIGHTS;
-use permissions::SCOPES;
-use permissions::USER;
-use permissions::USER_PARTS;
-use permissions::WHO;
+use directory_lookup::climb::climbs;
+use directory_lookup::find::resolve;
+use permission_sheet::BASE;
+use permission_sheet::BASE_PARTS;
+use permission_sheet::BELOW;
+use permission_sheet::GRANTS;
+use permission_sheet::LEVEL;
+use permission_sheet::RIGHTS;
+use permission_sheet::SCOPES;
+use permission_sheet::USER;
+use permission_sheet::USER_PARTS;
+use permission_sheet::WHO;
 use rules::Found;
 ghost use mathlib.Core.Path.{_≡_};
 ghost use Prim.Native.Nat.{ℕ, _+_, _*_, _≤_};
@@ -24,12 +24,10 @@ ghost use Rattle.rules.specs.Sheet.{Bytes};
 ghost use Rattle.rules.specs.Directory.{Stored};
 ghost use Rattle.rules.specs.Decision.{Setting};
 ghost use Rattle.rules.specs.Places.{linesAt, partsOf};
-ghost use Rattle.rules.specs.Laws.Resolve.{walk};
-ghost use Rattle.rules.specs.Laws.Reach.{numberOr0, baseReach, ownReach, reachOf};
-ghost use Rattle.permissions.specs.Noted.{Table};
+ghost use Rattle.rules.specs.Numbers.{walk, numberOr0, baseReach, ownReach, reachOf};
+ghost use Rattle.permission_sheet.specs.Noted.{Table};
 ghost use Rattle.tables.specs.Book.{entries, width};
-ghost use Rattle.tables.specs.World.{Entries};
-ghost use Rattle.entry_lookup.specs.Find.{Listed};
+ghost use Rattle.tables.specs.World.{Entries, Listed};
 ghost use Rattle.access_scope.specs.Scopes.{Asker, scopeAt, spreadBy, spreadFrom, itemBy};
 
 // The requester: the level, and the name, the `parts` K 9 lines at position `place` of the request.

@@ -1,18 +1,13 @@
 -- What a request selects, and how it is noted.
-use Prim.Native.Nat.{ℕ, _≤_, _<_}
+use Prim.Native.Nat.{ℕ, _≤_}
 use mathlib.Core.Path.{_≡_}
 use mathlib.Core.Bool.{false}
-use mathlib.Core.List.{List, []}
+use mathlib.Core.List.{[]}
 use lib.ListN.{length}
 use Rattle.rules.specs.Sheet.{Bytes}
 use Rattle.rules.specs.Request.{Selection, Operation, read, compare, list, search}
 use Rattle.rules.specs.Places.{linesAt, typesOf}
-use Rattle.request.specs.declared.Asked.{Asked}
-use Rattle.tables.specs.Held.{typeAt}
-
--- no two ranks have one type
-abbrev pub Distinct : List ℕ → Type 0
-Distinct ks = (i j : ℕ) → i < length ks → j < length ks → typeAt ks i ≡ typeAt ks j → i ≡ j
+use Rattle.request_sheet.specs.declared.Asked.{Asked}
 
 -- nothing
 abbrev pub nothingSelected : Selection

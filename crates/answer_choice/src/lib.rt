@@ -1,13 +1,11 @@
 // What a request selects, K 12, by the ranks of the types in the schema: made once for a request.
 use answer_plan::Choice;
-use request::Asked;
-use rules::Front;
-use tables::book::SCHEMA;
-use tables::book::TYPES;
+use request_sheet::Asked;
+use sheet_line::Taken;
 use tables::book::WIDTH;
 ghost use mathlib.Core.Path.{_≡_};
 ghost use mathlib.Core.Bool.{_||_};
-ghost use Prim.Native.Nat.{ℕ, _<_};
+ghost use Prim.Native.Nat.{ℕ, _≤_, _<_};
 ghost use lib.Dec.{eqb};
 ghost use lib.ListN.{length};
 ghost use Rattle.rules.specs.Lists.{any};
@@ -15,25 +13,21 @@ ghost use Rattle.rules.specs.Places.{linesAt, typesOf};
 ghost use Rattle.rules.specs.Request.{Selection};
 ghost use Rattle.access_set.specs.Member.{bit};
 ghost use Rattle.tables.specs.Book.{Fits, width, schema};
-ghost use Rattle.tables.specs.Held.{typeAt};
+ghost use Rattle.tables.specs.Held.{typeAt, Distinct};
 ghost use Rattle.answer_plan.specs.Choice.{Chooses};
-ghost use Rattle.answer_choice.specs.Selected.{Distinct, Selects};
+ghost use Rattle.answer_choice.specs.Selected.{Selects};
 
 // All ranks.
 const ALL: u64 = 18446744073709551615;
 
 // The ranks with that of the type `t`, if the schema has it.
-fn with_type(book: &[u64; 1353], ranks: u64, t: u64) -> u64
-    requires { ⌜ Fits (now book) × Distinct (schema (now book)) ⌝ }
-    ensures { λ r. ⌜ ((i : ℕ) → i < length (schema (now (book .entry))) → bit r i ≡ (eqb (typeAt (schema (now (book .entry))) i) t || bit ranks i)) ⌝ }
+fn with_type(types: &[u64], ranks: u64, t: u64) -> u64
+    requires { ⌜ (length (now types) ≤ 64) × Distinct (now types) ⌝ }
+    ensures { λ r. ⌜ ((i : ℕ) → i < length (now (types .entry)) → bit r i ≡ (eqb (typeAt (now (types .entry)) i) t || bit ranks i)) ⌝ }
 {
-    let types = book[TYPES] as usize;
-    let mut i: usize = 0;
-    while i < types {
-        if book[SCHEMA + i] / 4 == t {
-            return ranks | (1u64 << i);
-        }
-        i += 1;
+    let i = name::rank(types, t);
+    if i < types.len() {
+        return ranks | (1u64 << i);
     }
     ranks
 }
@@ -43,27 +37,22 @@ fn ranks_listed(book: &[u64; 1353], q: &[u8], i: usize, n: usize) -> u64
     requires { ⌜ Fits (now book) × Distinct (schema (now book)) ⌝ }
     ensures { λ r. ⌜ ((k : ℕ) → k < length (schema (now (book .entry))) → bit r k ≡ any (eqb (typeAt (schema (now (book .entry))) k)) (typesOf n (linesAt (width (now (book .entry))) (now (q .entry)) i))) ⌝ }
 {
+    let types = tables::book::schema(book);
     let w = book[WIDTH] as usize;
     let mut ranks: u64 = 0;
     let mut j = i;
     let mut left = n;
     while 0 < left {
-        match sheet::line_at(q, j, w) {
-            Front::Taken {
-                kind: _,
-                a,
-                b: _,
-                c: _,
-                length,
-            } => {
-                ranks = with_type(book, ranks, a);
-                j += 5 * w + 1 + length;
+        match sheet_line::take(q, j, w) {
+            Taken::Line(x) => {
+                ranks = with_type(types, ranks, x.a);
+                j = x.next;
                 left -= 1;
             }
-            Front::NotInForm => {
+            Taken::NotInForm => {
                 return ranks;
             }
-            Front::End => {
+            Taken::End => {
                 return ranks;
             }
         }

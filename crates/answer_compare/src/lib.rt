@@ -14,6 +14,7 @@ use tables::book::SCHEMA;
 use tables::held::bytes;
 use tables::sets::COMPARE;
 use tables::sets::DISCLOSE_ON_ERROR;
+use tables::sets::READ;
 ghost use mathlib.Core.Path.{_≡_};
 ghost use mathlib.Core.Bool.{true};
 ghost use mathlib.Core.List.{List, map};
@@ -61,7 +62,7 @@ fn outcome_of(book: &[u64; 1353], sets: &[u64; 2360], k: usize, rank: usize, v: 
     ensures { λ r. ⌜ ((σ : Setting) (es : List Stored) (d p : Bytes) (held : List ℕ) → World σ es d p (now (book .entry)) held (now (sets .entry)) → holds (entryOf (getD es k blank)) (typeAt (schema (now (book .entry))) rank) ≡ true → r ≡ compareOutcome σ (typeAt (schema (now (book .entry))) rank) (now (v .entry)) (entryOf (getD es k blank))) ⌝ }
 {
     if may_type(sets, k + 1, rank, COMPARE) {
-        if value::fits(book[SCHEMA + rank] % 4, v) {
+        if value_syntax::fits(book[SCHEMA + rank] % 4, v) {
             return 0;
         }
         return 4;
@@ -188,7 +189,7 @@ fn compare_entry(
     requires { ⌜ Known (now d) (now p) (now book) (now held) (now sets) × (b ≤ entries (now book)) × (missing ≤ entries (now book)) ⌝ }
     ensures { λ r. ⌜ ((hits : List ℕ) → Sound (entries (now (book .entry))) r hits) × ((σ : Setting) (es : List Stored) (n : Name) (base : Found) (s : Selection) (hits : List ℕ) → World σ es (now (d .entry)) (now (p .entry)) (now (book .entry)) (now (held .entry)) (now (sets .entry)) → Base σ es n base missing → base ≡ At b → planned σ es s r hits ≡ Answer.answer σ (map entryOf es) n (Request.compare t (now (v .entry)))) ⌝ }
 {
-    let opened = opening(sets, b);
+    let opened = opening(sets, b, READ);
     if opened != 0 {
         return withheld(2, opened, missing);
     }

@@ -11,7 +11,7 @@ use tables::sets::READ;
 use tables::sets::RETURN_DN;
 ghost use mathlib.Core.Path.{_≡_};
 ghost use mathlib.Core.List.{List};
-ghost use Prim.Native.Nat.{ℕ, _≤_};
+ghost use Prim.Native.Nat.{ℕ, _≤_, _<_, _^_};
 ghost use lib.ListN.{length};
 ghost use Rattle.rules.specs.Sheet.{Bytes};
 ghost use Rattle.rules.specs.Directory.{Stored};
@@ -26,12 +26,12 @@ pub struct Target {
     pub missing: usize,
 }
 
-// The outcome of opening entry number `e`: 0 with Read, else 2 with DiscloseOnError, else 1.
-pub fn opening(sets: &[u64; 2360], e: usize) -> u64
-    requires { ⌜ (e ≤ 256) × ((d p : Bytes) × (book held : List ℕ) × Known d p book held (now sets)) ⌝ }
-    ensures { λ r. ⌜ ((σ : Setting) (es : List Stored) (d p : Bytes) (book held : List ℕ) → World σ es d p book held (now (sets .entry)) → e ≤ length es → r ≡ openingAt σ es e) ⌝ }
+// The outcome of opening entry number `e` by permission `q`: 0 with it, else 2 with DiscloseOnError, else 1.
+pub fn opening(sets: &[u64; 2360], e: usize, q: usize) -> u64
+    requires { ⌜ (e ≤ 256) × (q < 6) × ((d p : Bytes) × (book held : List ℕ) × Known d p book held (now sets)) ⌝ }
+    ensures { λ r. ⌜ ((σ : Setting) (es : List Stored) (d p : Bytes) (book held : List ℕ) → World σ es d p book held (now (sets .entry)) → e ≤ length es → r ≡ openingAt σ es e (2 ^ q)) ⌝ }
 {
-    if may_entry(sets, e, READ) {
+    if may_entry(sets, e, q) {
         return 0;
     }
     if may_entry(sets, e, DISCLOSE_ON_ERROR) {

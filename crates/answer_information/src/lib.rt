@@ -4,6 +4,7 @@ mod values;
 use access_may::may_type;
 use answer_line::emit;
 use answer_plan::Choice;
+use answer_plan::chosen;
 use tables::book::FIRST;
 use tables::book::SCHEMA;
 use tables::book::WIDTH;
@@ -17,7 +18,6 @@ ghost use Rattle.rules.specs.Sheet.{Bytes};
 ghost use Rattle.rules.specs.Directory.{Stored, nameAt};
 ghost use Rattle.rules.specs.Decision.{Setting};
 ghost use Rattle.rules.specs.Request.{Selection};
-ghost use Rattle.access_set.specs.Member.{bit};
 ghost use Rattle.tables.specs.Book.{width, types, entries};
 ghost use Rattle.tables.specs.Book as Book;
 ghost use Rattle.tables.specs.Held.{typeAt};
@@ -33,14 +33,6 @@ pub struct Run {
     pub rank: usize,
     pub first: usize,
     pub end: usize,
-}
-
-// Is the type of this rank selected?
-fn chosen(choice: Choice, rank: usize) -> bool
-    requires { ⌜ rank < 64 ⌝ }
-    ensures { λ r. ⌜ r ≡ bit (choice .ranks) rank ⌝ }
-{
-    (choice.ranks >> rank) % 2 == 1
 }
 
 // Is it selected, with Read on it in entry number `e`?

@@ -4,8 +4,7 @@ use access_may::may_value;
 use answer_line::emit;
 use tables::book::SCHEMA;
 use tables::book::WIDTH;
-use tables::held::PLACE;
-use tables::held::SIZE;
+use tables::held::bytes;
 use tables::sets::READ;
 ghost use Prim.Native.Nat.{ℕ, _+_, _-_, _*_, _≤_, _<_, _^_};
 ghost use mathlib.Core.List.{List, [], _∷_};
@@ -69,9 +68,7 @@ fn emit_values(
     let end = run.end;
     let mut i = run.first;
     while i < end {
-        let from = held[PLACE + i] as usize;
-        let to = from + held[SIZE + i] as usize;
-        st = emit_value(out, st, book, sets, p, e, run.rank, &d[from..to]);
+        st = emit_value(out, st, book, sets, p, e, run.rank, bytes(held, d, i));
         i += 1;
     }
     st

@@ -24,5 +24,5 @@ pub fn emit(
     if out.len() < end {
         return end;
     }
-    write::put_line(out, at, w, kind, a, b, c, bytes)
+    sheet_write::put_line(out, at, w, kind, a, b, c, bytes)
 }

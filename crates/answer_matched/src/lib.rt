@@ -1,7 +1,7 @@
 // The matched name of a request: the longest proper beginning that names an entry on which DiscloseOnError is granted.
 use access_may::may_entry;
-use entry_lookup::find::Step;
-use entry_lookup::find::down;
+use directory_lookup::find::Step;
+use directory_lookup::find::down;
 use tables::sets::DISCLOSE_ON_ERROR;
 ghost use mathlib.Core.Path.{_≡_};
 ghost use Prim.Native.Nat.{ℕ, _-_, _≤_};
@@ -48,7 +48,7 @@ pub fn matched(
     let mut from: usize = 0;
     let mut j = place;
     while 0 < left {
-        match down(book, d, from, q, j, left) {
+        match down(book, d, from, q, j) {
             Step::To { number, next } => {
                 last = disclosed(sets, number, last);
                 from = number;

@@ -1,11 +1,10 @@
 // Names in an answer, from the numbers of the book: an entry's naming part, and the parts of its full name. Entries have indices from 0 and numbers from 1;
 // 0 is the number of the root.
 use answer_line::emit;
-use tables::book::LENGTH;
 use tables::book::NAMING;
 use tables::book::PARENT;
-use tables::book::POSITION;
 use tables::book::WIDTH;
+use tables::book::naming_value;
 ghost use mathlib.Core.Path.{_≡_};
 ghost use Prim.Native.Nat.{ℕ, _+_, _*_, _≤_, _<_, _^_};
 ghost use mathlib.Core.List.{List, [], _∷_};
@@ -15,24 +14,31 @@ ghost use Rattle.rules.specs.Directory.{Stored, blank, nameAt};
 ghost use Rattle.rules.specs.Decision.{Setting};
 ghost use Rattle.rules.specs.Answer.{nameLines, entryLines};
 ghost use Rattle.tables.specs.Book.{width, entries};
-ghost use Rattle.tables.specs.World.{Entries};
+ghost use Rattle.tables.specs.World.{Entries, Listed};
 ghost use Rattle.answer_line.specs.Emit.{Emits};
-ghost use Rattle.answer_name.specs.Name.{Noted, namingLine};
+ghost use Rattle.answer_name.specs.Name.{namingLine};
 
 // A line of a kind with the naming part of the entry of index `k`, its bytes a part of the directory `d`.
 fn emit_part(out: &mut [u8], at: usize, book: &[u64; 1353], d: &[u8], k: usize, kind: u64) -> usize
-    requires { ⌜ Noted (now d) (now book) × (at ≤ 2 ^ 52) × (k < entries (now book)) ⌝ }
+    requires { ⌜ Listed (now d) (now book) × (at ≤ 2 ^ 52) × (k < entries (now book)) ⌝ }
     ensures { λ r. ⌜ (r ≤ at + 2 ^ 17) × ((σ : Setting) (es : List Stored) (held : List ℕ) → Entries σ es (now (d .entry)) (now (book .entry)) held → Emits (width (now (book .entry))) (now (out .entry)) at (namingLine kind (getD es k blank) ∷ []) (now (out .exit)) r) ⌝ }
 {
     let w = book[WIDTH] as usize;
-    let from = book[POSITION + k] as usize + 5 * w;
-    let end = from + book[LENGTH + k] as usize;
-    emit(out, at, w, kind, book[NAMING + k], 0, 0, &d[from..end])
+    emit(
+        out,
+        at,
+        w,
+        kind,
+        book[NAMING + k],
+        0,
+        0,
+        naming_value(book, d, k),
+    )
 }
 
 // The K 32 line of the entry of index `k`: its naming part.
 pub fn emit_child(out: &mut [u8], at: usize, book: &[u64; 1353], d: &[u8], k: usize) -> usize
-    requires { ⌜ Noted (now d) (now book) × (at ≤ 2 ^ 50) × (k < entries (now book)) ⌝ }
+    requires { ⌜ Listed (now d) (now book) × (at ≤ 2 ^ 50) × (k < entries (now book)) ⌝ }
     ensures { λ r. ⌜ (r ≤ at + 2 ^ 17) × ((σ : Setting) (es : List Stored) (held : List ℕ) → Entries σ es (now (d .entry)) (now (book .entry)) held → Emits (width (now (book .entry))) (now (out .entry)) at (namingLine 32 (getD es k blank) ∷ []) (now (out .exit)) r) ⌝ }
 {
     emit_part(out, at, book, d, k, 32)
@@ -40,7 +46,7 @@ pub fn emit_child(out: &mut [u8], at: usize, book: &[u64; 1353], d: &[u8], k: us
 
 // The number of parts of the name of entry number `e`: its ancestors and itself.
 pub fn depth(book: &[u64; 1353], e: usize) -> usize
-    requires { ⌜ ((d : Bytes) × Noted d (now book)) × (e ≤ entries (now book)) ⌝ }
+    requires { ⌜ ((d : Bytes) × Listed d (now book)) × (e ≤ entries (now book)) ⌝ }
     ensures { λ r. ⌜ ((σ : Setting) (es : List Stored) (d : Bytes) (held : List ℕ) → Entries σ es d (now (book .entry)) held → r ≡ length (nameAt es e)) ⌝ }
 {
     let mut n: usize = 0;
@@ -54,7 +60,7 @@ pub fn depth(book: &[u64; 1353], e: usize) -> usize
 
 // The K 9 lines of the full name of entry number `e`, from depth 1 down; the root has none.
 pub fn emit_name(out: &mut [u8], at: usize, book: &[u64; 1353], d: &[u8], e: usize) -> usize
-    requires { ⌜ Noted (now d) (now book) × (at ≤ 2 ^ 51) × (e ≤ entries (now book)) ⌝ }
+    requires { ⌜ Listed (now d) (now book) × (at ≤ 2 ^ 51) × (e ≤ entries (now book)) ⌝ }
     ensures { λ r. ⌜ (r ≤ at + e * 2 ^ 17) × ((σ : Setting) (es : List Stored) (held : List ℕ) → Entries σ es (now (d .entry)) (now (book .entry)) held → Emits (width (now (book .entry))) (now (out .entry)) at (nameLines (nameAt es e)) (now (out .exit)) r) ⌝ }
 {
     if e == 0 {
@@ -67,7 +73,7 @@ pub fn emit_name(out: &mut [u8], at: usize, book: &[u64; 1353], d: &[u8], e: usi
 
 // The K 33 line of entry number `e`, with the number of parts of its full name, and the name.
 pub fn emit_entry(out: &mut [u8], at: usize, book: &[u64; 1353], d: &[u8], e: usize) -> usize
-    requires { ⌜ Noted (now d) (now book) × (at ≤ 2 ^ 50) × (e ≤ entries (now book)) ⌝ }
+    requires { ⌜ Listed (now d) (now book) × (at ≤ 2 ^ 50) × (e ≤ entries (now book)) ⌝ }
     ensures { λ r. ⌜ (r ≤ at + 2 ^ 26) × ((σ : Setting) (es : List Stored) (held : List ℕ) → Entries σ es (now (d .entry)) (now (book .entry)) held → Emits (width (now (book .entry))) (now (out .entry)) at (entryLines (nameAt es e)) (now (out .exit)) r) ⌝ }
 {
     let parts = depth(book, e);

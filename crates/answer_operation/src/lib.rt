@@ -5,17 +5,18 @@ use answer_list::list;
 use answer_plan::Choice;
 use answer_plan::Plan;
 use answer_read::read;
+use answer_search::Query;
 use answer_search::search;
-use request::Asked;
-use tables::book::WIDTH;
+use request_sheet::Asked;
 ghost use mathlib.Core.Path.{_≡_};
 ghost use mathlib.Core.List.{List, map};
 ghost use lib.ListN.{length};
 ghost use Rattle.rules.specs.Directory.{Stored, entryOf};
 ghost use Rattle.rules.specs.Decision.{Setting};
+ghost use Rattle.rules.specs.Judge.{Grammar};
 ghost use Rattle.rules.specs.Request.{Request};
 ghost use Rattle.rules.specs.Answer.{answer};
-ghost use Rattle.request.specs.Noted.{Noted};
+ghost use Rattle.request_sheet.specs.Noted.{Noted};
 ghost use Rattle.tables.specs.Book.{width, entries, schema};
 ghost use Rattle.tables.specs.World.{World, Known};
 ghost use Rattle.answer_plan.specs.Choice.{Chooses};
@@ -36,31 +37,23 @@ pub fn plan_of(
     choice: Choice,
     hits: &mut [usize; 256],
 ) -> Plan
-    requires { ⌜ Known (now d) (now p) (now book) (now held) (now sets) × Numbered (entries (now book)) (target .base) (target .missing) × (length (now hits) ≡ 256) × ((x : Request) × Noted (width (now book)) (now q) x asked) ⌝ }
-    ensures { λ r. ⌜ Sound (entries (now (book .entry))) r (now (hits .exit)) × ((σ : Setting) (es : List Stored) (x : Request) → World σ es (now (d .entry)) (now (p .entry)) (now (book .entry)) (now (held .entry)) (now (sets .entry)) → Noted (width (now (book .entry))) (now (q .entry)) x asked → Chooses (schema (now (book .entry))) (selectionOf (x .operation)) choice → Base σ es (x .base) (target .base) (target .missing) → planned σ es (selectionOf (x .operation)) r (now (hits .exit)) ≡ answer σ (map entryOf es) (x .base) (x .operation)) ⌝ }
+    requires { ⌜ Known (now d) (now p) (now book) (now held) (now sets) × Numbered (entries (now book)) (target .base) (target .missing) × (length (now hits) ≡ 256) × ((G : Grammar) × (x : Request) × Noted G (width (now book)) (now q) x asked) ⌝ }
+    ensures { λ r. ⌜ Sound (entries (now (book .entry))) r (now (hits .exit)) × ((σ : Setting) (es : List Stored) (G : Grammar) (x : Request) → World σ es (now (d .entry)) (now (p .entry)) (now (book .entry)) (now (held .entry)) (now (sets .entry)) → Noted G (width (now (book .entry))) (now (q .entry)) x asked → Chooses (schema (now (book .entry))) (selectionOf (x .operation)) choice → Base σ es (x .base) (target .base) (target .missing) → planned σ es (selectionOf (x .operation)) r (now (hits .exit)) ≡ answer σ (map entryOf es) (x .base) (x .operation)) ⌝ }
 {
     if asked.operation == 1 {
         return read(book, held, sets, d, p, choice, target);
     }
     if asked.operation == 2 {
-        let w = book[WIDTH] as usize;
-        let v = sheet::value_at(q, asked.value, asked.length, w);
+        let v = sheet_line::part(q, asked.value, asked.length);
         return compare(book, held, sets, d, p, asked.attribute, v, target);
     }
     if asked.operation == 3 {
         return list(book, sets, target, asked.limit, hits);
     }
-    search(
-        book,
-        held,
-        sets,
-        d,
-        p,
-        q,
-        target,
-        asked.limit,
-        asked.subset,
-        asked.filter,
-        hits,
-    )
+    let query = Query {
+        limit: asked.limit,
+        subset: asked.subset,
+        filter: asked.filter,
+    };
+    search(book, held, sets, d, p, q, target, query, hits)
 }

@@ -7,7 +7,7 @@ use Rattle.rules.specs.Name.{Name}
 use Rattle.rules.specs.Directory.{Stored, nameAt, entryOf}
 use Rattle.rules.specs.Decision.{Setting}
 use Rattle.rules.specs.Answer.{matchedName}
-use Rattle.rules.specs.Laws.Resolve.{walk}
+use Rattle.rules.specs.Numbers.{walk}
 use Rattle.rules.specs.declared.Found.{Found}
 use Rattle.rules.specs.declared.Found.the-variants.{At}
 use Rattle.answer_plan.specs.declared.Plan.{Plan}

@@ -1,5 +1,7 @@
 // What an answer is made of, decided before a byte of it is written: the outcome, the entries whose lines follow, by number, and what is selected of them.
 ghost use mathlib.Core.Path.{_≡_};
+ghost use Prim.Native.Nat.{_<_};
+ghost use Rattle.access_set.specs.Member.{bit};
 ghost use Rattle.answer_plan.specs.Outcome.{absentPlan, refusedPlan};
 
 // The answer of one request. What an operation or outcome does not have is 0.
@@ -56,4 +58,12 @@ pub fn refused(operation: u64, outcome: u64) -> Plan
         equal: 0,
         shown: 0,
     }
+}
+
+// Is the type of this rank selected?
+pub fn chosen(choice: Choice, rank: usize) -> bool
+    requires { ⌜ rank < 64 ⌝ }
+    ensures { λ r. ⌜ r ≡ bit (choice .ranks) rank ⌝ }
+{
+    (choice.ranks >> rank) % 2 == 1
 }

@@ -12,11 +12,10 @@ ghost use Rattle.rules.specs.Decision.{Setting};
 ghost use Rattle.rules.specs.Request.{Selection};
 ghost use Rattle.rules.specs.Answer.{entryLines};
 ghost use Rattle.tables.specs.Book.{width, entries, schema};
-ghost use Rattle.tables.specs.World.{Entries, World, Known};
+ghost use Rattle.tables.specs.World.{Entries, Listed, World, Known};
 ghost use Rattle.answer_line.specs.Emit.{Emits};
 ghost use Rattle.answer_plan.specs.Plan.{childLines, informationAt, foundLines};
 ghost use Rattle.answer_plan.specs.Choice.{Chooses};
-ghost use Rattle.answer_name.specs.Name.{Noted};
 
 // The K 32 lines of the entries with these indices.
 pub(crate) fn emit_children(
@@ -26,7 +25,7 @@ pub(crate) fn emit_children(
     d: &[u8],
     hits: &[usize],
 ) -> usize
-    requires { ⌜ Noted (now d) (now book) × (at ≤ 2 ^ 20) × (length (now hits) ≤ 256) × ((i : ℕ) → i < length (now hits) → getD (now hits) i 0 < entries (now book)) ⌝ }
+    requires { ⌜ Listed (now d) (now book) × (at ≤ 2 ^ 20) × (length (now hits) ≤ 256) × ((i : ℕ) → i < length (now hits) → getD (now hits) i 0 < entries (now book)) ⌝ }
     ensures { λ r. ⌜ ((σ : Setting) (es : List Stored) (held : List ℕ) → Entries σ es (now (d .entry)) (now (book .entry)) held → Emits (width (now (book .entry))) (now (out .entry)) at (gather (childLines es) (now (hits .entry))) (now (out .exit)) r) ⌝ }
 {
     let mut next = at;

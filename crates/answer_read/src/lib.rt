@@ -8,6 +8,7 @@ use answer_entry::withheld;
 use answer_plan::Choice;
 use answer_plan::Plan;
 use answer_plan::absent;
+use answer_plan::chosen;
 use answer_plan::refused;
 use rules::Found;
 use tables::book::FIRST;
@@ -31,7 +32,6 @@ ghost use Rattle.rules.specs.Request as Request;
 ghost use Rattle.rules.specs.Answer as Answer;
 ghost use Rattle.rules.specs.declared.Found.{Found};
 ghost use Rattle.rules.specs.declared.Found.the-variants.{At};
-ghost use Rattle.access_set.specs.Member.{bit};
 ghost use Rattle.tables.specs.Book.{entries, schema, firstAt};
 ghost use Rattle.tables.specs.Held.{rankAt, bytesAt, typeAt};
 ghost use Rattle.tables.specs.World.{World, Known};
@@ -39,15 +39,6 @@ ghost use Rattle.answer_plan.specs.Choice.{Chooses};
 ghost use Rattle.answer_plan.specs.Plan.{planned};
 ghost use Rattle.answer_plan.specs.Sound.{Base, Numbered, Sound};
 ghost use Rattle.answer_read.specs.Read.{readable, disclosing, readOutcome, readPlan};
-
-// Is the type of this rank chosen?
-pub fn chosen(choice: Choice, rank: usize) -> bool
-    requires { ⌜ rank < 64 ⌝ }
-    ensures { λ r. ⌜ r ≡ bit (choice .ranks) rank ⌝ }
-{
-    let ranks = choice.ranks;
-    (ranks >> rank) % 2 == 1
-}
 
 // Is something returned for the value in row `i`, held by the entry of index `k`: is its type chosen, with Read, and, if values are wanted, has it Read itself?
 fn readable_row(
@@ -219,7 +210,7 @@ fn read_entry(
     requires { ⌜ Known (now d) (now p) (now book) (now held) (now sets) × (b ≤ entries (now book)) × (missing ≤ entries (now book)) ⌝ }
     ensures { λ r. ⌜ ((hits : List ℕ) → Sound (entries (now (book .entry))) r hits) × ((σ : Setting) (es : List Stored) (n : Name) (base : Found) (s : Selection) (hits : List ℕ) → World σ es (now (d .entry)) (now (p .entry)) (now (book .entry)) (now (held .entry)) (now (sets .entry)) → Chooses (schema (now (book .entry))) s choice → Base σ es n base missing → base ≡ At b → planned σ es s r hits ≡ Answer.answer σ (map entryOf es) n (Request.read s)) ⌝ }
 {
-    let opened = opening(sets, b);
+    let opened = opening(sets, b, READ);
     if opened != 0 {
         return withheld(1, opened, missing);
     }

@@ -6,7 +6,7 @@ use lib.Dec.{eqb}
 use Rattle.rules.specs.Directory.{Stored}
 use Rattle.rules.specs.Decision.{Setting}
 use Rattle.rules.specs.Filter.{Filter}
-use Rattle.rules.specs.Laws.Hits.{withinNumber}
+use Rattle.rules.specs.Numbers.{withinNumber}
 use Rattle.answer_entry.specs.Returned.{returnableAt}
 use Rattle.filter_tree.specs.Tree.{matchesAt}
 

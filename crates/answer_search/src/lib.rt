@@ -5,7 +5,7 @@ use answer_entry::returnable;
 use answer_entry::returned;
 use answer_plan::Plan;
 use answer_plan::absent;
-use entry_lookup::climb::climbs;
+use directory_lookup::climb::climbs;
 use filter_item::mask::mask;
 use filter_lines::lines::note;
 use filter_tree::tree::matches;
@@ -24,12 +24,12 @@ ghost use Rattle.rules.specs.Name.{Name};
 ghost use Rattle.rules.specs.Directory.{Stored, entryOf};
 ghost use Rattle.rules.specs.Decision.{Setting};
 ghost use Rattle.rules.specs.Filter.{Filter};
-ghost use Rattle.rules.specs.Judge.{accept};
+ghost use Rattle.rules.specs.Judge.{accept, Grammar};
 ghost use Rattle.rules.specs.Request as Request;
 ghost use Rattle.rules.specs.Request.{Search};
 ghost use Rattle.rules.specs.Places.{linesAt};
 ghost use Rattle.rules.specs.Answer.{answer};
-ghost use Rattle.rules.specs.Laws.Hits.{withinNumber};
+ghost use Rattle.rules.specs.Numbers.{withinNumber};
 ghost use Rattle.tables.specs.Book.{width, entries};
 ghost use Rattle.tables.specs.Book as Book;
 ghost use Rattle.tables.specs.World.{World, Entries, Known};
@@ -39,9 +39,17 @@ ghost use Rattle.answer_entry.specs.Passing.{Indices, passing};
 ghost use Rattle.filter_lines.specs.Lines.{Lines, Typed, positionAt};
 ghost use Rattle.filter_item.specs.Mask.{Masks};
 ghost use Rattle.answer_search.specs.Hits.{foundAt};
+ghost use Rattle.answer_search.specs.Query.{Seeks};
 
-// What is sought: the base's number, the subset (0 the base, 1 its children, 2 the base and all below), and of the filter how many lines it has and the
-// ranks of its types.
+// What a search asks: at most how many entries (0 is no limit), the subset (0 the base, 1 its children, 2 the base and all below), and the position of the
+// filter's first line.
+pub struct Query {
+    pub limit: u64,
+    pub subset: u64,
+    pub filter: usize,
+}
+
+// Where it is sought: the base's number, the subset, and of the filter how many lines it has and the ranks of its types.
 pub struct Scope {
     pub base: usize,
     pub subset: u64,
@@ -76,7 +84,7 @@ fn found_at(
     k: usize,
 ) -> bool
     requires { ⌜ Known (now d) (now p) (now book) (now held) (now sets) × (k < entries (now book)) × Lines (width (now book)) (now q) (now rows) (scope .lines) × Typed (Book.schema (now book)) (now rows) (scope .lines) × Masks (now rows) (scope .lines) (scope .ranks) ⌝ }
-    ensures { λ r. ⌜ ((σ : Setting) (es : List Stored) (f : Filter) → World σ es (now (d .entry)) (now (p .entry)) (now (book .entry)) (now (held .entry)) (now (sets .entry)) → Request.filter 16 128 (linesAt (width (now (book .entry))) (now (q .entry)) (positionAt (now (rows .entry)) 0)) (λ f left rest. accept f) ≡ accept f → r ≡ foundAt σ es (scope .base) (scope .subset) f k) ⌝ }
+    ensures { λ r. ⌜ ((σ : Setting) (es : List Stored) (g : Grammar) (f : Filter) → World σ es (now (d .entry)) (now (p .entry)) (now (book .entry)) (now (held .entry)) (now (sets .entry)) → Request.filter g 16 128 (linesAt (width (now (book .entry))) (now (q .entry)) (positionAt (now (rows .entry)) 0)) (λ f left rest. accept f) ≡ accept f → r ≡ foundAt σ es (scope .base) (scope .subset) f k) ⌝ }
 {
     if !within(book, scope.base, scope.subset, k) {
         return false;
@@ -100,7 +108,7 @@ fn found(
     hits: &mut [usize; 256],
 ) -> usize
     requires { ⌜ Known (now d) (now p) (now book) (now held) (now sets) × (length (now hits) ≡ 256) × Lines (width (now book)) (now q) (now rows) (scope .lines) × Typed (Book.schema (now book)) (now rows) (scope .lines) × Masks (now rows) (scope .lines) (scope .ranks) ⌝ }
-    ensures { λ n. ⌜ Indices (entries (now (book .entry))) n (now (hits .entry)) (now (hits .exit)) × ((σ : Setting) (es : List Stored) (f : Filter) → World σ es (now (d .entry)) (now (p .entry)) (now (book .entry)) (now (held .entry)) (now (sets .entry)) → Request.filter 16 128 (linesAt (width (now (book .entry))) (now (q .entry)) (positionAt (now (rows .entry)) 0)) (λ f left rest. accept f) ≡ accept f → take n (now (hits .exit)) ≡ passing (foundAt σ es (scope .base) (scope .subset) f) (length es)) ⌝ }
+    ensures { λ n. ⌜ Indices (entries (now (book .entry))) n (now (hits .entry)) (now (hits .exit)) × ((σ : Setting) (es : List Stored) (g : Grammar) (f : Filter) → World σ es (now (d .entry)) (now (p .entry)) (now (book .entry)) (now (held .entry)) (now (sets .entry)) → Request.filter g 16 128 (linesAt (width (now (book .entry))) (now (q .entry)) (positionAt (now (rows .entry)) 0)) (λ f left rest. accept f) ≡ accept f → take n (now (hits .exit)) ≡ passing (foundAt σ es (scope .base) (scope .subset) f) (length es)) ⌝ }
 {
     let count = book[ENTRIES] as usize;
     let mut n: usize = 0;
@@ -115,7 +123,7 @@ fn found(
     n
 }
 
-// The plan of a search: the entries of the subset that may be returned and that the filter at position `filter` of `q` is true of, within the size limit.
+// The plan of a search: the entries of the subset that may be returned and that the filter is true of, within the size limit.
 pub fn search(
     book: &[u64; 1353],
     held: &[u64; 6345],
@@ -124,27 +132,31 @@ pub fn search(
     p: &[u8],
     q: &[u8],
     target: Target,
-    limit: u64,
-    subset: u64,
-    filter: usize,
+    query: Query,
     hits: &mut [usize; 256],
 ) -> Plan
     requires { ⌜ Known (now d) (now p) (now book) (now held) (now sets) × Numbered (entries (now book)) (target .base) (target .missing) × (length (now hits) ≡ 256) × (length (now q) ≤ (5 * width (now book) + 1) * 265) ⌝ }
-    ensures { λ r. ⌜ Sound (entries (now (book .entry))) r (now (hits .exit)) × ((σ : Setting) (es : List Stored) (n : Name) (s : Search) → World σ es (now (d .entry)) (now (p .entry)) (now (book .entry)) (now (held .entry)) (now (sets .entry)) → Base σ es n (target .base) (target .missing) → s .limit ≡ limit → s .subset ≡ subset → Request.filter 16 128 (linesAt (width (now (book .entry))) (now (q .entry)) filter) (λ f left rest. accept f) ≡ accept (s .filter) → planned σ es (s .selection) r (now (hits .exit)) ≡ answer σ (map entryOf es) n (Request.search s)) ⌝ }
+    ensures { λ r. ⌜ Sound (entries (now (book .entry))) r (now (hits .exit)) × ((σ : Setting) (es : List Stored) (g : Grammar) (n : Name) (s : Search) → World σ es (now (d .entry)) (now (p .entry)) (now (book .entry)) (now (held .entry)) (now (sets .entry)) → Base σ es n (target .base) (target .missing) → Seeks g (width (now (book .entry))) (now (q .entry)) s query → planned σ es (s .selection) r (now (hits .exit)) ≡ answer σ (map entryOf es) n (Request.search s)) ⌝ }
 {
     let base = target.base;
     let Found::At(b) = base else {
         return absent(4, target.missing);
     };
     let mut rows: [u64; 1596] = [0; 1596];
-    let lines = note(schema(book), book[WIDTH] as usize, q, filter, &mut rows);
+    let lines = note(
+        schema(book),
+        book[WIDTH] as usize,
+        q,
+        query.filter,
+        &mut rows,
+    );
     let scope = Scope {
         base: b,
-        subset,
+        subset: query.subset,
         lines,
         ranks: mask(&rows, lines),
     };
     let count = found(book, held, sets, d, p, q, &rows, scope, hits);
     let open = may_entry(sets, b, DISCLOSE_ON_ERROR);
-    returned(4, target.missing, open, limit, count)
+    returned(4, target.missing, open, query.limit, count)
 }

@@ -71,7 +71,7 @@ fn put(bytes: &[u8]) {
 }
 
 // Prints the answer, or the refusal.
-fn print(out: &[u8], reply: reply::Reply) {
+fn print(out: &[u8], reply: answer_reply::Reply) {
     if reply.refusal == 0 {
         let n = reply.length as usize;
         if n <= out.len() {

@@ -2,12 +2,12 @@
 use mathlib.Core.Path.{_≡_, refl, sym, ap, _∙_}
 use lib.ListN.{length, take, drop}
 use lib.Seq.{take-append-seam}
-use Rattle.rules.specs.Sheet.{Bytes}
+use Rattle.rules.specs.Sheet.{Bytes, narrow}
 use Rattle.rules.specs.Judge.{Verdict, accept, refuse}
-use Rattle.rules.specs.Serve.{width, serve}
+use Rattle.rules.specs.Serve.{serve}
 use Rattle.rules.specs.Shown.{Alike}
 use Rattle.rules.specs.Secrecy.Demand3.{demand-3}
-use Rattle.reply.specs.Reply.{replyOf, leftOf}
+use Rattle.answer_reply.specs.Reply.{replyOf, leftOf}
 
 -- two calls, with the sheets `d₁` and `d₂` as directory and buffers that hold `one` and `two`
 pub record SameAnswer (d₁ d₂ p q one two : Bytes) : Type 0 where
@@ -25,7 +25,7 @@ unfolding replyOf leftOf
 told (accept bs) one two = take-append-seam bs (drop (length bs) one) ∙ sym (take-append-seam bs (drop (length bs) two))
 told (refuse n) one two = refl
 
-pub same-answer : (d₁ d₂ p q one two : Bytes) → Alike width p q d₁ d₂ → length one ≡ length two → SameAnswer d₁ d₂ p q one two
+pub same-answer : (d₁ d₂ p q one two : Bytes) → Alike narrow p q d₁ d₂ → length one ≡ length two → SameAnswer d₁ d₂ p q one two
 same-answer d₁ d₂ p q one two alike e = record {
   reply = ap replyOf same;
   bytes = ap (λ (v : Verdict Bytes). take (replyOf v .length) (leftOf v one)) same ∙ told (serve d₂ p q (length two)) one two;

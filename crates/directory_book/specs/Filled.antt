@@ -1,19 +1,24 @@
 -- The book as it is filled, column by column, each from its place on; and what it then stands for.
-use Prim.Native.Nat.{ℕ, _+_}
+use Prim.Native.Nat.{ℕ, _+_, _*_}
 use mathlib.Core.Path.{_≡_}
-use mathlib.Core.List.{List, _++_}
+use mathlib.Core.List.{List, _++_, map}
 use lib.ListN.{take, drop, set}
 use Rattle.rules.specs.Sheet.{Bytes}
+use Rattle.rules.specs.declared.Format.{Format}
 use Rattle.rules.specs.Judge.{accept}
 use Rattle.rules.specs.Directory.{Directory, directoryOf}
 use Rattle.rules.specs.Decision.{Setting}
 use Rattle.tables.specs.World.{Entries}
-use Rattle.directory.specs.declared.Notes.{Notes}
-use Rattle.directory.specs.Judged.{Noted}
+use Rattle.directory_sheet.specs.declared.Notes.{Notes}
+use Rattle.directory_sheet.specs.Judged.{DirectoryNoted}
 
 -- the first `n` numbers of `column` in the place of what stands in the table from `at` on
 unfoldable pub put : List ℕ → ℕ → List ℕ → ℕ → List ℕ
 put table at column n = (take at table ++ take n column) ++ drop (at + n) table
+
+-- where the naming values begin, by where their lines do: after five columns
+unfoldable pub placesOf : ℕ → List ℕ → List ℕ
+placesOf w lines = map (λ p. p + 5 * w) lines
 
 -- the width and the counts, and then the columns in their order
 unfoldable pub filled : ℕ → Notes → List ℕ → List ℕ
@@ -21,9 +26,13 @@ filled w r b =
     let n = r .count in
     let counts = set (set (set b 0 w) 1 (r .types)) 2 n in
     let types = put counts 8 (r .schema) (r .types) in
-    let entries = put (put (put (put types 72 (r .at) n) 328 (r .parents) n) 584 (r .naming) n) 840 (r .lengths) n in
+    let entries = put (put (put (put types 72 (placesOf w (r .at)) n) 328 (r .parents) n) 584 (r .naming) n) 840 (r .lengths) n in
     put entries 1096 (r .first) (n + 1)
 
+-- the notes are of an accepted directory
+abbrev pub OfDirectory : Format → Notes → Type 0
+OfDirectory f r = (d : Bytes) × (x : Directory) × (held : List ℕ) × (directoryOf f d ≡ accept x) × DirectoryNoted (f .width) d x r held
+
 -- whatever accepted directory the notes are of, the book stands for it
-abbrev pub StandsFor : ℕ → Notes → List ℕ → Type 0
-StandsFor w r b = (σ : Setting) (d : Bytes) (x : Directory) (held : List ℕ) → directoryOf w d ≡ accept x → Noted w d x r held → σ .schema ≡ x .schema → Entries σ (x .entries) d b held
+abbrev pub StandsFor : Format → Notes → List ℕ → Type 0
+StandsFor f r b = (σ : Setting) (d : Bytes) (x : Directory) (held : List ℕ) → directoryOf f d ≡ accept x → DirectoryNoted (f .width) d x r held → σ .schema ≡ x .schema → Entries σ (x .entries) d b held

@@ -1,3 +1,4 @@
 pub mod Serve
 pub mod Refusals
 pub mod Respond
+pub mod Within

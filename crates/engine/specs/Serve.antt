@@ -1,16 +1,18 @@
--- The three sheets judged in their order: the verdict once the request is judged, the permissions, the directory.
+-- The sheets judged in their order: the verdict over a ground, and over a directory.
 use Prim.Native.Nat.{ℕ}
-use mathlib.Core.List.{List}
 use Rattle.rules.specs.Sheet.{Bytes}
+use Rattle.rules.specs.declared.Format.{Format}
 use Rattle.rules.specs.Judge.{Verdict, then}
 use Rattle.rules.specs.Directory.{Directory}
-use Rattle.rules.specs.Permission.{Item, permissionsOf}
+use Rattle.rules.specs.Permission.{permissionsOf}
 use Rattle.rules.specs.Request.{requestOf}
-use Rattle.rules.specs.Serve.{respond}
+use Rattle.rules.specs.Serve.{Ground, within, respond}
+use Rattle.rules.specs.declared.Limits.{Limits}
 
--- the verdict once the request is judged, the permissions, the directory
-abbrev pub fromRequest : ℕ → Directory → List Item → Bytes → ℕ → Verdict Bytes
-fromRequest w x is q room = then (requestOf w q) (λ r. respond w x is r room)
+-- once directory and permissions are judged
+abbrev pub fromGround : Format → Limits → Ground → Bytes → ℕ → Verdict Bytes
+fromGround f k g q room = then (requestOf f q) (λ r. respond f g (within k r) room)
 
-abbrev pub fromPermissions : ℕ → Directory → Bytes → Bytes → ℕ → Verdict Bytes
-fromPermissions w x p q room = then (permissionsOf w (x .schema) p) (λ is. fromRequest w x is q room)
+-- once the directory is judged
+abbrev pub fromDirectory : Format → Limits → Directory → Bytes → Bytes → ℕ → Verdict Bytes
+fromDirectory f k x p q room = then (permissionsOf f (x .schema) p) (λ is. fromGround f k (record { directory = x; items = is }) q room)

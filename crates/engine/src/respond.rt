@@ -1,4 +1,7 @@
-// An accepted request answered: the sets of the items that are for the requester, the name looked up, the answer planned and written.
+// A request answered over a ground: the request judged, the sets of the items that are for the requester, the name looked up, the answer planned and
+// written.
+use super::Terms;
+use super::within::within;
 use access_covers::note_rights;
 use access_scope::Requester;
 use access_scope::reach_all;
@@ -7,29 +10,33 @@ use answer_entry::Target;
 use answer_matched::matched;
 use answer_operation::plan_of;
 use answer_print::write;
-use entry_lookup::find::resolve;
-use reply::Reply;
-use request::Asked;
-use tables::book::WIDTH;
+use answer_reply::Reply;
+use answer_reply::refused;
+use directory_lookup::find::resolve;
+use request_sheet::Asked;
 use tables::book::parents;
 use tables::book::schema;
 ghost use mathlib.Core.Path.{_≡_};
 ghost use mathlib.Core.List.{List, map};
-ghost use lib.ListN.{length};
+ghost use Prim.Native.Nat.{ℕ};
+ghost use lib.ListN.{length, replicate};
 ghost use Rattle.rules.specs.Sheet.{print};
-ghost use Rattle.rules.specs.Directory.{Stored, Directory, entryOf};
-ghost use Rattle.rules.specs.Permission.{Item};
+ghost use Rattle.rules.specs.Judge.{Grammar};
+ghost use Rattle.rules.specs.Directory.{Stored, entryOf};
 ghost use Rattle.rules.specs.Decision.{Setting};
 ghost use Rattle.rules.specs.Request.{Request};
 ghost use Rattle.rules.specs.Answer.{answer};
-ghost use Rattle.rules.specs.Serve.{fitting};
-ghost use Rattle.rules.specs.Serve as Serve;
-ghost use Rattle.reply.specs.Reply.{Replies};
-ghost use Rattle.request.specs.Noted.{Noted};
+ghost use Rattle.rules.specs.Serve.{Ground, fitting};
+ghost use Rattle.answer_reply.specs.Reply.{Replies};
+ghost use Rattle.request_sheet.specs.Noted.{Noted};
+ghost use Rattle.directory_schema.specs.Schema.{Rising};
 ghost use Rattle.tables.specs.Book.{width};
-ghost use Rattle.tables.specs.World.{World, Known};
+ghost use Rattle.tables.specs.Book as Book;
+ghost use Rattle.tables.specs.World.{World, Entries, Known};
+ghost use Rattle.access_scope.specs.Scopes.{Asker};
 ghost use Rattle.access_items.specs.Sorted.{Sorted};
-ghost use Rattle.engine.specs.Judges.{DirectoryAt};
+ghost use Rattle.engine.specs.Serve.{fromGround};
+ghost use Rattle.engine.specs.Judges.{GroundAt};
 
 // The answer, once the tables are filled.
 fn respond(
@@ -42,8 +49,8 @@ fn respond(
     q: &[u8],
     asked: Asked,
 ) -> Reply
-    requires { ⌜ Known (now d) (now p) (now book) (now held) (now sets) × ((x : Request) × Noted (width (now book)) (now q) x asked) ⌝ }
-    ensures { λ r. ⌜ ((σ : Setting) (es : List Stored) (x : Request) → World σ es (now (d .entry)) (now (p .entry)) (now (book .entry)) (now (held .entry)) (now (sets .entry)) → Noted (width (now (book .entry))) (now (q .entry)) x asked → Replies (fitting (length (now (out .entry))) (print (width (now (book .entry))) (answer σ (map entryOf es) (x .base) (x .operation)))) (now (out .entry)) r (now (out .exit))) ⌝ }
+    requires { ⌜ Known (now d) (now p) (now book) (now held) (now sets) × ((G : Grammar) × (x : Request) × Noted G (width (now book)) (now q) x asked) ⌝ }
+    ensures { λ r. ⌜ ((σ : Setting) (es : List Stored) (G : Grammar) (x : Request) → World σ es (now (d .entry)) (now (p .entry)) (now (book .entry)) (now (held .entry)) (now (sets .entry)) → Noted G (width (now (book .entry))) (now (q .entry)) x asked → Replies (fitting (length (now (out .entry))) (print (width (now (book .entry))) (answer σ (map entryOf es) (x .base) (x .operation)))) (now (out .entry)) r (now (out .exit))) ⌝ }
 {
     let target = Target {
         base: resolve(book, d, q, asked.base, asked.base_parts),
@@ -55,7 +62,35 @@ fn respond(
     write(out, book, held, sets, d, p, plan, &hits, choice)
 }
 
-// The answer to an accepted request: which items are for the requester, as sets; then the answer. `order` has the items' numbers in order of weight.
+// The sets of the items that are for the requester. `order` has the items' numbers in order of weight.
+fn note_sets(
+    book: &[u64; 1353],
+    d: &[u8],
+    p: &[u8],
+    q: &[u8],
+    rights: &[u64],
+    scopes: &[u64],
+    order: &[usize],
+    who: Requester,
+    sets: &mut [u64],
+)
+    requires { ⌜ (now sets ≡ replicate 2360 0) × Rising 0 (Book.schema (now book)) × ((σ : Setting) × (es : List Stored) × (held : List ℕ) × Entries σ es (now d) (now book) held × Asker σ (width (now book)) (now q) who × Sorted (width (now book)) (now p) (σ .items) (now rights) (now scopes) (now order)) ⌝ }
+    ensures { λ _. ⌜ ((σ : Setting) (es : List Stored) (held : List ℕ) → Entries σ es (now (d .entry)) (now (book .entry)) held → Asker σ (width (now (book .entry))) (now (q .entry)) who → Sorted (width (now (book .entry))) (now (p .entry)) (σ .items) (now (rights .entry)) (now (scopes .entry)) (now (order .entry)) → World σ es (now (d .entry)) (now (p .entry)) (now (book .entry)) held (now (sets .exit))) ⌝ }
+{
+    let count = order.len();
+    let mut reach: [usize; 256] = [0; 256];
+    reach_all(book, d, p, rights, scopes, q, who, &mut reach[0..count]);
+    note_rights(
+        rights,
+        schema(book),
+        order,
+        &reach[0..count],
+        parents(book),
+        sets,
+    );
+}
+
+// The answer over a ground: the request judged, asked within the limits, what the requester may, and the reply.
 pub fn requested(
     out: &mut [u8],
     book: &[u64; 1353],
@@ -66,29 +101,22 @@ pub fn requested(
     rights: &[u64],
     scopes: &[u64],
     order: &[usize],
-    asked: Asked,
-    reach: &mut [usize],
+    terms: Terms,
 ) -> Reply
-    requires { ⌜ (length (now reach) ≡ 256) × ((x : Directory) × (is : List Item) × (y : Request) × DirectoryAt (now d) x (now book) (now held) × Sorted (width (now book)) (now p) is (now rights) (now scopes) (now order) × Noted (width (now book)) (now q) y asked) ⌝ }
-    ensures { λ r. ⌜ ((x : Directory) (is : List Item) (y : Request) → DirectoryAt (now (d .entry)) x (now (book .entry)) (now (held .entry)) → Sorted (width (now (book .entry))) (now (p .entry)) is (now (rights .entry)) (now (scopes .entry)) (now (order .entry)) → Noted (width (now (book .entry))) (now (q .entry)) y asked → Replies (Serve.respond (width (now (book .entry))) x is y (length (now (out .entry)))) (now (out .entry)) r (now (out .exit))) ⌝ }
+    requires { ⌜ ((g : Ground) × GroundAt (terms .format) (now d) (now p) g (now book) (now held) (now rights) (now scopes) (now order)) ⌝ }
+    ensures { λ r. ⌜ ((g : Ground) → GroundAt (terms .format) (now (d .entry)) (now (p .entry)) g (now (book .entry)) (now (held .entry)) (now (rights .entry)) (now (scopes .entry)) (now (order .entry)) → Replies (fromGround (terms .format) (terms .limits) g (now (q .entry)) (length (now (out .entry)))) (now (out .entry)) r (now (out .exit))) ⌝ }
 {
-    let count = order.len();
+    let judged = request_sheet::judge(q, terms.format);
+    if judged.refusal != 0 {
+        return refused(judged.refusal);
+    }
+    let asked = within(judged, terms.limits);
     let who = Requester {
         level: asked.level,
         place: asked.requester,
         parts: asked.requester_parts,
     };
-    reach_all(book, d, p, rights, scopes, q, who, &mut reach[0..count]);
     let mut sets: [u64; 2360] = [0; 2360];
-    let w = book[WIDTH] as usize;
-    note_rights(
-        rights,
-        w,
-        schema(book),
-        order,
-        &reach[0..count],
-        parents(book),
-        &mut sets,
-    );
+    note_sets(book, d, p, q, rights, scopes, order, who, &mut sets);
     respond(out, book, held, &sets, d, p, q, asked)
 }

@@ -11,7 +11,7 @@ use filter_lines::AT_MOST;
 use filter_lines::EQUALITY;
 use filter_lines::PRESENT;
 use filter_lines::lines::LINE;
-use filter_lines::lines::PLACE;
+use filter_lines::lines::RANK;
 use filter_lines::lines::SECOND;
 use filter_lines::lines::value_of;
 use filter_lines::pieces::pieces_fit;
@@ -20,7 +20,6 @@ use rules::Truth;
 use tables::book::FIRST;
 use tables::book::SCHEMA;
 use tables::book::TYPES;
-use tables::book::WIDTH;
 ghost use mathlib.Core.Path.{_≡_};
 ghost use mathlib.Core.Bool.{true, _&&_};
 ghost use mathlib.Core.List.{List};
@@ -31,33 +30,33 @@ ghost use Rattle.rules.specs.Decision.{Setting};
 ghost use Rattle.rules.specs.FilterItem.{itemTruth};
 ghost use Rattle.access_set.specs.Member.{bit};
 ghost use Rattle.tables.specs.Book as Book;
-ghost use Rattle.tables.specs.Book.{width, entries, schema};
+ghost use Rattle.tables.specs.Book.{entries, schema};
 ghost use Rattle.tables.specs.World.{Entries};
-ghost use Rattle.filter_lines.specs.Lines.{Lines, Typed, kindAt, firstAt, placeAt, valueAt, piecesAt};
+ghost use Rattle.filter_lines.specs.Lines.{Placed, Typed, kindAt, firstAt, typeRank, valueAt, piecesAt};
 ghost use Rattle.filter_item.specs.Items.{assertionBy, definedBy, satisfiedIn};
 ghost use Rattle.filter_item.specs.Rows.{Within};
 ghost use Rattle.filter_item.specs.Seen.{SeenAt};
 
 // Do the value or the pieces of the item in line `k` fit the syntax `s`, and has the syntax the item's rule?
-fn defined(s: u64, w: usize, q: &[u8], rows: &[u64; 1596], lines: usize, k: usize) -> bool
-    requires { ⌜ Lines w (now q) (now rows) lines × (k < lines) ⌝ }
-    ensures { λ r. ⌜ r ≡ definedBy s (kindAt (now (rows .entry)) k) (piecesAt w (now (q .entry)) (now (rows .entry)) k) (valueAt w (now (q .entry)) (now (rows .entry)) k) ⌝ }
+fn defined(s: u64, q: &[u8], rows: &[u64; 1596], lines: usize, k: usize) -> bool
+    requires { ⌜ Placed (now q) (now rows) lines × (k < lines) ⌝ }
+    ensures { λ r. ⌜ r ≡ definedBy s (kindAt (now (rows .entry)) k) (piecesAt (now (q .entry)) (now (rows .entry)) lines k) (valueAt (now (q .entry)) (now (rows .entry)) k) ⌝ }
 {
     let kind = rows[k * LINE];
-    let v = value_of(w, q, rows, k);
+    let v = value_of(q, rows, k);
     if kind == EQUALITY {
-        return value::fits(s, v);
+        return value_syntax::fits(s, v);
     }
     if kind == AT_LEAST {
-        return value::ordered(s) & value::fits(s, v);
+        return value_syntax::ordered(s) & value_syntax::fits(s, v);
     }
     if kind == AT_MOST {
-        return value::ordered(s) & value::fits(s, v);
+        return value_syntax::ordered(s) & value_syntax::fits(s, v);
     }
     if kind == PRESENT {
         return true;
     }
-    value::searchable(s) & pieces_fit(s, w, q, rows, lines, k + 1, rows[k * LINE + SECOND])
+    value_syntax::searchable(s) & pieces_fit(s, q, rows, lines, k + 1, rows[k * LINE + SECOND])
 }
 
 // Is FilterMatch granted on the type of the item in line `k`, held or not, and is the item defined?
@@ -65,17 +64,16 @@ fn decidable(
     types: u64,
     rank: usize,
     s: u64,
-    w: usize,
     q: &[u8],
     rows: &[u64; 1596],
     lines: usize,
     k: usize,
 ) -> bool
-    requires { ⌜ (rank < 64) × Lines w (now q) (now rows) lines × (k < lines) ⌝ }
-    ensures { λ r. ⌜ r ≡ (bit types rank && definedBy s (kindAt (now (rows .entry)) k) (piecesAt w (now (q .entry)) (now (rows .entry)) k) (valueAt w (now (q .entry)) (now (rows .entry)) k)) ⌝ }
+    requires { ⌜ (rank < 64) × Placed (now q) (now rows) lines × (k < lines) ⌝ }
+    ensures { λ r. ⌜ r ≡ (bit types rank && definedBy s (kindAt (now (rows .entry)) k) (piecesAt (now (q .entry)) (now (rows .entry)) lines k) (valueAt (now (q .entry)) (now (rows .entry)) k)) ⌝ }
 {
     if in_word(types, rank) {
-        return defined(s, w, q, rows, lines, k);
+        return defined(s, q, rows, lines, k);
     }
     false
 }
@@ -87,20 +85,19 @@ fn satisfied(
     d: &[u8],
     sought: Sought,
     s: u64,
-    w: usize,
     q: &[u8],
     rows: &[u64; 1596],
     lines: usize,
     k: usize,
 ) -> bool
-    requires { ⌜ Within (now d) (now held) (sought .first) (sought .end) × Lines w (now q) (now rows) lines × (k < lines) ⌝ }
-    ensures { λ r. ⌜ r ≡ satisfiedIn (now (d .entry)) (now (held .entry)) (now (values .entry)) (sought .first) (sought .end) (sought .rank) s (kindAt (now (rows .entry)) k) (piecesAt w (now (q .entry)) (now (rows .entry)) k) (valueAt w (now (q .entry)) (now (rows .entry)) k) ⌝ }
+    requires { ⌜ Within (now d) (now held) (sought .first) (sought .end) × Placed (now q) (now rows) lines × (k < lines) ⌝ }
+    ensures { λ r. ⌜ r ≡ satisfiedIn (now (d .entry)) (now (held .entry)) (now (values .entry)) (sought .first) (sought .end) (sought .rank) s (kindAt (now (rows .entry)) k) (piecesAt (now (q .entry)) (now (rows .entry)) lines k) (valueAt (now (q .entry)) (now (rows .entry)) k) ⌝ }
 {
     let kind = rows[k * LINE];
     if kind == PRESENT {
         return holds(held, sought);
     }
-    let v = value_of(w, q, rows, k);
+    let v = value_of(q, rows, k);
     if kind == EQUALITY {
         return some_equal(held, values, d, sought, s, v);
     }
@@ -110,7 +107,7 @@ fn satisfied(
     if kind == AT_MOST {
         return some_ordered(held, values, d, sought, s, false, v);
     }
-    some_containing(held, values, d, sought, w, q, rows, lines, k)
+    some_containing(held, values, d, sought, q, rows, lines, k)
 }
 
 // The truth of the item in line `line` for the entry of index `k`. `types` and `values` are what was seen of the entry.
@@ -126,22 +123,21 @@ pub fn item(
     lines: usize,
     line: usize,
 ) -> Truth
-    requires { ⌜ ((σ : Setting) × (es : List Stored) × Entries σ es (now d) (now book) (now held)) × (k < entries (now book)) × Lines (width (now book)) (now q) (now rows) lines × Typed (schema (now book)) (now rows) lines × (line < lines) ⌝ }
-    ensures { λ r. ⌜ ((σ : Setting) (es : List Stored) (asked : ℕ) → Entries σ es (now (d .entry)) (now (book .entry)) (now (held .entry)) → SeenAt σ es (now (d .entry)) (now (book .entry)) (now (held .entry)) k asked types (now (values .entry)) → (placeAt (now (rows .entry)) line < Book.types (now (book .entry)) → bit asked (placeAt (now (rows .entry)) line) ≡ true) → r ≡ itemTruth σ (entryOf (getD es k blank)) (assertionBy (kindAt (now (rows .entry)) line) (firstAt (now (rows .entry)) line) (valueAt (width (now (book .entry))) (now (q .entry)) (now (rows .entry)) line) (piecesAt (width (now (book .entry))) (now (q .entry)) (now (rows .entry)) line))) ⌝ }
+    requires { ⌜ ((σ : Setting) × (es : List Stored) × Entries σ es (now d) (now book) (now held)) × (k < entries (now book)) × Placed (now q) (now rows) lines × Typed (schema (now book)) (now rows) lines × (line < lines) ⌝ }
+    ensures { λ r. ⌜ ((σ : Setting) (es : List Stored) (asked : ℕ) → Entries σ es (now (d .entry)) (now (book .entry)) (now (held .entry)) → SeenAt σ es (now (d .entry)) (now (book .entry)) (now (held .entry)) k asked types (now (values .entry)) → (typeRank (now (rows .entry)) line < Book.types (now (book .entry)) → bit asked (typeRank (now (rows .entry)) line) ≡ true) → r ≡ itemTruth σ (entryOf (getD es k blank)) (assertionBy (kindAt (now (rows .entry)) line) (firstAt (now (rows .entry)) line) (valueAt (now (q .entry)) (now (rows .entry)) line) (piecesAt (now (q .entry)) (now (rows .entry)) lines line))) ⌝ }
 {
-    let rank = rows[line * LINE + PLACE] as usize;
+    let rank = rows[line * LINE + RANK] as usize;
     if book[TYPES] as usize <= rank {
         return Truth::Undefined;
     }
-    let w = book[WIDTH] as usize;
     let s = book[SCHEMA + rank] % 4;
-    if decidable(types, rank, s, w, q, rows, lines, line) {
+    if decidable(types, rank, s, q, rows, lines, line) {
         let sought = Sought {
             first: book[FIRST + k] as usize,
             end: book[END + k] as usize,
             rank,
         };
-        return truth_of(satisfied(held, values, d, sought, s, w, q, rows, lines, line));
+        return truth_of(satisfied(held, values, d, sought, s, q, rows, lines, line));
     }
     Truth::Undefined
 }

@@ -4,18 +4,18 @@ use filter_lines::AND;
 use filter_lines::NOT;
 use filter_lines::OR;
 use filter_lines::lines::LINE;
-use filter_lines::lines::PLACE;
+use filter_lines::lines::RANK;
 ghost use mathlib.Core.Path.{_≡_};
 ghost use mathlib.Core.Bool.{not, _&&_};
 ghost use Prim.Native.Nat.{_≤_, _<_};
 ghost use lib.Dec.{ltb};
-ghost use Rattle.filter_lines.specs.Lines.{placeAt};
+ghost use Rattle.filter_lines.specs.Lines.{typeRank};
 ghost use Rattle.filter_item.specs.Mask.{operatorAt, Masks};
 
 // Is line `k` an item, of a type with a bit?
 fn sought(rows: &[u64; 1596], k: usize) -> bool
     requires { ⌜ k < 265 ⌝ }
-    ensures { λ r. ⌜ r ≡ (not (operatorAt (now (rows .entry)) k) && ltb (placeAt (now (rows .entry)) k) 64) ⌝ }
+    ensures { λ r. ⌜ r ≡ (not (operatorAt (now (rows .entry)) k) && ltb (typeRank (now (rows .entry)) k) 64) ⌝ }
 {
     let kind = rows[k * LINE];
     if (kind == AND) | (kind == OR) {
@@ -24,7 +24,7 @@ fn sought(rows: &[u64; 1596], k: usize) -> bool
     if kind == NOT {
         return false;
     }
-    rows[k * LINE + PLACE] < 64
+    rows[k * LINE + RANK] < 64
 }
 
 // The mask of the ranks that occur in the filter.
@@ -35,7 +35,7 @@ pub fn mask(rows: &[u64; 1596], lines: usize) -> u64
     let mut x: u64 = 0;
     let mut k: usize = 0;
     while k < lines {
-        x = x | bit_if(sought(rows, k), rows[k * LINE + PLACE] as usize);
+        x = x | bit_if(sought(rows, k), rows[k * LINE + RANK] as usize);
         k += 1;
     }
     x

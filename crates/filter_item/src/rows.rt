@@ -5,19 +5,16 @@ use filter_lines::lines::SECOND;
 use filter_lines::pieces::substrings;
 use filter_lines::truth::not_below;
 use rules::Order;
-use tables::held::PLACE;
-use tables::held::SIZE;
+use tables::held::bytes;
 ghost use mathlib.Core.Path.{_≡_};
 ghost use mathlib.Core.Bool.{_&&_, not};
 ghost use Prim.Native.Nat.{_+_, _-_, _≤_, _<_};
-ghost use lib.ListN.{length};
 ghost use Rattle.rules.specs.Value as Value;
 ghost use Rattle.rules.specs.FilterItem.{isLess};
 ghost use Rattle.rules.specs.Laws.Value.{reversed};
 ghost use Rattle.name.specs.Schema.{equalBy};
-ghost use Rattle.tables.specs.Held as Held;
 ghost use Rattle.tables.specs.Held.{bytesAt};
-ghost use Rattle.filter_lines.specs.Lines.{Lines, piecesAt};
+ghost use Rattle.filter_lines.specs.Lines.{Placed, piecesAt};
 ghost use Rattle.filter_item.specs.Rows.{seenAt, heldRow, someRow, Within, besideBy};
 
 // The rows of an entry, and the rank of an item's type.
@@ -37,16 +34,6 @@ fn seen_row(held: &[u64; 6345], values: &[u64; 34], sought: Sought, i: usize) ->
     }
     let j = i - sought.first;
     (values[j / 64] >> (j % 64)) % 2 == 1
-}
-
-// The bytes of the value in row `i`, as a part of the directory.
-fn bytes_of<'a>(held: &[u64; 6345], d: &'a [u8], i: usize) -> &'a [u8]
-    requires { ⌜ (i < 2115) × (Held.placeAt (now held) i + Held.sizeAt (now held) i ≤ length (now d)) ⌝ }
-    ensures { λ r. ⌜ now r ≡ bytesAt (now (d .entry)) (now (held .entry)) i ⌝ }
-{
-    let from = held[PLACE + i] as usize;
-    let size = held[SIZE + i] as usize;
-    &d[from..from + size]
 }
 
 // Is the rank held?
@@ -70,7 +57,7 @@ pub(crate) fn holds(held: &[u64; 6345], sought: Sought) -> bool
 fn equal(s: u64, v: &[u8], u: &[u8]) -> bool
     ensures { λ r. ⌜ r ≡ equalBy s (now (v .entry)) (now (u .entry)) ⌝ }
 {
-    if value::same(s, v, u) {
+    if value_syntax::same(s, v, u) {
         return name::equal_by(s, v, u);
     }
     false
@@ -90,7 +77,7 @@ fn equal_row(
     ensures { λ r. ⌜ r ≡ (seenAt (now (held .entry)) (now (values .entry)) (sought .first) (sought .rank) i && equalBy s (now (v .entry)) (bytesAt (now (d .entry)) (now (held .entry)) i)) ⌝ }
 {
     if seen_row(held, values, sought, i) {
-        return equal(s, v, bytes_of(held, d, i));
+        return equal(s, v, bytes(held, d, i));
     }
     false
 }
@@ -133,7 +120,7 @@ fn not_above(order: Order) -> bool
 fn beside(s: u64, least: bool, v: &[u8], u: &[u8]) -> bool
     ensures { λ r. ⌜ r ≡ besideBy s least (now (v .entry)) (now (u .entry)) ⌝ }
 {
-    let order = value::order(s, u, v);
+    let order = value_syntax::order(s, u, v);
     if least {
         return not_below(order);
     }
@@ -155,7 +142,7 @@ fn ordered_row(
     ensures { λ r. ⌜ r ≡ (seenAt (now (held .entry)) (now (values .entry)) (sought .first) (sought .rank) i && besideBy s least (now (v .entry)) (bytesAt (now (d .entry)) (now (held .entry)) i)) ⌝ }
 {
     if seen_row(held, values, sought, i) {
-        return beside(s, least, v, bytes_of(held, d, i));
+        return beside(s, least, v, bytes(held, d, i));
     }
     false
 }
@@ -190,25 +177,23 @@ fn containing_row(
     values: &[u64; 34],
     d: &[u8],
     sought: Sought,
-    w: usize,
     q: &[u8],
     rows: &[u64; 1596],
     lines: usize,
     k: usize,
     i: usize,
 ) -> bool
-    requires { ⌜ Within (now d) (now held) (sought .first) (sought .end) × (sought .first ≤ i) × (i < sought .end) × Lines w (now q) (now rows) lines × (k < lines) ⌝ }
-    ensures { λ r. ⌜ r ≡ (seenAt (now (held .entry)) (now (values .entry)) (sought .first) (sought .rank) i && Value.contains Value.text (piecesAt w (now (q .entry)) (now (rows .entry)) k) (bytesAt (now (d .entry)) (now (held .entry)) i)) ⌝ }
+    requires { ⌜ Within (now d) (now held) (sought .first) (sought .end) × (sought .first ≤ i) × (i < sought .end) × Placed (now q) (now rows) lines × (k < lines) ⌝ }
+    ensures { λ r. ⌜ r ≡ (seenAt (now (held .entry)) (now (values .entry)) (sought .first) (sought .rank) i && Value.contains Value.text (piecesAt (now (q .entry)) (now (rows .entry)) lines k) (bytesAt (now (d .entry)) (now (held .entry)) i)) ⌝ }
 {
     if seen_row(held, values, sought, i) {
         return substrings(
-            w,
             q,
             rows,
             lines,
             k + 1,
             rows[k * LINE + SECOND],
-            bytes_of(held, d, i),
+            bytes(held, d, i),
         );
     }
     false
@@ -220,19 +205,18 @@ pub(crate) fn some_containing(
     values: &[u64; 34],
     d: &[u8],
     sought: Sought,
-    w: usize,
     q: &[u8],
     rows: &[u64; 1596],
     lines: usize,
     k: usize,
 ) -> bool
-    requires { ⌜ Within (now d) (now held) (sought .first) (sought .end) × Lines w (now q) (now rows) lines × (k < lines) ⌝ }
-    ensures { λ r. ⌜ r ≡ someRow (now (d .entry)) (now (held .entry)) (now (values .entry)) (sought .first) (sought .end) (sought .rank) (Value.contains Value.text (piecesAt w (now (q .entry)) (now (rows .entry)) k)) ⌝ }
+    requires { ⌜ Within (now d) (now held) (sought .first) (sought .end) × Placed (now q) (now rows) lines × (k < lines) ⌝ }
+    ensures { λ r. ⌜ r ≡ someRow (now (d .entry)) (now (held .entry)) (now (values .entry)) (sought .first) (sought .end) (sought .rank) (Value.contains Value.text (piecesAt (now (q .entry)) (now (rows .entry)) lines k)) ⌝ }
 {
     let end = sought.end;
     let mut i = sought.first;
     while i < end {
-        if containing_row(held, values, d, sought, w, q, rows, lines, k, i) {
+        if containing_row(held, values, d, sought, q, rows, lines, k, i) {
             return true;
         }
         i += 1;

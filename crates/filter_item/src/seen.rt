@@ -3,8 +3,7 @@ use access_may::may_type;
 use access_may::may_value;
 use tables::book::FIRST;
 use tables::book::TYPES;
-use tables::held::PLACE;
-use tables::held::SIZE;
+use tables::held::bytes;
 use tables::sets::FILTER_MATCH;
 ghost use mathlib.Core.Path.{_≡_};
 ghost use mathlib.Core.Bool.{_&&_, cond};
@@ -90,17 +89,7 @@ fn value_seen(
 {
     let rank = held[i] as usize;
     if in_word(asked, rank) {
-        let from = held[PLACE + i] as usize;
-        let size = held[SIZE + i] as usize;
-        return may_value(
-            book,
-            sets,
-            p,
-            k + 1,
-            rank,
-            &d[from..from + size],
-            FILTER_MATCH,
-        );
+        return may_value(book, sets, p, k + 1, rank, bytes(held, d, i), FILTER_MATCH);
     }
     false
 }

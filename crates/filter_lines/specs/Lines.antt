@@ -1,18 +1,18 @@
--- A filter's lines noted by six numbers each: kind, A, B, the line's position, its length, and the place of type A in the schema.
-use Prim.Native.Nat.{ℕ, _+_, _*_, _/_, _%_, _≤_, _<_}
+-- A filter's lines noted by six numbers each: kind, A, B, where the line begins, where its bytes begin, and the rank of type A in the schema.
+use Prim.Native.Nat.{ℕ, zero, suc, _+_, _-_, _*_, _≤_, _<_}
 use mathlib.Core.Path.{_≡_}
 use mathlib.Core.Bool.{Bool, cond}
-use mathlib.Core.List.{List}
-use lib.ListN.{length, getD, drop, set}
-use Rattle.rules.specs.Sheet.{Bytes, frontOf, valueOf}
+use mathlib.Core.List.{List, [], _∷_}
+use lib.ListN.{length, getD, take, drop, set}
+use Rattle.rules.specs.Sheet.{Bytes, end, broken}
 use Rattle.rules.specs.Value.{Piece}
 use Rattle.rules.specs.Places.{linesAt}
-use Rattle.rules.specs.Laws.Filter.{piecesOf}
-use Rattle.rules.specs.declared.Found.the-variants.{At, Nothing}
-use Rattle.rules.specs.declared.Front.the-variants.{Taken, NotInForm, End}
-use Rattle.name.specs.Schema.{syntaxIn}
+use Rattle.sheet_line.specs.Line.{takenAt}
+use Rattle.sheet_line.specs.declared.Line.{Line}
+use Rattle.sheet_line.specs.declared.Taken.the-variants as Taken
+use Rattle.name.specs.Schema.{rankIn}
 
--- the numbers of line `k`
+-- the numbers of line `k`, and where the next line begins
 abbrev pub kindAt : List ℕ → ℕ → ℕ
 kindAt rows k = getD rows (k * 6) 0
 
@@ -25,43 +25,62 @@ secondAt rows k = getD rows (k * 6 + 2) 0
 abbrev pub positionAt : List ℕ → ℕ → ℕ
 positionAt rows k = getD rows (k * 6 + 3) 0
 
-abbrev pub lengthAt : List ℕ → ℕ → ℕ
-lengthAt rows k = getD rows (k * 6 + 4) 0
-
 abbrev pub placeAt : List ℕ → ℕ → ℕ
-placeAt rows k = getD rows (k * 6 + 5) 0
+placeAt rows k = getD rows (k * 6 + 4) 0
 
--- the bytes of line `k`, and the pieces that follow it
-abbrev pub valueAt : ℕ → Bytes → List ℕ → ℕ → Bytes
-valueAt w q rows k = valueOf w (lengthAt rows k) (drop (positionAt rows k) q)
+abbrev pub typeRank : List ℕ → ℕ → ℕ
+typeRank rows k = getD rows (k * 6 + 5) 0
 
-abbrev pub piecesAt : ℕ → Bytes → List ℕ → ℕ → List Piece
-piecesAt w q rows k = piecesOf (secondAt rows k) (linesAt w q (positionAt rows (k + 1)))
+abbrev pub nextAt : List ℕ → ℕ → ℕ
+nextAt rows k = getD rows (k * 6 + 9) 0
 
--- the type `t` stands at `place` of the schema, or nowhere if that is not below its length
-pub record Placed (schema : List ℕ) (t place : ℕ) : Type 0 where
-  pub type : place < length schema → getD schema place 0 / 4 ≡ t
-  pub syntax : place < length schema → syntaxIn schema t ≡ At (getD schema place 0 % 4)
-  pub unknown : length schema ≤ place → syntaxIn schema t ≡ Nothing
+-- the bytes of line `k`
+abbrev pub valueAt : Bytes → List ℕ → ℕ → Bytes
+valueAt q rows k = take (nextAt rows k - 1 - placeAt rows k) (drop (placeAt rows k) q)
 
--- row `k` is the line at its position, and row `k + 1` has the position of the next
+-- the `n` lines from line `k` on, as pieces
+unfoldable pub piecesIn : Bytes → List ℕ → ℕ → ℕ → List Piece
+piecesIn q rows k zero = []
+piecesIn q rows k (suc n) = record { place = firstAt rows k; bytes = valueAt q rows k } ∷ piecesIn q rows (k + 1) n
+
+-- the lesser of two numbers
+unfoldable pub lesser : ℕ → ℕ → ℕ
+lesser zero b = 0
+lesser (suc a) zero = 0
+lesser (suc a) (suc b) = suc (lesser a b)
+
+-- the pieces that follow line `k`, if there are so many lines
+abbrev pub piecesAt : Bytes → List ℕ → ℕ → ℕ → List Piece
+piecesAt q rows lines k = piecesIn q rows (k + 1) (lesser (secondAt rows k) (lines - (k + 1)))
+
+-- the bytes of the first `count` lines lie on the sheet
+pub record Placed (q : Bytes) (rows : List ℕ) (count : ℕ) : Type 0 where
+  pub room : count * 6 + 6 ≤ length rows
+  pub few : count ≤ 265
+  pub begins : (k : ℕ) → k < count → placeAt rows k < nextAt rows k
+  pub within : (k : ℕ) → k < count → nextAt rows k ≤ length q
+
+-- the line that row `k` notes; its C and its length are not noted
+abbrev pub lineAt : List ℕ → ℕ → ℕ → ℕ → Line
+lineAt rows k third size = record { kind = kindAt rows k; a = firstAt rows k; b = secondAt rows k; c = third; place = placeAt rows k; length = size; next = nextAt rows k }
+
+-- row `k` is the line at its position
 pub record Row (w : ℕ) (q : Bytes) (rows : List ℕ) (k : ℕ) : Type 0 where
   pub third : ℕ
-  pub front : frontOf w (drop (positionAt rows k) q) ≡ Taken (kindAt rows k) (firstAt rows k) (secondAt rows k) third (lengthAt rows k)
-  pub next : positionAt rows (k + 1) ≡ positionAt rows k + (5 * w + 1 + lengthAt rows k)
+  pub size : ℕ
+  pub taken : takenAt w q (positionAt rows k) ≡ Taken.Line (lineAt rows k third size)
 
 -- the first `count` rows are lines, and no line follows
 pub record Lines (w : ℕ) (q : Bytes) (rows : List ℕ) (count : ℕ) : Type 0 where
-  pub room : count * 6 + 6 ≤ length rows
-  pub few : count ≤ 265
+  pub placed : Placed q rows count
   pub line : (k : ℕ) → k < count → Row w q rows k
-  pub broken : Bool
-  pub ends : frontOf w (drop (positionAt rows count) q) ≡ cond broken NotInForm End
+  pub unread : Bool
+  pub ends : linesAt w q (positionAt rows count) ≡ cond unread broken end
 
--- .. with the places of their types
+-- .. with the ranks of their types
 pub record Typed (schema rows : List ℕ) (count : ℕ) : Type 0 where
-  pub placed : (k : ℕ) → k < count → Placed schema (firstAt rows k) (placeAt rows k)
+  pub rank : (k : ℕ) → k < count → typeRank rows k ≡ rankIn schema (firstAt rows k)
 
 -- row `n`, but for its position, and the position of the next
 unfoldable pub noted : List ℕ → ℕ → ℕ → ℕ → ℕ → ℕ → ℕ → ℕ → List ℕ
-noted rows at kind a b len place next = set (set (set (set (set (set rows at kind) (at + 1) a) (at + 2) b) (at + 4) len) (at + 5) place) (at + 9) next
+noted rows at kind a b place rank next = set (set (set (set (set (set rows at kind) (at + 1) a) (at + 2) b) (at + 4) place) (at + 5) rank) (at + 9) next

@@ -1,11 +1,13 @@
 // A filter's lines, read once and noted by six numbers each.
-use rules::Front;
+use sheet_line::Line;
+use sheet_line::Taken;
 ghost use mathlib.Core.Path.{_≡_};
 ghost use Prim.Native.Nat.{_+_, _*_, _≤_, _<_};
 ghost use lib.ListN.{length};
-ghost use Rattle.filter_lines.specs.Lines.{Placed, Lines, Typed, positionAt, lengthAt, valueAt, noted};
+ghost use Rattle.filter_lines.specs.Lines.{Lines, Typed, positionAt, placeAt, nextAt, valueAt, noted};
 
-// The numbers of a line: kind, A, B, the line's position, its length, and the place of type A in the schema.
+// The numbers of a line: kind, A, B, where the line begins, where its bytes begin, and the rank of type A in the schema. The bytes end before the last
+// byte of the line, and the next line follows it.
 pub const LINE: usize = 6;
 
 pub const FIRST: usize = 1;
@@ -14,44 +16,21 @@ pub const SECOND: usize = 2;
 
 pub const POSITION: usize = 3;
 
-pub const LENGTH: usize = 4;
+pub const PLACE: usize = 4;
 
-pub const PLACE: usize = 5;
-
-// The place of the type `t` in the schema; the schema's length if it is not there.
-fn place_of(schema: &[u64], t: u64) -> usize
-    ensures { λ r. ⌜ Placed (now (schema .entry)) t r ⌝ }
-{
-    let mut i: usize = 0;
-    while i < schema.len() {
-        if schema[i] / 4 == t {
-            return i;
-        }
-        i += 1;
-    }
-    i
-}
+pub const RANK: usize = 5;
 
 // Notes a line in the row that begins at `at`, but for its position, and the position of the next.
-fn note_line(
-    rows: &mut [u64],
-    at: usize,
-    kind: u64,
-    a: u64,
-    b: u64,
-    len: usize,
-    place: usize,
-    next: usize,
-)
+fn note_line(rows: &mut [u64], at: usize, x: Line, rank: usize)
     requires { ⌜ at + 12 ≤ length (now rows) ⌝ }
-    ensures { λ _. ⌜ now (rows .exit) ≡ noted (now (rows .entry)) at kind a b len place next ⌝ }
+    ensures { λ _. ⌜ now (rows .exit) ≡ noted (now (rows .entry)) at (x .kind) (x .a) (x .b) (x .place) rank (x .next) ⌝ }
 {
-    rows[at] = kind;
-    rows[at + FIRST] = a;
-    rows[at + SECOND] = b;
-    rows[at + LENGTH] = len as u64;
-    rows[at + PLACE] = place as u64;
-    rows[at + (LINE + POSITION)] = next as u64;
+    rows[at] = x.kind;
+    rows[at + FIRST] = x.a;
+    rows[at + SECOND] = x.b;
+    rows[at + PLACE] = x.place as u64;
+    rows[at + RANK] = rank as u64;
+    rows[at + (LINE + POSITION)] = x.next as u64;
 }
 
 // Notes the lines of `q` from position `at` on; how many they are. There is room for one row more.
@@ -63,32 +42,16 @@ pub fn note(schema: &[u64], w: usize, q: &[u8], at: usize, rows: &mut [u64]) -> 
     let mut n: usize = 0;
     let mut j = at;
     loop {
-        match sheet::line_at(q, j, w) {
-            Front::Taken {
-                kind,
-                a,
-                b,
-                c: _,
-                length,
-            } => {
-                let next = j + (5 * w + 1 + length);
-                note_line(
-                    rows,
-                    n * LINE,
-                    kind,
-                    a,
-                    b,
-                    length,
-                    place_of(schema, a),
-                    next,
-                );
+        match sheet_line::take(q, j, w) {
+            Taken::Line(x) => {
+                note_line(rows, n * LINE, x, name::rank(schema, x.a));
                 n += 1;
-                j = next;
+                j = x.next;
             }
-            Front::NotInForm => {
+            Taken::NotInForm => {
                 return n;
             }
-            Front::End => {
+            Taken::End => {
                 return n;
             }
         }
@@ -96,15 +59,12 @@ pub fn note(schema: &[u64], w: usize, q: &[u8], at: usize, rows: &mut [u64]) -> 
 }
 
 // The bytes of line `k`, as a part of the request.
-pub fn value_of<'a>(w: usize, q: &'a [u8], rows: &[u64], k: usize) -> &'a [u8]
-    requires { ⌜ (k * 6 + 6 ≤ length (now rows)) × (positionAt (now rows) k + (5 * w + lengthAt (now rows) k) ≤ length (now q)) ⌝ }
-    ensures { λ r. ⌜ now r ≡ valueAt w (now (q .entry)) (now (rows .entry)) k ⌝ }
+pub fn value_of<'a>(q: &'a [u8], rows: &[u64], k: usize) -> &'a [u8]
+    requires { ⌜ (k * 6 + 10 ≤ length (now rows)) × (placeAt (now rows) k < nextAt (now rows) k) × (nextAt (now rows) k ≤ length (now q)) ⌝ }
+    ensures { λ r. ⌜ now r ≡ valueAt (now (q .entry)) (now (rows .entry)) k ⌝ }
 {
     let at = k * LINE;
-    sheet::value_at(
-        q,
-        rows[at + POSITION] as usize,
-        rows[at + LENGTH] as usize,
-        w,
-    )
+    let place = rows[at + PLACE] as usize;
+    let next = rows[at + (LINE + POSITION)] as usize;
+    &q[place..next - 1]
 }

@@ -9,7 +9,7 @@ use Rattle.rules.specs.Directory.{Stored, blank, entryOf}
 use Rattle.rules.specs.Decision.{Setting}
 use Rattle.rules.specs.Filter.{Filter, isTrue, evaluate}
 use Rattle.rules.specs.FilterItem.{itemTruth}
-use Rattle.rules.specs.Laws.Filter.{both, either, afterLines}
+use Rattle.rules.specs.FilterLines.{both, either, afterLines}
 use Rattle.rules.specs.declared.Truth.{Truth}
 
 -- "and" (a conjunction) or "or"

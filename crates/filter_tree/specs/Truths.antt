@@ -23,10 +23,10 @@ unfoldable pub truthOf : ℕ → Truth
 truthOf x = cond (eqb x 2) True (cond (eqb x 1) False Undefined)
 
 -- the number `x` is that of the item in line `k`, unless an operator stands there
-pub record TruthAt (m : Assertion → Truth) (w : ℕ) (q : Bytes) (rows : List ℕ) (k x : ℕ) : Type 0 where
+pub record TruthAt (m : Assertion → Truth) (q : Bytes) (rows : List ℕ) (lines k x : ℕ) : Type 0 where
   pub told : (kindAt rows k ≡ 22 → ⊥) → (eqb (kindAt rows k) 20 || eqb (kindAt rows k) 21) ≡ false
-      → truthOf x ≡ m (assertionBy (kindAt rows k) (firstAt rows k) (valueAt w q rows k) (piecesAt w q rows k))
+      → truthOf x ≡ m (assertionBy (kindAt rows k) (firstAt rows k) (valueAt q rows k) (piecesAt q rows lines k))
 
--- a number for each of the lines
-pub record Truths (m : Assertion → Truth) (w : ℕ) (q : Bytes) (rows : List ℕ) (lines : ℕ) (truths : List ℕ) : Type 0 where
-  pub line : (k : ℕ) → k < lines → TruthAt m w q rows k (getD truths k 0)
+-- a number for each of the first `count` of the lines
+pub record Truths (m : Assertion → Truth) (q : Bytes) (rows : List ℕ) (lines count : ℕ) (truths : List ℕ) : Type 0 where
+  pub line : (k : ℕ) → k < count → TruthAt m q rows lines k (getD truths k 0)

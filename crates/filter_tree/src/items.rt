@@ -12,9 +12,9 @@ ghost use lib.ListN.{getD};
 ghost use Rattle.rules.specs.Directory.{Stored, blank, entryOf};
 ghost use Rattle.rules.specs.Decision.{Setting};
 ghost use Rattle.rules.specs.FilterItem.{itemTruth};
-ghost use Rattle.tables.specs.Book.{width, entries, schema};
+ghost use Rattle.tables.specs.Book.{entries, schema};
 ghost use Rattle.tables.specs.World.{Entries};
-ghost use Rattle.filter_lines.specs.Lines.{Lines, Typed};
+ghost use Rattle.filter_lines.specs.Lines.{Placed, Typed};
 ghost use Rattle.filter_item.specs.Mask.{Masks};
 ghost use Rattle.filter_item.specs.Seen.{SeenAt};
 ghost use Rattle.filter_tree.specs.Truths.{numberOf, truthOf, TruthAt, Truths};
@@ -59,8 +59,8 @@ fn line_truth(
     lines: usize,
     line: usize,
 ) -> u8
-    requires { ⌜ ((σ : Setting) × (es : List Stored) × Entries σ es (now d) (now book) (now held)) × (k < entries (now book)) × Lines (width (now book)) (now q) (now rows) lines × Typed (schema (now book)) (now rows) lines × (line < lines) ⌝ }
-    ensures { λ r. ⌜ ((σ : Setting) (es : List Stored) (asked : ℕ) → Entries σ es (now (d .entry)) (now (book .entry)) (now (held .entry)) → SeenAt σ es (now (d .entry)) (now (book .entry)) (now (held .entry)) k asked types (now (values .entry)) → Masks (now (rows .entry)) lines asked → TruthAt (itemTruth σ (entryOf (getD es k blank))) (width (now (book .entry))) (now (q .entry)) (now (rows .entry)) line r) ⌝ }
+    requires { ⌜ ((σ : Setting) × (es : List Stored) × Entries σ es (now d) (now book) (now held)) × (k < entries (now book)) × Placed (now q) (now rows) lines × Typed (schema (now book)) (now rows) lines × (line < lines) ⌝ }
+    ensures { λ r. ⌜ ((σ : Setting) (es : List Stored) (asked : ℕ) → Entries σ es (now (d .entry)) (now (book .entry)) (now (held .entry)) → SeenAt σ es (now (d .entry)) (now (book .entry)) (now (held .entry)) k asked types (now (values .entry)) → Masks (now (rows .entry)) lines asked → TruthAt (itemTruth σ (entryOf (getD es k blank))) (now (q .entry)) (now (rows .entry)) lines line r) ⌝ }
 {
     let kind = rows[line * LINE];
     if (kind == AND) | (kind == OR) {
@@ -84,8 +84,8 @@ pub(crate) fn note_truths(
     rows: &[u64; 1596],
     lines: usize,
 ) -> [u8; 265]
-    requires { ⌜ ((σ : Setting) × (es : List Stored) × Entries σ es (now d) (now book) (now held)) × (k < entries (now book)) × Lines (width (now book)) (now q) (now rows) lines × Typed (schema (now book)) (now rows) lines ⌝ }
-    ensures { λ r. ⌜ ((σ : Setting) (es : List Stored) (asked : ℕ) → Entries σ es (now (d .entry)) (now (book .entry)) (now (held .entry)) → SeenAt σ es (now (d .entry)) (now (book .entry)) (now (held .entry)) k asked types (now (values .entry)) → Masks (now (rows .entry)) lines asked → Truths (itemTruth σ (entryOf (getD es k blank))) (width (now (book .entry))) (now (q .entry)) (now (rows .entry)) lines r) ⌝ }
+    requires { ⌜ ((σ : Setting) × (es : List Stored) × Entries σ es (now d) (now book) (now held)) × (k < entries (now book)) × Placed (now q) (now rows) lines × Typed (schema (now book)) (now rows) lines ⌝ }
+    ensures { λ r. ⌜ ((σ : Setting) (es : List Stored) (asked : ℕ) → Entries σ es (now (d .entry)) (now (book .entry)) (now (held .entry)) → SeenAt σ es (now (d .entry)) (now (book .entry)) (now (held .entry)) k asked types (now (values .entry)) → Masks (now (rows .entry)) lines asked → Truths (itemTruth σ (entryOf (getD es k blank))) (now (q .entry)) (now (rows .entry)) lines lines r) ⌝ }
 {
     let mut truths: [u8; 265] = [0; 265];
     let mut line: usize = 0;

@@ -23,12 +23,12 @@ ghost use mathlib.Core.List.{List};
 ghost use lib.ListN.{length};
 ghost use Rattle.rules.specs.Sheet.{Bytes};
 ghost use Rattle.rules.specs.Directory.{Stored};
-ghost use Rattle.rules.specs.Judge.{accept};
+ghost use Rattle.rules.specs.Judge.{accept, Grammar};
 ghost use Rattle.rules.specs.Decision.{Setting};
 ghost use Rattle.rules.specs.Filter.{Assertion, Filter};
 ghost use Rattle.rules.specs.Request as Request;
 ghost use Rattle.rules.specs.Places.{linesAt};
-ghost use Rattle.rules.specs.Laws.Filter.{evaluated, evaluateLines};
+ghost use Rattle.rules.specs.FilterLines.{evaluated, evaluateLines};
 ghost use Rattle.rules.specs.declared.Truth.{Truth};
 ghost use Rattle.tables.specs.Book.{width, entries, schema};
 ghost use Rattle.tables.specs.World.{World, Known};
@@ -73,7 +73,7 @@ pub struct Step {
 // are passed over in any case.
 pub fn evaluate(rows: &[u64], truths: &[u8], lines: usize, k: usize, depth: usize) -> Step
     requires { ⌜ (lines * 6 + 6 ≤ length (now rows)) × (k ≤ lines) ⌝ }
-    ensures { λ r. ⌜ (r .next ≤ lines) × ((w : ℕ) (q : Bytes) (m : Assertion → Truth) → Lines w q (now (rows .entry)) lines → Truths m w q (now (rows .entry)) lines (now (truths .entry)) → evaluated (r .truth) (linesAt w q (positionAt (now (rows .entry)) (r .next))) ≡ evaluateLines m depth (linesAt w q (positionAt (now (rows .entry)) k))) ⌝ }
+    ensures { λ r. ⌜ (r .next ≤ lines) × ((w : ℕ) (q : Bytes) (m : Assertion → Truth) → Lines w q (now (rows .entry)) lines → Truths m q (now (rows .entry)) lines lines (now (truths .entry)) → evaluated (r .truth) (linesAt w q (positionAt (now (rows .entry)) (r .next))) ≡ evaluateLines m depth (linesAt w q (positionAt (now (rows .entry)) k))) ⌝ }
 {
     if depth == 0 {
         return Step {
@@ -130,7 +130,7 @@ pub fn matches(
     k: usize,
 ) -> bool
     requires { ⌜ Known (now d) (now p) (now book) (now held) (now sets) × Lines (width (now book)) (now q) (now rows) lines × Typed (schema (now book)) (now rows) lines × (k < entries (now book)) × Masks (now rows) lines asked ⌝ }
-    ensures { λ r. ⌜ ((σ : Setting) (es : List Stored) (f : Filter) → World σ es (now (d .entry)) (now (p .entry)) (now (book .entry)) (now (held .entry)) (now (sets .entry)) → Request.filter 16 128 (linesAt (width (now (book .entry))) (now (q .entry)) (positionAt (now (rows .entry)) 0)) (λ f left rest. accept f) ≡ accept f → r ≡ matchesAt σ es f k) ⌝ }
+    ensures { λ r. ⌜ ((σ : Setting) (es : List Stored) (g : Grammar) (f : Filter) → World σ es (now (d .entry)) (now (p .entry)) (now (book .entry)) (now (held .entry)) (now (sets .entry)) → Request.filter g 16 128 (linesAt (width (now (book .entry))) (now (q .entry)) (positionAt (now (rows .entry)) 0)) (λ f left rest. accept f) ≡ accept f → r ≡ matchesAt σ es f k) ⌝ }
 {
     let seen = ask(book, held, sets, d, p, k, asked);
     let truths = note_truths(book, held, d, seen.types, &seen.values, k, q, rows, lines);

@@ -2,7 +2,7 @@
 use rules::Truth;
 ghost use mathlib.Core.Path.{_≡_};
 ghost use Rattle.rules.specs.Filter.{isTrue, negation};
-ghost use Rattle.rules.specs.Laws.Filter as Filter;
+ghost use Rattle.rules.specs.FilterLines as Filter;
 ghost use Rattle.filter_tree.specs.Tree.{joinBy};
 
 // Is it true?

@@ -1,3 +1,2 @@
 pub mod Schema
-pub mod Parts
-pub mod Placed
+pub mod Laws

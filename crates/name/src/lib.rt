@@ -1,23 +1,31 @@
 // Names and values under a schema. A schema is lent as numbers, one for each attribute type: its number times 4, and its syntax.
 use rules::Found;
 ghost use mathlib.Core.Path.{_≡_};
-ghost use Prim.Native.Nat.{_≤_};
 ghost use Rattle.rules.specs.Name;
 ghost use Rattle.rules.specs.Places.{schemaOf};
-ghost use Rattle.name.specs.Schema.{syntaxIn, equalBy};
-ghost use Rattle.name.specs.Placed.{equalAt};
+ghost use Rattle.name.specs.Schema.{rankIn, syntaxIn, equalBy};
+
+// The rank of an attribute type in the schema: how many types stand before it; the number of all types if the schema does not have it.
+pub fn rank(schema: &[u64], t: u64) -> usize
+    ensures { λ r. ⌜ r ≡ rankIn (now (schema .entry)) t ⌝ }
+{
+    let mut i = 0;
+    while i < schema.len() {
+        if schema[i] / 4 == t {
+            return i;
+        }
+        i += 1;
+    }
+    i
+}
 
 // The syntax of an attribute type, if the schema has it.
 pub fn syntax_of(schema: &[u64], t: u64) -> Found
     ensures { λ r. ⌜ r ≡ syntaxIn (now (schema .entry)) t ⌝ }
 {
-    let mut i = 0;
-    while i < schema.len() {
-        let k = schema[i];
-        if k / 4 == t {
-            return Found::At((k % 4) as usize);
-        }
-        i += 1;
+    let r = rank(schema, t);
+    if r < schema.len() {
+        return Found::At((schema[r] % 4) as usize);
     }
     Found::Nothing
 }
@@ -37,7 +45,7 @@ pub fn allowed(schema: &[u64], t: u64, v: &[u8]) -> bool
     ensures { λ r. ⌜ r ≡ Name.allowed (schemaOf (now (schema .entry))) t (now (v .entry)) ⌝ }
 {
     match syntax_of(schema, t) {
-        Found::At(s) => value::fits(s as u64, v),
+        Found::At(s) => value_syntax::fits(s as u64, v),
         Found::Nothing => false,
     }
 }
@@ -46,9 +54,9 @@ pub fn allowed(schema: &[u64], t: u64, v: &[u8]) -> bool
 pub fn equal_by(s: u64, v: &[u8], u: &[u8]) -> bool
     ensures { λ r. ⌜ r ≡ equalBy s (now (v .entry)) (now (u .entry)) ⌝ }
 {
-    if value::same(s, v, u) {
-        if value::fits(s, v) {
-            return value::fits(s, u);
+    if value_syntax::same(s, v, u) {
+        if value_syntax::fits(s, v) {
+            return value_syntax::fits(s, u);
         }
     }
     false
@@ -62,23 +70,4 @@ pub fn equal(schema: &[u64], t: u64, v: &[u8], u: &[u8]) -> bool
         Found::At(s) => equal_by(s as u64, v, u),
         Found::Nothing => false,
     }
-}
-
-// Do the `len` bytes of the line at position `at` equal `v`, both values of type `t`? Not where the sheet ends before.
-pub fn equal_at(schema: &[u64], w: usize, d: &[u8], at: usize, len: usize, t: u64, v: &[u8]) -> bool
-    requires { ⌜ w ≤ 18 ⌝ }
-    ensures { λ r. ⌜ r ≡ equalAt (schemaOf (now (schema .entry))) w (now (d .entry)) at len t (now (v .entry)) ⌝ }
-{
-    if d.len() < at {
-        return false;
-    }
-    let room = d.len() - at;
-    let from = 5 * w;
-    if room < from {
-        return false;
-    }
-    if room - from < len {
-        return false;
-    }
-    equal(schema, t, v, sheet::value_at(d, at, len, w))
 }

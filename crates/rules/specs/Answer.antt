@@ -137,11 +137,12 @@ module _ (σ : Setting) where
     unfoldable pub named : Name → Option Entry
     named n = first (λ e. sameName (σ .schema) n (e .name)) es
 
-    -- "an absent entry gives 1. Read and compare need Read on the entry; without it, 2 if DiscloseOnError is granted, else 1"
-    unfoldable pub opened : ℕ → Name → (Entry → List Line) → Option Entry → List Line
-    opened op n answer none = noSuchObject op n
-    opened op n answer (some e) =
-        cond (granted σ (e .name) entry Read) (answer e) (cond (granted σ (e .name) entry DiscloseOnError) (outcome op 2) (noSuchObject op n))
+    -- "an absent entry gives 1. Read and compare need Read on the entry; without it, 2 if DiscloseOnError is granted, else 1":
+    -- operation `op` needs the permission `q`
+    unfoldable pub opened : ℕ → ℕ → Name → (Entry → List Line) → Option Entry → List Line
+    opened op q n answer none = noSuchObject op n
+    opened op q n answer (some e) =
+        cond (granted σ (e .name) entry q) (answer e) (cond (granted σ (e .name) entry DiscloseOnError) (outcome op 2) (noSuchObject op n))
 
     -- "list and search with nothing to return give 1 unless DiscloseOnError is granted on the base"
     unfoldable pub returned : ℕ → Name → ℕ → List (List Line) → List Line
@@ -151,13 +152,13 @@ module _ (σ : Setting) where
         (limited op limit hits)
 
     unfoldable pub listHits : Name → List (List Line)
-    listHits n = gather (λ e. given (listed n e) (listHit n e ∷ [])) es
+    listHits n = map (listHit n) (keep (listed n) es)
 
     unfoldable pub searchHits : Name → Search → List (List Line)
-    searchHits n r = gather (λ e. given (found n r e) (searchHit r e ∷ [])) es
+    searchHits n r = map (searchHit r) (keep (found n r) es)
 
     unfoldable pub answer : Name → Operation → List Line
-    answer n (read s) = opened 1 n (readEntry s) (named n)
-    answer n (compare t v) = opened 2 n (compareEntry t v) (named n)
+    answer n (read s) = opened 1 Read n (readEntry s) (named n)
+    answer n (compare t v) = opened 2 Read n (compareEntry t v) (named n)
     answer n (list limit) = returned 3 n limit (listHits n)
     answer n (search r) = returned 4 n (r .limit) (searchHits n r)

@@ -35,9 +35,9 @@ form k a b c l = record { kind = k; a = a; b = b; c = c; length = l }
 unfoldable pub takes : Form → Line → Bool
 takes f x = eqb (x .kind) (f .kind) && (inRange (f .a) (x .a) && (inRange (f .b) (x .b) && (inRange (f .c) (x .c) && inRange (f .length) (length (x .bytes)))))
 
--- "types are 1 to 999"
-abbrev pub types : Range
-types = between 1 999
+-- "types are 1 to 999", in general to the highest type `top`
+abbrev pub types : ℕ → Range
+types top = between 1 top
 
 abbrev pub bytes : Range
 bytes = between 0 64
@@ -46,19 +46,19 @@ bytes = between 0 64
 abbrev pub parts : Range
 parts = between 0 8
 
-unfoldable pub directoryForms : List Form
-directoryForms =
-    form 1 types (between 0 2) unnamed unnamed
-    ∷ form 2 free types unnamed bytes
-    ∷ form 3 types unnamed unnamed bytes
+unfoldable pub directoryForms : ℕ → List Form
+directoryForms top =
+    form 1 (types top) (between 0 2) unnamed unnamed
+    ∷ form 2 free (types top) unnamed bytes
+    ∷ form 3 (types top) unnamed unnamed bytes
     ∷ []
 
 -- a part of a name, in permissions and requests
-abbrev pub partForm : Form
-partForm = form 9 types unnamed unnamed bytes
+abbrev pub partForm : ℕ → Form
+partForm top = form 9 (types top) unnamed unnamed bytes
 
-unfoldable pub permissionForms : List Form
-permissionForms =
+unfoldable pub permissionForms : ℕ → List Form
+permissionForms top =
     form 4 (between 0 255) (between 0 2) (between 0 1) unnamed
     ∷ form 5 (between 0 1) parts unnamed unnamed
     ∷ form 6 (exactly 0) unnamed unnamed unnamed
@@ -66,31 +66,31 @@ permissionForms =
     ∷ form 6 (exactly 2) unnamed unnamed unnamed
     ∷ form 6 (exactly 3) parts unnamed unnamed
     ∷ form 7 (between 0 2) unnamed unnamed unnamed
-    ∷ form 7 (between 3 4) types unnamed unnamed
-    ∷ form 7 (exactly 5) types unnamed bytes
+    ∷ form 7 (between 3 4) (types top) unnamed unnamed
+    ∷ form 7 (exactly 5) (types top) unnamed bytes
     ∷ form 8 (between 1 63) unnamed unnamed unnamed
-    ∷ partForm
+    ∷ partForm top
     ∷ []
 
-unfoldable pub requestForms : List Form
-requestForms =
-    partForm
+unfoldable pub requestForms : ℕ → List Form
+requestForms top =
+    partForm top
     ∷ form 10 (between 0 2) parts unnamed unnamed
     ∷ form 11 (between 1 2) parts unnamed unnamed
     ∷ form 11 (between 3 4) parts free unnamed
     ∷ form 12 (exactly 0) unnamed (between 0 1) unnamed
     ∷ form 12 (exactly 1) (between 0 16) (between 0 1) unnamed
-    ∷ form 13 types unnamed unnamed unnamed
-    ∷ form 14 types unnamed unnamed bytes
+    ∷ form 13 (types top) unnamed unnamed unnamed
+    ∷ form 14 (types top) unnamed unnamed bytes
     ∷ form 15 (between 0 2) unnamed unnamed unnamed
     ∷ form 20 (between 0 127) unnamed unnamed unnamed
     ∷ form 21 (between 0 127) unnamed unnamed unnamed
     ∷ form 22 unnamed unnamed unnamed unnamed
-    ∷ form 23 types unnamed unnamed bytes
-    ∷ form 24 types unnamed unnamed bytes
-    ∷ form 25 types unnamed unnamed bytes
-    ∷ form 26 types unnamed unnamed unnamed
-    ∷ form 27 types (between 1 8) unnamed unnamed
+    ∷ form 23 (types top) unnamed unnamed bytes
+    ∷ form 24 (types top) unnamed unnamed bytes
+    ∷ form 25 (types top) unnamed unnamed bytes
+    ∷ form 26 (types top) unnamed unnamed unnamed
+    ∷ form 27 (types top) (between 1 8) unnamed unnamed
     ∷ form 28 (between 0 2) unnamed unnamed (between 1 64)
     ∷ []
 

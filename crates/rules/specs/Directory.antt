@@ -7,6 +7,7 @@ use lib.Dec.{leb, ltb, eqb}
 use lib.ListN.{length, getD}
 use Rattle.rules.specs.Lists.{any, isEmpty, lastOr, optional}
 use Rattle.rules.specs.Sheet.{Bytes, Line, lines}
+use Rattle.rules.specs.declared.Format.{Format}
 use Rattle.rules.specs.Columns.{inForm, directoryForms}
 use Rattle.rules.specs.Name.{Schema, Part, part, Name, allowed, samePart}
 use Rattle.rules.specs.Judge.{Verdict, accept, refuse, refuseIf, fold}
@@ -24,8 +25,16 @@ pub record Directory : Type 0 where
   pub schema : Schema
   pub entries : List Stored
 
+-- an entry from its fields: here alone it is built
+abbrev pub stored : ℕ → Part → Name → List Part → Stored
+stored parent naming name values = record { parent = parent; naming = naming; name = name; values = values }
+
 abbrev pub blank : Stored
-blank = record { parent = 0; naming = part 0 []; name = []; values = [] }
+blank = stored 0 (part 0 []) [] []
+
+-- the entry with these values
+abbrev pub withValues : Stored → List Part → Stored
+withValues e values = stored (e .parent) (e .naming) (e .name) values
 
 -- the stored full name of entry number `k`; "0 is the root"
 unfoldable pub nameAt : List Stored → ℕ → Name
@@ -63,7 +72,7 @@ clashes S es parent naming = any (λ e. eqb (e .parent) parent && samePart S (e 
 
 -- the entry of a K 2 line after the entries `es`, with no values yet
 abbrev pub newEntry : List Stored → Line → Stored
-newEntry es x = record { parent = x .a; naming = part (x .b) (x .bytes); name = nameAt es (x .a) ++ (part (x .b) (x .bytes) ∷ []); values = [] }
+newEntry es x = let naming = part (x .b) (x .bytes) in stored (x .a) naming (nameAt es (x .a) ++ (naming ∷ [])) []
 
 -- K 2: a parent number not below its own gives 2; then 6 counts for the entry before it; "at most .. 256 entries, depth 8"
 unfoldable pub entryLine : Reading → Line → Verdict Reading
@@ -79,7 +88,7 @@ entryLine st x =
 
 -- the entry with one value more
 abbrev pub withValue : Stored → Part → Stored
-withValue e v = record { parent = e .parent; naming = e .naming; name = e .name; values = e .values ++ (v ∷ []) }
+withValue e v = withValues e (e .values ++ (v ∷ []))
 
 -- K 3: "value of the last entry: A type, never falling within an entry"; "one value twice in a type" gives 5
 unfoldable pub valueLine : Reading → Option Stored → Line → Verdict Reading
@@ -91,10 +100,10 @@ valueLine st (some e) x =
     (refuseIf (any (samePart (st .schema) v) (e .values)) 5
     (accept (record { schema = st .schema; complete = st .complete; current = some (withValue e v) }))))
 
--- one line
-unfoldable pub step : Reading → Line → Verdict Reading
-step st x =
-    refuseIf (not (inForm directoryForms x)) 2
+-- one line; `top` is the highest type
+unfoldable pub step : ℕ → Reading → Line → Verdict Reading
+step top st x =
+    refuseIf (not (inForm (directoryForms top) x)) 2
     (cond (eqb (x .kind) 1) (typeLine st x)
     (cond (eqb (x .kind) 2) (entryLine st x)
     (valueLine st (st .current) x)))
@@ -107,8 +116,8 @@ abbrev pub nothing : Reading
 nothing = record { schema = []; complete = []; current = none }
 
 -- the directory, "at most 65,536 bytes", or the refusal
-unfoldable pub directoryOf : ℕ → Bytes → Verdict Directory
-directoryOf w s = refuseIf (ltb 65536 (length s)) 1 (fold step finish 2 nothing (lines w s))
+unfoldable pub directoryOf : Format → Bytes → Verdict Directory
+directoryOf f s = refuseIf (ltb 65536 (length s)) 1 (fold (step (f .top)) finish 2 nothing (lines (f .width) s))
 
 -- ---- entries as the operations see them
 

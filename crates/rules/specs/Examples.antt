@@ -7,7 +7,7 @@ use Prim.Native.String.{String, [] as none′, _∷_ as _∷′_}
 use mathlib.Core.Bool.{Bool, true, false}
 use mathlib.Core.List.{List, [], _∷_, _++_}
 use Rattle.rules.specs.Sheet
-use Rattle.rules.specs.Sheet.{Bytes, Line, line, print}
+use Rattle.rules.specs.Sheet.{Bytes, Line, line, narrow, print}
 use Rattle.rules.specs.Columns
 use Rattle.rules.specs.Value
 use Rattle.rules.specs.Value.{Piece, text, integer, fits, order, contains}
@@ -25,7 +25,7 @@ use Rattle.rules.specs.Filter.{conjunction, disjunction, negation}
 use Rattle.rules.specs.Request
 use Rattle.rules.specs.FilterItem
 use Rattle.rules.specs.Answer
-use Rattle.rules.specs.Serve.{serve, serveAt, respond, fitting, width}
+use Rattle.rules.specs.Serve.{serve, serveAt, ground, tighter, capped, within, respond, fitting}
 use Rattle.rules.specs.declared.Truth.{Truth}
 use Rattle.rules.specs.declared.Truth.the-variants.{True, False, Undefined}
 use Rattle.rules.specs.declared.Order.{Order}
@@ -186,7 +186,7 @@ printed = sheetOf (
     ∷ [])
 
 pub example-13 : serve directory permissions request 65536 ≡ accept printed
-unfolding directory permissions request printed serveAt respond fitting
+unfolding directory permissions request printed serveAt ground tighter capped within respond fitting
     Sheet.strip Sheet.digits Sheet.numeral Sheet.columnOf Sheet.whole Sheet.frontOf Sheet.linesWithin Sheet.lines Sheet.leading Sheet.column Sheet.numbers Sheet.lineBytes Sheet.print
     Columns.takes Columns.directoryForms Columns.permissionForms Columns.requestForms Columns.inForm
     Value.integerOf Value.small Value.printable Value.sized fits Value.normal Value.identical Value.same
@@ -216,14 +216,14 @@ entriesTo parent (suc k) = entriesTo parent k ++ entryLines (parent k) k
 
 -- each entry below the one before
 unfoldable pub chain : ℕ → Bytes
-chain n = print width (entriesTo (λ k. k) n)
+chain n = print (narrow .width) (entriesTo (λ k. k) n)
 
 -- all below the root
 unfoldable pub flat : ℕ → Bytes
-flat n = print width (entriesTo (λ k. 0) n)
+flat n = print (narrow .width) (entriesTo (λ k. 0) n)
 
 -- "depth 8 accepted, 9 gives 3"
-pub depths : (refusalOf (Directory.directoryOf width (chain 8)) ≡ 0) × (refusalOf (Directory.directoryOf width (chain 9)) ≡ 3)
+pub depths : (refusalOf (Directory.directoryOf narrow (chain 8)) ≡ 0) × (refusalOf (Directory.directoryOf narrow (chain 9)) ≡ 3)
 unfolding chain
     Sheet.strip Sheet.digits Sheet.numeral Sheet.columnOf Sheet.whole Sheet.frontOf Sheet.linesWithin Sheet.lines Sheet.leading Sheet.column Sheet.numbers Sheet.lineBytes Sheet.print
     Columns.takes Columns.directoryForms Columns.inForm Value.integerOf Value.small Value.printable Value.sized fits Value.normal Value.identical Value.same
@@ -250,7 +250,7 @@ pub limits : (serve (flat 2) open′ listTwo 65536
     ≡ accept (sheetOf ("    30     3     0     0     0" ∷ "    32     3     0     0     2aa" ∷ "    32     3     0     0     2ab" ∷ [])))
     × (serve (flat 3) open′ listTwo 65536
     ≡ accept (sheetOf ("    30     3     0     1     0" ∷ "    32     3     0     0     2aa" ∷ "    32     3     0     0     2ab" ∷ [])))
-unfolding flat open′ listTwo serveAt respond fitting
+unfolding flat open′ listTwo serveAt ground tighter capped within respond fitting
     Sheet.strip Sheet.digits Sheet.numeral Sheet.columnOf Sheet.whole Sheet.frontOf Sheet.linesWithin Sheet.lines Sheet.leading Sheet.column Sheet.numbers Sheet.lineBytes Sheet.print
     Columns.takes Columns.directoryForms Columns.permissionForms Columns.requestForms Columns.inForm
     Value.integerOf Value.small Value.printable Value.sized fits Value.normal Value.identical Value.same
@@ -279,7 +279,7 @@ readCapitals = sheetOf (
 -- a name is printed as stored, not as asked
 pub stored-name : serve (flat 1) open′ readCapitals 65536
     ≡ accept (sheetOf ("    30     1     0     0     0" ∷ "    33     0     1     0     0" ∷ "     9     3     0     0     2aa" ∷ []))
-unfolding flat open′ readCapitals serveAt respond fitting
+unfolding flat open′ readCapitals serveAt ground tighter capped within respond fitting
     Sheet.strip Sheet.digits Sheet.numeral Sheet.columnOf Sheet.whole Sheet.frontOf Sheet.linesWithin Sheet.lines Sheet.leading Sheet.column Sheet.numbers Sheet.lineBytes Sheet.print
     Columns.takes Columns.directoryForms Columns.permissionForms Columns.requestForms Columns.inForm
     Value.integerOf Value.small Value.printable Value.sized fits Value.normal Value.identical Value.same
@@ -297,10 +297,10 @@ unfolding flat open′ readCapitals serveAt respond fitting
 stored-name = refl
 
 -- "empty directory accepted; empty request 23"
-pub empty-directory : Directory.directoryOf width [] ≡ accept (record { schema = []; entries = [] })
+pub empty-directory : Directory.directoryOf narrow [] ≡ accept (record { schema = []; entries = [] })
 unfolding Directory.directoryOf Sheet.lines Sheet.linesWithin Judge.fold Directory.finish Directory.lacksNaming Directory.entriesOf
 empty-directory = refl
 
-pub empty-request : Request.requestOf width [] ≡ refuse 23
+pub empty-request : Request.requestOf narrow [] ≡ refuse 23
 unfolding Request.requestOf Sheet.lines Sheet.linesWithin Request.request Judge.due Judge.misplaced
 empty-request = refl

@@ -14,6 +14,8 @@ pub mod Answer
 pub mod Serve
 pub mod Shown
 pub mod Places
+pub mod Numbers
+pub mod FilterLines
 pub mod Examples
 pub mod Laws
 pub mod Secrecy

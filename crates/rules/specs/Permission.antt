@@ -5,6 +5,7 @@ use mathlib.Core.List.{List, [], _∷_, _++_}
 use lib.Dec.{ltb, eqb}
 use lib.ListN.{length}
 use Rattle.rules.specs.Sheet.{Bytes, Line, Sheet, lines}
+use Rattle.rules.specs.declared.Format.{Format}
 use Rattle.rules.specs.Columns.{permissionForms}
 use Rattle.rules.specs.Name.{Schema, Name, known, allowed}
 use Rattle.rules.specs.Judge.{Verdict, refuseIf, Grammar, misplaced, atEnd, due, dueLines, nameOf}
@@ -54,14 +55,14 @@ soundTarget S x = cond (ltb (x .a) 3) true (cond (eqb (x .a) 5) (allowed S (x .b
 unfoldable pub soundItem : Schema → Line → Bool
 soundItem S x = cond (eqb (x .kind) 7) (soundTarget S x) (cond (eqb (x .kind) 9) (allowed S (x .a) (x .bytes)) true)
 
-abbrev pub permissionGrammar : Schema → Grammar
-permissionGrammar S = record { forms = permissionForms; sound = soundItem S; refusals = 10 }
+abbrev pub permissionGrammar : ℕ → Schema → Grammar
+permissionGrammar top S = record { forms = permissionForms top; sound = soundItem S; refusals = 10 }
 
-module _ (S : Schema) where
+module _ (top : ℕ) (S : Schema) where
   -- "an item is K 4 to 8, in that order, once each", the parts of a name following as K 9
   unfoldable pub item : {A : Type 0} → Sheet → (Item → Sheet → Verdict A) → Verdict A
   item s next =
-      let g = permissionGrammar S in
+      let g = permissionGrammar top S in
       due g 4 s λ x s. due g 5 s λ y s. dueLines g 9 (y .b) s λ base s. due g 6 s λ z s. dueLines g 9 (z .b) s λ user s. due g 7 s λ t s. due g 8 s λ m s.
       next (record {
         precedence = x .a;
@@ -79,9 +80,9 @@ module _ (S : Schema) where
 
   -- the items after those in `before`, at most `n` of them
   unfoldable pub items : ℕ → List Item → Sheet → Verdict (List Item)
-  items zero before s = atEnd before s (misplaced (permissionGrammar S) s)
+  items zero before s = atEnd before s (misplaced (permissionGrammar top S) s)
   items (suc n) before s = atEnd before s (item s λ i rest. items n (before ++ (i ∷ [])) rest)
 
 -- the permissions, "at most 65,536 bytes, 256 items", or the refusal
-unfoldable pub permissionsOf : ℕ → Schema → Bytes → Verdict (List Item)
-permissionsOf w S s = refuseIf (ltb 65536 (length s)) 11 (items S 256 [] (lines w s))
+unfoldable pub permissionsOf : Format → Schema → Bytes → Verdict (List Item)
+permissionsOf f S s = refuseIf (ltb 65536 (length s)) 11 (items (f .top) S 256 [] (lines (f .width) s))

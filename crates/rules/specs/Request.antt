@@ -1,10 +1,11 @@
 -- Document 01, "Sheets" and "Who is refused, and why": the request sheet. Refusals 21 to 23.
-use Prim.Native.Nat.{ℕ, zero, suc}
+use Prim.Native.Nat.{ℕ, zero, suc, _+_}
 use mathlib.Core.Bool.{Bool, true, false, _&&_, _||_, not, cond}
 use mathlib.Core.List.{List, [], _∷_, map}
 use lib.Dec.{ltb, eqb}
 use lib.ListN.{length}
 use Rattle.rules.specs.Sheet.{Bytes, Line, Sheet, end, broken, row, lines}
+use Rattle.rules.specs.declared.Format.{Format}
 use Rattle.rules.specs.Columns.{requestForms, inForm}
 use Rattle.rules.specs.Value.{Piece}
 use Rattle.rules.specs.Name.{Name}
@@ -42,29 +43,30 @@ pub record Request : Type 0 where
 
 -- ---- the judge: the lines that are due, in their order
 
-abbrev pub requestGrammar : Grammar
-requestGrammar = record { forms = requestForms; sound = λ x. true; refusals = 20 }
+abbrev pub requestGrammar : ℕ → Grammar
+requestGrammar top = record { forms = requestForms top; sound = λ x. true; refusals = 20 }
 
 module _ {A : Type 0} where
+  -- `n` filters, each read by `one`
+  unfoldable pub filters : (ℕ → Sheet → (Filter → ℕ → Sheet → Verdict A) → Verdict A) → ℕ → ℕ → Sheet → (Filters → ℕ → Sheet → Verdict A) → Verdict A
+  filters one zero left s next = next none left s
+  filters one (suc n) left s next = one left s λ f left s. filters one n left s λ fs. next (more f fs)
+
+module _ {A : Type 0} (g : Grammar) where
   -- a line of a filter, "at most 128 lines of K 20 to 28": `left` more are allowed
   unfoldable pub filterLine : ℕ → Sheet → (ℕ → Line → Sheet → Verdict A) → Verdict A
-  filterLine zero s next = misplaced requestGrammar s
-  filterLine (suc left) end next = misplaced requestGrammar end
-  filterLine (suc left) broken next = misplaced requestGrammar broken
-  filterLine (suc left) (row x rest) next = refuseIf (not (inForm requestForms x)) 22 (next left x rest)
+  filterLine zero s next = misplaced g s
+  filterLine (suc left) end next = misplaced g end
+  filterLine (suc left) broken next = misplaced g broken
+  filterLine (suc left) (row x rest) next = refuseIf (not (inForm (g .forms) x)) (g .refusals + 2) (next left x rest)
 
   -- K 28: "initial only first, final only last"; `n` pieces are due, of which the first is the item's first
   unfoldable pub pieces : Bool → ℕ → ℕ → Sheet → (List Piece → ℕ → Sheet → Verdict A) → Verdict A
   pieces first zero left s next = next [] left s
   pieces first (suc n) left s next =
       filterLine left s λ left x rest.
-      refuseIf (not (eqb (x .kind) 28) || (eqb (x .a) 0 && not first || eqb (x .a) 2 && not (eqb n 0))) 23
+      refuseIf (not (eqb (x .kind) 28) || (eqb (x .a) 0 && not first || eqb (x .a) 2 && not (eqb n 0))) (g .refusals + 3)
       (pieces false n left rest λ ps. next (record { place = x .a; bytes = x .bytes } ∷ ps))
-
-  -- `n` filters, each read by `one`
-  unfoldable pub filters : (ℕ → Sheet → (Filter → ℕ → Sheet → Verdict A) → Verdict A) → ℕ → ℕ → Sheet → (Filters → ℕ → Sheet → Verdict A) → Verdict A
-  filters one zero left s next = next none left s
-  filters one (suc n) left s next = one left s λ f left s. filters one n left s λ fs. next (more f fs)
 
   -- "one filter, an operator before its parts", by the kind of its line; `one` reads a filter one level deeper
   unfoldable pub filterOf : (ℕ → Sheet → (Filter → ℕ → Sheet → Verdict A) → Verdict A) → (Filter → ℕ → Sheet → Verdict A) → ℕ → Line → Sheet → Verdict A
@@ -78,35 +80,35 @@ module _ {A : Type 0} where
       (cond (eqb k 25) (next (item (atMost (x .a) (x .bytes))) left s)
       (cond (eqb k 26) (next (item (present (x .a))) left s)
       (cond (eqb k 27) (pieces true (x .b) left s λ ps. next (item (substrings (x .a) ps)))
-      (refuse 23))))))))
+      (refuse (g .refusals + 3)))))))))
 
   -- "filters nest up to depth 16": `depth` more levels are allowed
   unfoldable pub filter : ℕ → ℕ → Sheet → (Filter → ℕ → Sheet → Verdict A) → Verdict A
-  filter zero left s next = misplaced requestGrammar s
+  filter zero left s next = misplaced g s
   filter (suc depth) left s next = filterLine left s (filterOf (filter depth) next)
 
   -- K 12 and its K 13
   unfoldable pub selection : Sheet → (Selection → Sheet → Verdict A) → Verdict A
   selection s next =
-      due requestGrammar 12 s λ x s. dueLines requestGrammar 13 (x .b) s λ ts s.
+      due g 12 s λ x s. dueLines g 13 (x .b) s λ ts s.
       next (record { listed = eqb (x .a) 1; types = map (λ t. t .a) ts; values = eqb (x .c) 1 }) s
 
   -- the lines after K 11, `x`, by its operation
   unfoldable pub operation : Line → Sheet → (Operation → Sheet → Verdict A) → Verdict A
   operation x s next =
       cond (eqb (x .a) 1) (selection s λ r. next (read r))
-      (cond (eqb (x .a) 2) (due requestGrammar 14 s λ y. next (compare (y .a) (y .bytes)))
+      (cond (eqb (x .a) 2) (due g 14 s λ y. next (compare (y .a) (y .bytes)))
       (cond (eqb (x .a) 3) (next (list (x .c)) s)
-      (selection s λ r s. due requestGrammar 15 s λ y s. filter 16 128 s λ f left s.
+      (selection s λ r s. due g 15 s λ y s. filter 16 128 s λ f left s.
       next (search (record { limit = x .c; selection = r; subset = y .a; filter = f })) s)))
 
 -- the whole; a surplus line after it is out of order
-unfoldable pub request : Sheet → Verdict Request
-request s =
-    due requestGrammar 10 s λ x s. dueLines requestGrammar 9 (x .b) s λ name s. due requestGrammar 11 s λ y s. dueLines requestGrammar 9 (y .b) s λ base s.
-    operation y s λ o s.
-    atEnd (record { requester = record { level = x .a; name = nameOf name }; base = nameOf base; operation = o }) s (misplaced requestGrammar s)
+unfoldable pub request : Grammar → Sheet → Verdict Request
+request g s =
+    due g 10 s λ x s. dueLines g 9 (x .b) s λ name s. due g 11 s λ y s. dueLines g 9 (y .b) s λ base s.
+    operation g y s λ o s.
+    atEnd (record { requester = record { level = x .a; name = nameOf name }; base = nameOf base; operation = o }) s (misplaced g s)
 
 -- the request, "at most 8,192 bytes", or the refusal
-unfoldable pub requestOf : ℕ → Bytes → Verdict Request
-requestOf w s = refuseIf (ltb 8192 (length s)) 21 (request (lines w s))
+unfoldable pub requestOf : Format → Bytes → Verdict Request
+requestOf f s = refuseIf (ltb 8192 (length s)) 21 (request (requestGrammar (f .top)) (lines (f .width) s))

@@ -1,19 +1,50 @@
 -- Document 01, "Who is refused, and why": "directory comes first, then permissions, request, answer".
 use Prim.Native.Nat.{ℕ}
+use mathlib.Core.Bool.{cond}
 use mathlib.Core.List.{List}
-use lib.Dec.{ltb}
+use lib.Dec.{ltb, eqb}
 use lib.ListN.{length}
-use Rattle.rules.specs.Sheet.{Bytes, print}
+use Rattle.rules.specs.Sheet.{Bytes, narrow, print}
+use Rattle.rules.specs.declared.Format.{Format}
 use Rattle.rules.specs.Judge.{Verdict, accept, refuseIf, then}
 use Rattle.rules.specs.Directory.{Directory, directoryOf, entries}
 use Rattle.rules.specs.Permission.{Item, permissionsOf}
 use Rattle.rules.specs.Decision.{Setting, Requester}
-use Rattle.rules.specs.Request.{Request, requestOf}
+use Rattle.rules.specs.Request.{Operation, read, compare, list, search, Request, requestOf}
 use Rattle.rules.specs.Answer.{answer}
+use Rattle.rules.specs.declared.Limits.{Limits}
 
--- six columns a number
-abbrev pub width : ℕ
-width = 6
+-- ---- the directory and the permissions, judged apart from any request
+
+-- what they give where both are accepted
+pub record Ground : Type 0 where
+  pub directory : Directory
+  pub items : List Item
+
+unfoldable pub ground : Format → Bytes → Bytes → Verdict Ground
+ground f d p = then (directoryOf f d) λ x. then (permissionsOf f (x .schema) p) λ is. accept (record { directory = x; items = is })
+
+-- ---- what a calling program is limited to, before the answer is asked for
+
+-- the exchange has no limits
+abbrev pub exchange : Limits
+exchange = record { entries = 0 }
+
+-- the smaller of two size limits, of which 0 is none
+unfoldable pub tighter : ℕ → ℕ → ℕ
+tighter a b = cond (eqb a 0) b (cond (eqb b 0) a (cond (ltb b a) b a))
+
+-- the operation, with at most `most` entries from a list or search
+unfoldable pub capped : ℕ → Operation → Operation
+capped most (read s) = read s
+capped most (compare t v) = compare t v
+capped most (list limit) = list (tighter most limit)
+capped most (search s) = search (record { limit = tighter most (s .limit); selection = s .selection; subset = s .subset; filter = s .filter })
+
+unfoldable pub within : Limits → Request → Request
+within k r = record { requester = r .requester; base = r .base; operation = capped (k .entries) (r .operation) }
+
+-- ---- the answer
 
 abbrev pub settingOf : Directory → List Item → Requester → Setting
 settingOf d is u = record { schema = d .schema; items = is; requester = u }
@@ -23,14 +54,12 @@ unfoldable pub fitting : ℕ → Bytes → Verdict Bytes
 fitting room bs = refuseIf (ltb room (length bs)) 31 (accept bs)
 
 -- an accepted request's answer, in a buffer of `room` bytes
-unfoldable pub respond : ℕ → Directory → List Item → Request → ℕ → Verdict Bytes
-respond w d is r room = fitting room (print w (answer (settingOf d is (r .requester)) (entries d) (r .base) (r .operation)))
+unfoldable pub respond : Format → Ground → Request → ℕ → Verdict Bytes
+respond f g r room = fitting room (print (f .width) (answer (settingOf (g .directory) (g .items) (r .requester)) (entries (g .directory)) (r .base) (r .operation)))
 
--- the answer's bytes to the sheets `d`, `p` and `q`, or the refusal
-unfoldable pub serveAt : ℕ → Bytes → Bytes → Bytes → ℕ → Verdict Bytes
-serveAt w d p q room =
-    then (directoryOf w d) λ directory. then (permissionsOf w (directory .schema) p) λ is. then (requestOf w q) λ r.
-    respond w directory is r room
+-- the answer's bytes to the sheets `d`, `p` and `q`, or the refusal, for a program of the limits `k`
+unfoldable pub serveAt : Format → Limits → Bytes → Bytes → Bytes → ℕ → Verdict Bytes
+serveAt f k d p q room = then (ground f d p) λ g. then (requestOf f q) λ r. respond f g (within k r) room
 
 abbrev pub serve : Bytes → Bytes → Bytes → ℕ → Verdict Bytes
-serve = serveAt width
+serve = serveAt narrow exchange

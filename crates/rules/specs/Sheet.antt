@@ -1,10 +1,11 @@
 -- Document 01, "Sheets": a sheet of bytes as lines, and lines as bytes. The width of a column is a parameter, `w`.
-use Prim.Native.Nat.{ℕ, zero, suc, _+_, _-_, _*_, _/_, _%_}
+use Prim.Native.Nat.{ℕ, zero, suc, _+_, _-_, _*_, _/_, _%_, _≤_, _<_}
 use mathlib.Core.Bool.{cond}
 use mathlib.Core.List.{List, [], _∷_, _++_}
 use lib.Dec.{leb, ltb, eqb}
 use lib.ListN.{length, getD, take, drop}
 use Rattle.rules.specs.Lists.{gather}
+use Rattle.rules.specs.declared.Format.{Format}
 use Rattle.rules.specs.declared.Column.{Column}
 use Rattle.rules.specs.declared.Column.the-variants.{Number, Malformed}
 use Rattle.rules.specs.declared.Front.{Front}
@@ -23,6 +24,19 @@ pub record Line : Type 0 where
 
 abbrev pub line : ℕ → ℕ → ℕ → ℕ → Bytes → Line
 line k a b c bytes = record { kind = k; a = a; b = b; c = c; bytes = bytes }
+
+-- "each right-justified in six columns", "types are 1 to 999"
+abbrev pub narrow : Format
+narrow = record { width = 6; top = 999 }
+
+-- a format whose numbers fit those of the code
+pub record Usable (f : Format) : Type 0 where
+  -- a line has 31 bytes or more, so that a sheet has at most 2,114
+  pub least : 6 ≤ f .width
+  -- the number in a column is below 2 ^ 64
+  pub most : f .width ≤ 18
+  -- a type times 4 is below 2 ^ 64
+  pub types : f .top < 4294967296
 
 -- ---- a column read
 

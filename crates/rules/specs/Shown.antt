@@ -5,6 +5,7 @@ use mathlib.Core.Bool.{Bool}
 use mathlib.Core.List.{List, [], _∷_}
 use Rattle.rules.specs.Lists.{any, keep, sift}
 use Rattle.rules.specs.Sheet.{Bytes}
+use Rattle.rules.specs.declared.Format.{Format}
 use Rattle.rules.specs.Name.{Name}
 use Rattle.rules.specs.Judge.{accept}
 use Rattle.rules.specs.Directory.{Directory, directoryOf, Held, Entry, entries}
@@ -55,11 +56,11 @@ shown σ d = shownBy (sight σ) (entries d)
 
 -- two accepted directory sheets of one schema that are alike, under the permission sheet `p`, for the requester of the request sheet `q`;
 -- "where permissions get 11 to 14, or the request 21 to 23", one schema is enough
-pub record Alike (w : ℕ) (p q d₁ d₂ : Bytes) : Type 0 where
+pub record Alike (f : Format) (p q d₁ d₂ : Bytes) : Type 0 where
   pub first : Directory
   pub second : Directory
-  pub accepted₁ : directoryOf w d₁ ≡ accept first
-  pub accepted₂ : directoryOf w d₂ ≡ accept second
+  pub accepted₁ : directoryOf f d₁ ≡ accept first
+  pub accepted₂ : directoryOf f d₂ ≡ accept second
   pub schema : first .schema ≡ second .schema
-  pub same : (is : List Item) (r : Request) → permissionsOf w (first .schema) p ≡ accept is → requestOf w q ≡ accept r
+  pub same : (is : List Item) (r : Request) → permissionsOf f (first .schema) p ≡ accept is → requestOf f q ≡ accept r
       → shown (settingOf first is (r .requester)) first ≡ shown (settingOf second is (r .requester)) second

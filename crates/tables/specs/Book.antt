@@ -3,6 +3,7 @@ use Prim.Native.Nat.{ℕ, _+_, _≤_}
 use mathlib.Core.Path.{_≡_}
 use mathlib.Core.List.{List}
 use lib.ListN.{length, getD, take, drop}
+use Rattle.rules.specs.Sheet.{Bytes}
 
 -- the width of a column of the sheets, and how many types and entries there are
 abbrev pub width : List ℕ → ℕ
@@ -18,18 +19,26 @@ entries b = getD b 2 0
 unfoldable pub schema : List ℕ → List ℕ
 schema b = take (types b) (drop 8 b)
 
--- of each entry: the position of its K 2 line, its parent's number, its naming type, the length of its naming value
-unfoldable pub positions : List ℕ → List ℕ
-positions b = take (entries b) (drop 72 b)
+-- of the entry of index `k`: where its naming value's bytes begin on the directory, its parent's number, its naming type, the length of that value
+abbrev pub placeAt : List ℕ → ℕ → ℕ
+placeAt b k = getD b (72 + k) 0
 
+abbrev pub parentAt : List ℕ → ℕ → ℕ
+parentAt b k = getD b (328 + k) 0
+
+abbrev pub namingAt : List ℕ → ℕ → ℕ
+namingAt b k = getD b (584 + k) 0
+
+abbrev pub lengthAt : List ℕ → ℕ → ℕ
+lengthAt b k = getD b (840 + k) 0
+
+-- the bytes of its naming value, a part of the directory
+abbrev pub namingOf : List ℕ → Bytes → ℕ → Bytes
+namingOf b d k = take (lengthAt b k) (drop (placeAt b k) d)
+
+-- the parents' numbers, as a column
 unfoldable pub parents : List ℕ → List ℕ
 parents b = take (entries b) (drop 328 b)
-
-unfoldable pub naming : List ℕ → List ℕ
-naming b = take (entries b) (drop 584 b)
-
-unfoldable pub lengths : List ℕ → List ℕ
-lengths b = take (entries b) (drop 840 b)
 
 -- the row of the first value of the entry of index `k`; the values of an entry end where those of the next begin
 abbrev pub firstAt : List ℕ → ℕ → ℕ

@@ -25,6 +25,10 @@ bytesAt d h i = take (sizeAt h i) (drop (placeAt h i) d)
 abbrev pub typeAt : List ℕ → ℕ → ℕ
 typeAt schema rank = getD schema rank 0 / 4
 
+-- no two of the types have one number
+abbrev pub Distinct : List ℕ → Type 0
+Distinct schema = (i j : ℕ) → i < length schema → j < length schema → typeAt schema i ≡ typeAt schema j → i ≡ j
+
 -- row `i` is the value `v`
 pub record ValueAt (schema : List ℕ) (d : Bytes) (v : Part) (h : List ℕ) (i : ℕ) : Type 0 where
   pub rank : rankAt h i < length schema

@@ -20,7 +20,7 @@ use Rattle.rules.specs.Permission.{Item}
 use Rattle.rules.specs.Decision.{Setting, Thing, granted}
 use Rattle.rules.specs.Laws.Decision.{concerns}
 use Rattle.rules.specs.Laws.First.{itemAt, Ranked}
-use Rattle.value.specs.Digest.{digest}
+use Rattle.value_syntax.specs.Digest.{digest}
 use Rattle.access_set.specs.declared.Bits.{Bits}
 use Rattle.access_set.specs.Member.{member}
 use Rattle.tables.specs.Held.{typeAt}

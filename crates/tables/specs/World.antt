@@ -1,16 +1,24 @@
 -- What the numbers of the tables stand for. A function that answers takes them as they are; its contract speaks of the world.
-use Prim.Native.Nat.{ℕ, suc, _≤_, _<_}
+use Prim.Native.Nat.{ℕ, suc, _+_, _≤_, _<_}
 use mathlib.Core.Path.{_≡_}
 use mathlib.Core.List.{List}
 use lib.ListN.{length, getD}
 use Rattle.rules.specs.Sheet.{Bytes}
 use Rattle.rules.specs.Directory.{Stored, blank}
 use Rattle.rules.specs.Decision.{Setting}
-use Rattle.rules.specs.Places.{schemaOf, EntriesAt}
+use Rattle.rules.specs.Places.{linesAt, valuesOf, schemaOf}
 use Rattle.rules.specs.Laws.Directory.{Accepted}
-use Rattle.tables.specs.Book.{Fits, width, entries, schema, positions, parents, naming, lengths, firstAt}
-use Rattle.tables.specs.Held.{typeAt, HeldAt}
+use Rattle.tables.specs.Book.{Fits, width, entries, schema, placeAt, parentAt, namingAt, lengthAt, namingOf, firstAt}
+use Rattle.tables.specs.Held.{Distinct, HeldAt}
 use Rattle.tables.specs.Sets.{Rights}
+
+-- the entry `e` by the numbers of index `k`; its values stand after the line of its naming value
+pub record EntryAt (d : Bytes) (e : Stored) (book : List ℕ) (k : ℕ) : Type 0 where
+  pub parent : parentAt book k ≡ e .parent
+  pub type : namingAt book k ≡ e .naming .type
+  pub value : namingOf book d k ≡ e .naming .value
+  pub within : placeAt book k + lengthAt book k < length d
+  pub values : valuesOf (linesAt (width book) d (placeAt book k + lengthAt book k + 1)) ≡ e .values
 
 -- the setting and the accepted entries `es` of the directory `d`, by the book and the rows of the values held
 pub record Entries (σ : Setting) (es : List Stored) (d : Bytes) (book held : List ℕ) : Type 0 where
@@ -18,11 +26,15 @@ pub record Entries (σ : Setting) (es : List Stored) (d : Bytes) (book held : Li
   pub rows : length held ≡ 6345
   pub small : length d ≤ 65536
   pub schema-is : σ .schema ≡ schemaOf (schema book)
-  pub distinct : (i j : ℕ) → i < length (schema book) → j < length (schema book) → typeAt (schema book) i ≡ typeAt (schema book) j → i ≡ j
+  pub distinct : Distinct (schema book)
   pub accepted : Accepted (σ .schema) es
   pub count : entries book ≡ length es
-  pub listed : EntriesAt (width book) d es (positions book) (parents book) (naming book) (lengths book)
+  pub listed : (k : ℕ) → k < length es → EntryAt d (getD es k blank) book k
   pub values : (k : ℕ) → k < length es → HeldAt (schema book) d (getD es k blank .values) held (firstAt book k) (firstAt book (suc k))
+
+-- the numbers stand for some entries of the directory `d`
+abbrev pub Listed : Bytes → List ℕ → Type 0
+Listed d book = (σ : Setting) × (es : List Stored) × (held : List ℕ) × Entries σ es d book held
 
 -- the entries, and what the requester may under the permission sheet `p`
 pub record World (σ : Setting) (es : List Stored) (d p : Bytes) (book held sets : List ℕ) : Type 0 where

@@ -1,7 +1,9 @@
-// The book: where each number stands, and its columns as parts.
+// The book: where each number stands, its columns as parts, and the naming value of an entry.
 ghost use mathlib.Core.Path.{_≡_};
 ghost use Rattle.tables.specs.Book as Book;
-ghost use Rattle.tables.specs.Book.{Fits};
+ghost use Prim.Native.Nat.{_+_, _≤_, _<_};
+ghost use lib.ListN.{length};
+ghost use Rattle.tables.specs.Book.{Fits, placeAt, lengthAt, namingOf};
 
 // One number each: the bytes of a column on the sheets; how many types and entries there are.
 pub const WIDTH: usize = 0;
@@ -13,8 +15,8 @@ pub const ENTRIES: usize = 2;
 // 64 numbers: the schema.
 pub const SCHEMA: usize = 8;
 
-// 256 numbers each, of the entries: the position of the line, the parent's number, the naming type, the length of the naming value.
-pub const POSITION: usize = 72;
+// 256 numbers each, of the entries: where the naming value's bytes begin, the parent's number, the naming type, the length of the naming value.
+pub const PLACE: usize = 72;
 
 pub const PARENT: usize = 328;
 
@@ -35,14 +37,6 @@ pub fn schema(book: &[u64]) -> &[u64]
     &book[SCHEMA..SCHEMA + n]
 }
 
-pub fn positions(book: &[u64]) -> &[u64]
-    requires { ⌜ Fits (now book) ⌝ }
-    ensures { λ r. ⌜ now r ≡ Book.positions (now (book .entry)) ⌝ }
-{
-    let n = book[ENTRIES] as usize;
-    &book[POSITION..POSITION + n]
-}
-
 pub fn parents(book: &[u64]) -> &[u64]
     requires { ⌜ Fits (now book) ⌝ }
     ensures { λ r. ⌜ now r ≡ Book.parents (now (book .entry)) ⌝ }
@@ -51,18 +45,12 @@ pub fn parents(book: &[u64]) -> &[u64]
     &book[PARENT..PARENT + n]
 }
 
-pub fn naming(book: &[u64]) -> &[u64]
-    requires { ⌜ Fits (now book) ⌝ }
-    ensures { λ r. ⌜ now r ≡ Book.naming (now (book .entry)) ⌝ }
+// The bytes of the naming value of the entry of index `k`, as a part of the directory.
+pub fn naming_value<'a>(book: &[u64; 1353], d: &'a [u8], k: usize) -> &'a [u8]
+    requires { ⌜ (k < 256) × (placeAt (now book) k + lengthAt (now book) k ≤ length (now d)) ⌝ }
+    ensures { λ r. ⌜ now r ≡ namingOf (now (book .entry)) (now (d .entry)) k ⌝ }
 {
-    let n = book[ENTRIES] as usize;
-    &book[NAMING..NAMING + n]
-}
-
-pub fn lengths(book: &[u64]) -> &[u64]
-    requires { ⌜ Fits (now book) ⌝ }
-    ensures { λ r. ⌜ now r ≡ Book.lengths (now (book .entry)) ⌝ }
-{
-    let n = book[ENTRIES] as usize;
-    &book[LENGTH..LENGTH + n]
+    let place = book[PLACE + k] as usize;
+    let end = place + book[LENGTH + k] as usize;
+    &d[place..end]
 }

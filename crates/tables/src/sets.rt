@@ -1,9 +1,9 @@
-// The sets of items: where the rows begin, and one row.
+// The sets of items: where the rows begin, one row, and the slot of a digest.
 use access_set::Bits;
 ghost use mathlib.Core.Path.{_≡_};
-ghost use Prim.Native.Nat.{_+_, _*_, _≤_};
+ghost use Prim.Native.Nat.{_+_, _*_, _≤_, _<_};
 ghost use lib.ListN.{length};
-ghost use Rattle.tables.specs.Sets.{rowOf};
+ghost use Rattle.tables.specs.Sets.{rowOf, slotOf};
 
 // Rows: 257 of the entries by their numbers, one of those that grant, 6 of the permissions, 6 by what they are about, 64 by types, 64 by slots.
 pub const GRANTS: usize = 257;
@@ -50,4 +50,12 @@ pub fn row(sets: &[u64], r: usize) -> Bits
         c: sets[at + 2],
         d: sets[at + 3],
     }
+}
+
+// The slot of a digest.
+pub fn slot(digest: u64) -> usize
+    requires { ⌜ digest < 4294967296 ⌝ }
+    ensures { λ r. ⌜ r ≡ slotOf digest ⌝ }
+{
+    ((digest + digest / 2048) % 64) as usize
 }

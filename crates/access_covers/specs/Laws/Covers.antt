@@ -15,7 +15,8 @@ use Rattle.rules.specs.Permission.{Item}
 use Rattle.rules.specs.Decision.{Setting}
 use Rattle.rules.specs.Laws.Decision.{concerns}
 use Rattle.rules.specs.Laws.First.{blank, itemAt}
-use Rattle.rules.specs.Laws.Reach.{reaches, reachOf, reach-concerns}
+use Rattle.rules.specs.Numbers.{reaches, reachOf}
+use Rattle.rules.specs.Laws.Reach.{reach-concerns}
 use Rattle.tables.specs.Sets.{inRow, Items, Covers, Rights}
 use Rattle.access_items.specs.Laws.Rows.{same-row}
 use Rattle.access_covers.specs.Row.{Inherits}

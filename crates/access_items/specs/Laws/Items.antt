@@ -6,30 +6,30 @@ use mathlib.Core.List.{List}
 use native.Mathlib.Omega.{arith}
 use lib.Dec.{eqb, ltb}
 use lib.ListN.{length, getD, set, take, drop, replicate, length-set, length-replicate}
-use lib.Seq.{getD-set-same, getD-set-other, drop-drop}
+use lib.Seq.{getD-set-same, getD-set-other}
 use borrow.Author.Tests.{eqb-true, eqb-false, lt-ltb, le-ltb, ltb-true, ltb-false}
 use Rattle.rules.specs.Sheet.{Bytes}
 use Rattle.rules.specs.Permission.{Item}
 use Rattle.rules.specs.Laws.First.{itemAt}
-use Rattle.value.specs.Digest.{digest, digest-bound}
-use Rattle.permissions.specs.Noted as Noted
-use Rattle.permissions.specs.Noted.{Row, DIGEST, TYPE, VALUE, LENGTH, RIGHTS}
+use Rattle.value_syntax.specs.Digest.{digest, digest-bound}
+use Rattle.directory_schema.specs.Schema.{Rising}
+use Rattle.permission_sheet.specs.Noted as Noted
+use Rattle.permission_sheet.specs.Noted.{Row, DIGEST, TYPE, VALUE, LENGTH, RIGHTS}
 use Rattle.tables.specs.Held.{typeAt}
 use Rattle.tables.specs.Sets.{inRow, slotOf, Items}
-use Rattle.access_items.specs.Types.{Ranks}
-use Rattle.access_items.specs.Note.{Small, valueNoted, aboutNoted, grantsNoted, itemNoted, itemsNoted}
+use Rattle.access_items.specs.Note.{Small, valueNoted, aboutNoted, typeNoted, grantsNoted, itemNoted, itemsNoted}
 use Rattle.access_items.specs.Sorted.{Sorted}
 use Rattle.access_items.specs.Laws.Rows.{same-row, clear-row, zeros, more-in}
 use Rattle.access_items.specs.Laws.Note.{Entered, belongs, entered-item, belongs-grants, belongs-permission, belongs-what, belongs-type, belongs-slot}
 
 -- ---- the numbers of a value
 
-module _ (rights : List ℕ) (at w j : ℕ) (small : j < 256) (t : List ℕ) (len : length t ≡ 2360) where
+module _ (rights : List ℕ) (at j : ℕ) (small : j < 256) (t : List ℕ) (len : length t ≡ 2360) where
   t₁ : List ℕ
   t₁ = set t (1592 + j) (getD rights (at + DIGEST) 0)
 
   t₂ : List ℕ
-  t₂ = set t₁ (1848 + j) (getD rights (at + VALUE) 0 + 5 * w)
+  t₂ = set t₁ (1848 + j) (getD rights (at + VALUE) 0)
 
   len₁ : length t₁ ≡ 2360
   unfolding t₁
@@ -37,33 +37,33 @@ module _ (rights : List ℕ) (at w j : ℕ) (small : j < 256) (t : List ℕ) (le
 
   len₂ : length t₂ ≡ 2360
   unfolding t₂
-  len₂ = length-set t₁ (1848 + j) (getD rights (at + VALUE) 0 + 5 * w) ∙ len₁
+  len₂ = length-set t₁ (1848 + j) (getD rights (at + VALUE) 0) ∙ len₁
 
-  value-length : length (valueNoted rights at w j t) ≡ 2360
+  value-length : length (valueNoted rights at j t) ≡ 2360
   unfolding valueNoted t₁ t₂
   value-length = length-set t₂ (2104 + j) (getD rights (at + LENGTH) 0) ∙ len₂
 
-  value-other : (i : ℕ) → (i ≡ 1592 + j → ⊥) → (i ≡ 1848 + j → ⊥) → (i ≡ 2104 + j → ⊥) → getD (valueNoted rights at w j t) i 0 ≡ getD t i 0
+  value-other : (i : ℕ) → (i ≡ 1592 + j → ⊥) → (i ≡ 1848 + j → ⊥) → (i ≡ 2104 + j → ⊥) → getD (valueNoted rights at j t) i 0 ≡ getD t i 0
   unfolding valueNoted t₁ t₂
   value-other i a b c =
       getD-set-other t₂ (2104 + j) i (getD rights (at + LENGTH) 0) 0 c
-      ∙ getD-set-other t₁ (1848 + j) i (getD rights (at + VALUE) 0 + 5 * w) 0 b
+      ∙ getD-set-other t₁ (1848 + j) i (getD rights (at + VALUE) 0) 0 b
       ∙ getD-set-other t (1592 + j) i (getD rights (at + DIGEST) 0) 0 a
 
-  value-digest : getD (valueNoted rights at w j t) (1592 + j) 0 ≡ getD rights (at + DIGEST) 0
+  value-digest : getD (valueNoted rights at j t) (1592 + j) 0 ≡ getD rights (at + DIGEST) 0
   unfolding valueNoted t₁ t₂
   value-digest =
       getD-set-other t₂ (2104 + j) (1592 + j) (getD rights (at + LENGTH) 0) 0 (λ e. omega arith)
-      ∙ getD-set-other t₁ (1848 + j) (1592 + j) (getD rights (at + VALUE) 0 + 5 * w) 0 (λ e. omega arith)
+      ∙ getD-set-other t₁ (1848 + j) (1592 + j) (getD rights (at + VALUE) 0) 0 (λ e. omega arith)
       ∙ getD-set-same t (1592 + j) (getD rights (at + DIGEST) 0) 0 (omega arith)
 
-  value-place : getD (valueNoted rights at w j t) (1848 + j) 0 ≡ getD rights (at + VALUE) 0 + 5 * w
+  value-place : getD (valueNoted rights at j t) (1848 + j) 0 ≡ getD rights (at + VALUE) 0
   unfolding valueNoted t₁ t₂
   value-place =
       getD-set-other t₂ (2104 + j) (1848 + j) (getD rights (at + LENGTH) 0) 0 (λ e. omega arith)
-      ∙ getD-set-same t₁ (1848 + j) (getD rights (at + VALUE) 0 + 5 * w) 0 (omega (arith, len₁))
+      ∙ getD-set-same t₁ (1848 + j) (getD rights (at + VALUE) 0) 0 (omega (arith, len₁))
 
-  value-size : getD (valueNoted rights at w j t) (2104 + j) 0 ≡ getD rights (at + LENGTH) 0
+  value-size : getD (valueNoted rights at j t) (2104 + j) 0 ≡ getD rights (at + LENGTH) 0
   unfolding valueNoted t₁ t₂
   value-size = getD-set-same t₂ (2104 + j) (getD rights (at + LENGTH) 0) 0 (omega (arith, len₂))
 
@@ -89,71 +89,67 @@ more-at s t c p x here there h i l = go (eqb i p) refl (ltb i p) refl
 
 -- ---- the items at the places below `n`
 
--- where the row of the item at a place begins, and one more than the rank of its type
+-- where the row of the item at a place begins
 abbrev rowStart : List ℕ → ℕ → ℕ
 rowStart order j = getD order j 0 * RIGHTS
 
-abbrev typeRank : List ℕ → List ℕ → List ℕ → ℕ → ℕ
-typeRank rights ranks order j = getD ranks (getD rights (rowStart order j + TYPE) 0) 0
-
-module _ (rights : List ℕ) (w : ℕ) (ranks order : List ℕ) where
+module _ (rights schema order : List ℕ) where
   pub record Filled (n : ℕ) (t : List ℕ) : Type 0 where
     pub size : length t ≡ 2360
     pub front : (i : ℕ) → i < 1028 → getD t i 0 ≡ 0
-    pub rows : (f j : ℕ) → f < 398 → inRow t f j ≡ (ltb j n && belongs rights (rowStart order j) (typeRank rights ranks order j) f)
+    pub rows : (f j : ℕ) → f < 398 → inRow t f j ≡ (ltb j n && belongs rights (rowStart order j) schema f)
     pub digests : (j : ℕ) → j < 256 → getD t (1592 + j) 0 ≡ cond (ltb j n) (getD rights (rowStart order j + DIGEST) 0) 0
-    pub places : (j : ℕ) → j < 256 → getD t (1848 + j) 0 ≡ cond (ltb j n) (getD rights (rowStart order j + VALUE) 0 + 5 * w) 0
+    pub places : (j : ℕ) → j < 256 → getD t (1848 + j) 0 ≡ cond (ltb j n) (getD rights (rowStart order j + VALUE) 0) 0
     pub sizes : (j : ℕ) → j < 256 → getD t (2104 + j) 0 ≡ cond (ltb j n) (getD rights (rowStart order j + LENGTH) 0) 0
 
   filled-none : Filled 0 (replicate 2360 0)
   filled-none = record {
     size = length-replicate {A = ℕ} 2360 0;
     front = λ i l. zeros 2360 i;
-    rows = λ f j l. clear-row (replicate 2360 0) f (λ i a b. zeros 2360 i) j ∙ ap (λ (b : Bool). b && belongs rights (rowStart order j) (typeRank rights ranks order j) f) (sym (le-ltb j 0 (omega arith)));
+    rows = λ f j l. clear-row (replicate 2360 0) f (λ i a b. zeros 2360 i) j ∙ ap (λ (b : Bool). b && belongs rights (rowStart order j) schema f) (sym (le-ltb j 0 (omega arith)));
     digests = λ j l. zeros 2360 (1592 + j) ∙ ap (λ (b : Bool). cond b (getD rights (rowStart order j + DIGEST) 0) 0) (sym (le-ltb j 0 (omega arith)));
-    places = λ j l. zeros 2360 (1848 + j) ∙ ap (λ (b : Bool). cond b (getD rights (rowStart order j + VALUE) 0 + 5 * w) 0) (sym (le-ltb j 0 (omega arith)));
+    places = λ j l. zeros 2360 (1848 + j) ∙ ap (λ (b : Bool). cond b (getD rights (rowStart order j + VALUE) 0) 0) (sym (le-ltb j 0 (omega arith)));
     sizes = λ j l. zeros 2360 (2104 + j) ∙ ap (λ (b : Bool). cond b (getD rights (rowStart order j + LENGTH) 0) 0) (sym (le-ltb j 0 (omega arith)));
   }
 
-  filled-more : (n : ℕ) (t : List ℕ) → n < 256 → Small rights (rowStart order n) → typeRank rights ranks order n ≤ 64 → Filled n t → Filled (suc n) (itemNoted rights (rowStart order n) w ranks n t)
+  filled-more : (n : ℕ) (t : List ℕ) → n < 256 → Small rights (rowStart order n) → Rising 0 schema → length schema ≤ 64 → Filled n t → Filled (suc n) (itemNoted rights (rowStart order n) schema n t)
   unfolding itemNoted
-  filled-more n t l small low h = record {
-    size = value-length rights (rowStart order n) w n l u len;
+  filled-more n t l small rising few h = record {
+    size = value-length rights (rowStart order n) n l u len;
     front = λ i b. other i (λ e. omega arith) (λ e. omega arith) (λ e. omega arith) ∙ E .front i b ∙ h .front i b;
     rows = λ f j b.
         same-row v u f (λ i a c. other i (λ e. omega arith) (λ e. omega arith) (λ e. omega arith)) j
         ∙ E .rows f j
-        ∙ ap (λ (m : Bool). (eqb j n && belongs rights (rowStart order n) (typeRank rights ranks order n) f) || m) (h .rows f j b)
-        ∙ more-in j n (λ i. belongs rights (rowStart order i) (typeRank rights ranks order i) f);
-    digests = more-at t v 1592 n (λ i. getD rights (rowStart order i + DIGEST) 0) (value-digest rights (rowStart order n) w n l u len)
+        ∙ ap (λ (m : Bool). (eqb j n && belongs rights (rowStart order n) schema f) || m) (h .rows f j b)
+        ∙ more-in j n (λ i. belongs rights (rowStart order i) schema f);
+    digests = more-at t v 1592 n (λ i. getD rights (rowStart order i + DIGEST) 0) (value-digest rights (rowStart order n) n l u len)
         (λ i b d. other (1592 + i) (λ e. d (omega arith)) (λ e. omega arith) (λ e. omega arith) ∙ E .after (1592 + i) (omega arith)) (h .digests);
-    places = more-at t v 1848 n (λ i. getD rights (rowStart order i + VALUE) 0 + 5 * w) (value-place rights (rowStart order n) w n l u len)
+    places = more-at t v 1848 n (λ i. getD rights (rowStart order i + VALUE) 0) (value-place rights (rowStart order n) n l u len)
         (λ i b d. other (1848 + i) (λ e. omega arith) (λ e. d (omega arith)) (λ e. omega arith) ∙ E .after (1848 + i) (omega arith)) (h .places);
-    sizes = more-at t v 2104 n (λ i. getD rights (rowStart order i + LENGTH) 0) (value-size rights (rowStart order n) w n l u len)
+    sizes = more-at t v 2104 n (λ i. getD rights (rowStart order i + LENGTH) 0) (value-size rights (rowStart order n) n l u len)
         (λ i b d. other (2104 + i) (λ e. omega arith) (λ e. omega arith) (λ e. d (omega arith)) ∙ E .after (2104 + i) (omega arith)) (h .sizes);
   }
     where
       u : List ℕ
-      u = aboutNoted rights (rowStart order n) (typeRank rights ranks order n) n (grantsNoted rights (rowStart order n) n t)
+      u = typeNoted schema (getD rights (rowStart order n + TYPE) 0) n (aboutNoted rights (rowStart order n) n (grantsNoted rights (rowStart order n) n t))
 
       v : List ℕ
-      v = valueNoted rights (rowStart order n) w n u
+      v = valueNoted rights (rowStart order n) n u
 
-      E : Entered n (belongs rights (rowStart order n) (typeRank rights ranks order n)) t u
-      E = entered-item rights (rowStart order n) (typeRank rights ranks order n) small low n t (h .size) l
+      E : Entered n (belongs rights (rowStart order n) schema) t u
+      E = entered-item rights (rowStart order n) schema small rising few n t (h .size) l
 
       len : length u ≡ 2360
       len = E .size ∙ h .size
 
       other : (i : ℕ) → (i ≡ 1592 + n → ⊥) → (i ≡ 1848 + n → ⊥) → (i ≡ 2104 + n → ⊥) → getD v i 0 ≡ getD u i 0
-      other = value-other rights (rowStart order n) w n l u len
+      other = value-other rights (rowStart order n) n l u len
 
-  module _ (small : (j : ℕ) → j < length order → Small rights (rowStart order j)) (low : (t : ℕ) → getD ranks t 0 ≤ 64) (few : length order ≤ 256) where
-    pub filled-all : (n : ℕ) → n ≤ length order → Filled n (itemsNoted rights w ranks order n (replicate 2360 0))
+  module _ (small : (j : ℕ) → j < length order → Small rights (rowStart order j)) (rising : Rising 0 schema) (few : length schema ≤ 64) (room : length order ≤ 256) where
+    pub filled-all : (n : ℕ) → n ≤ length order → Filled n (itemsNoted rights schema order n (replicate 2360 0))
     unfolding itemsNoted
     filled-all zero l = filled-none
-    filled-all (suc n) l =
-        filled-more n (itemsNoted rights w ranks order n (replicate 2360 0)) (omega arith) (small n l) (low (getD rights (rowStart order n + TYPE) 0)) (filled-all n (omega arith))
+    filled-all (suc n) l = filled-more n (itemsNoted rights schema order n (replicate 2360 0)) (omega arith) (small n l) rising few (filled-all n (omega arith))
 
 -- ---- the items
 
@@ -171,27 +167,22 @@ module _ (w : ℕ) (p : Bytes) (is : List Item) (rights scopes order : List ℕ)
         digest = subst (λ (m : ℕ). m < 4294967296) (sym (R .digest)) (digest-bound 0 (itemAt is order j .value));
         grants = subst (λ (m : ℕ). m < 2) (sym (R .grants)) (bit-small (itemAt is order j .grants));
         what = omega (arith, R .what, R .bounded .what);
-        type = omega (arith, R .type, R .bounded .type);
-        value = omega (arith, R .value-within, S .small);
       }
     where
       bit-small : (b : Bool) → Noted.bit b < 2
       bit-small true = omega arith
       bit-small false = omega arith
 
-  module _ (schema : List ℕ) (ranks : List ℕ) (few : length schema ≤ 64) (K : Ranks schema (length schema) ranks) (t : List ℕ) (F : Filled rights w ranks order (length order) t) where
+  module _ (schema : List ℕ) (rising : Rising 0 schema) (few : length schema ≤ 64) (t : List ℕ) (F : Filled rights schema order (length order) t) where
     below : (j : ℕ) → j < length is → ltb j (length order) ≡ true
     below j l = lt-ltb j (length order) (subst (λ (m : ℕ). j < m) (sym (S .count)) l)
 
     small : (j : ℕ) → j < length is → Small rights (rowStart order j)
     small j l = small-row j (subst (λ (m : ℕ). j < m) (sym (S .count)) l)
 
-    low : (j : ℕ) → typeRank rights ranks order j ≤ 64
-    low j = omega (arith, K .most (getD rights (rowStart order j + TYPE) 0))
-
     -- a member of a row
-    in-row′ : (f j : ℕ) → f < 398 → j < length is → inRow t f j ≡ belongs rights (rowStart order j) (typeRank rights ranks order j) f
-    in-row′ f j h l = F .rows f j h ∙ ap (λ (b : Bool). b && belongs rights (rowStart order j) (typeRank rights ranks order j) f) (below j l)
+    in-row′ : (f j : ℕ) → f < 398 → j < length is → inRow t f j ≡ belongs rights (rowStart order j) schema f
+    in-row′ f j h l = F .rows f j h ∙ ap (λ (b : Bool). b && belongs rights (rowStart order j) schema f) (below j l)
 
     -- a number of a column
     in-column : (c : ℕ) (x : ℕ → ℕ) → ((j : ℕ) → j < 256 → getD t (c + j) 0 ≡ cond (ltb j (length order)) (x j) 0) → (j : ℕ) → j < length is → getD t (c + j) 0 ≡ x j
@@ -202,24 +193,22 @@ module _ (w : ℕ) (p : Bytes) (is : List Item) (rights scopes order : List ℕ)
       ranked = S .ranked;
       few = S .table .few;
       grants = λ j l.
-          in-row′ 257 j (omega arith) l ∙ belongs-grants rights _ _ (small j l) (low j)
+          in-row′ 257 j (omega arith) l ∙ belongs-grants rights _ _ (small j l) rising few
           ∙ ap (λ (m : ℕ). eqb m 1) (row-of j l .grants) ∙ one (itemAt is order j .grants);
       permission = λ b j h l.
-          in-row′ (258 + b) j (omega arith) l ∙ belongs-permission rights _ _ (small j l) (low j) b h
+          in-row′ (258 + b) j (omega arith) l ∙ belongs-permission rights _ _ (small j l) rising few b h
           ∙ ap (λ (m : ℕ). eqb (m / 2 ^ b % 2) 1) (row-of j l .permissions);
       what = λ x j h l.
-          in-row′ (264 + x) j (omega arith) l ∙ belongs-what rights _ _ (small j l) (low j) x h ∙ ap (λ (m : ℕ). eqb m x) (row-of j l .what);
+          in-row′ (264 + x) j (omega arith) l ∙ belongs-what rights _ _ (small j l) rising few x h ∙ ap (λ (m : ℕ). eqb m x) (row-of j l .what);
       type = λ r j h l.
-          in-row′ (270 + r) j (omega arith) l ∙ belongs-type rights _ _ (small j l) (low j) r (omega arith)
-          ∙ K .rank (getD rights (rowStart order j + TYPE) 0) r (small j l .type) h
+          in-row′ (270 + r) j (omega arith) l ∙ belongs-type rights _ _ (small j l) rising few r h
           ∙ ap (λ (m : ℕ). eqb m (typeAt schema r)) (row-of j l .type);
       slot = λ s j h l.
-          in-row′ (334 + s) j (omega arith) l ∙ belongs-slot rights _ _ (small j l) (low j) s h ∙ ap (λ (m : ℕ). eqb (slotOf m) s) (row-of j l .digest);
+          in-row′ (334 + s) j (omega arith) l ∙ belongs-slot rights _ _ (small j l) rising few s h ∙ ap (λ (m : ℕ). eqb (slotOf m) s) (row-of j l .digest);
       digests = λ j l. in-column 1592 (λ i. getD rights (rowStart order i + DIGEST) 0) (F .digests) j l ∙ row-of j l .digest;
       value = λ j l.
           ap₂ (λ (m n : ℕ). take m (drop n p)) (in-column 2104 (λ i. getD rights (rowStart order i + LENGTH) 0) (F .sizes) j l)
-          (in-column 1848 (λ i. getD rights (rowStart order i + VALUE) 0 + 5 * w) (F .places) j l)
-          ∙ ap (take (getD rights (rowStart order j + LENGTH) 0)) (sym (drop-drop (5 * w) (getD rights (rowStart order j + VALUE) 0) p))
+          (in-column 1848 (λ i. getD rights (rowStart order i + VALUE) 0) (F .places) j l)
           ∙ row-of j l .value;
       within = λ j l. fits j l (ltb j (length order)) refl;
     }
@@ -235,18 +224,18 @@ module _ (w : ℕ) (p : Bytes) (is : List Item) (rights scopes order : List ℕ)
               arith,
               row-of j b .value-within,
               in-column 2104 (λ i. getD rights (rowStart order i + LENGTH) 0) (F .sizes) j b,
-              in-column 1848 (λ i. getD rights (rowStart order i + VALUE) 0 + 5 * w) (F .places) j b,
+              in-column 1848 (λ i. getD rights (rowStart order i + VALUE) 0) (F .places) j b,
             )
         fits j l false e =
-            let a : getD t (1848 + j) 0 ≡ 0 = F .places j l ∙ ap (λ (b : Bool). cond b (getD rights (rowStart order j + VALUE) 0 + 5 * w) 0) e in
+            let a : getD t (1848 + j) 0 ≡ 0 = F .places j l ∙ ap (λ (b : Bool). cond b (getD rights (rowStart order j + VALUE) 0) 0) e in
             let b : getD t (2104 + j) 0 ≡ 0 = F .sizes j l ∙ ap (λ (b : Bool). cond b (getD rights (rowStart order j + LENGTH) 0) 0) e in
             omega arith
 
   -- after the loop over all items
-  module _ (schema : List ℕ) (ranks : List ℕ) (few : length schema ≤ 64) (K : Ranks schema (length schema) ranks) where
-    pub all-filled : (start : List ℕ) → start ≡ replicate 2360 0 → (t : List ℕ) (n : ℕ) → n ≤ length order → length order ≤ n → t ≡ itemsNoted rights w ranks order n start
-        → Filled rights w ranks order (length order) t
+  module _ (schema : List ℕ) (rising : Rising 0 schema) (few : length schema ≤ 64) where
+    pub all-filled : (start : List ℕ) → start ≡ replicate 2360 0 → (t : List ℕ) (n : ℕ) → n ≤ length order → length order ≤ n → t ≡ itemsNoted rights schema order n start
+        → Filled rights schema order (length order) t
     all-filled start clear t n l h e =
         let z : n ≡ length order = omega arith in
-        let F = filled-all rights w ranks order (λ j b. small-row j b) (λ c. omega (arith, K .most c)) (omega (arith, S .count, S .table .few)) (length order) (omega arith) in
-        subst (Filled rights w ranks order (length order)) (sym (e ∙ ap₂ (λ (m : ℕ) (s : List ℕ). itemsNoted rights w ranks order m s) z clear)) F
+        let F = filled-all rights schema order (λ j b. small-row j b) rising few (omega (arith, S .count, S .table .few)) (length order) (omega arith) in
+        subst (Filled rights schema order (length order)) (sym (e ∙ ap₂ (λ (m : ℕ) (s : List ℕ). itemsNoted rights schema order m s) z clear)) F

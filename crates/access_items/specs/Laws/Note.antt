@@ -2,16 +2,21 @@
 use Prim.Native.Nat.{ℕ, zero, suc, _+_, _/_, _%_, _^_, _≤_, _<_}
 use mathlib.Core.Path.{_≡_, refl, sym, ap, _∙_}
 use mathlib.Core.Bool.{Bool, true, false, _&&_, _||_, cond}
-use mathlib.Core.List.{List}
-use native.Mathlib.Nat.{not-suc-le-zero}
+use mathlib.Core.List.{List, [], _∷_}
+use native.Mathlib.Nat.{le-of-suc-le-suc, not-suc-le-zero}
 use native.Mathlib.Omega.{arith}
-use lib.Dec.{eqb}
+use lib.Dec.{eqb, ltb}
 use lib.ListN.{length, getD}
-use borrow.Author.Tests.{eq-eqb, ne-eqb, eqb-true, eqb-false}
-use Rattle.permissions.specs.Noted.{DIGEST, GRANTS, WHAT, PERMISSIONS}
+use borrow.Author.Tests.{eq-eqb, ne-eqb, eqb-true, eqb-false, lt-ltb, le-ltb, ltb-true, ltb-false}
+use Rattle.name.specs.Schema.{rankIn}
+use Rattle.name.specs.Laws.Schema.{rank-type}
+use Rattle.directory_schema.specs.Schema.{Rising}
+use Rattle.permission_sheet.specs.Noted.{DIGEST, GRANTS, WHAT, TYPE, PERMISSIONS}
+use Rattle.tables.specs.Held.{typeAt}
 use Rattle.tables.specs.Sets.{inRow, slotOf}
+use Rattle.tables.specs.Laws.Sets.{slot-small}
 use Rattle.access_items.specs.Mark.{marked}
-use Rattle.access_items.specs.Note.{Small, present, permitted, grantsNoted, aboutNoted}
+use Rattle.access_items.specs.Note.{Small, permitted, grantsNoted, aboutNoted, typeNoted}
 use Rattle.access_items.specs.Laws.Mark.{marked-length, marked-other, marked-in}
 
 -- ---- rows that the item at place `j` enters
@@ -97,28 +102,91 @@ permits-at (suc n) mask b h = go (eqb b n) refl (λ l. permits-at n mask b l)
         let d : b ≡ n → ⊥ = eqb-false b n e in
         rw (ne-eqb (258 + b) (258 + n) (λ z. d (omega arith))) (ih (omega (arith, d)))
 
+-- ---- the type
+
+rising-above : (n : ℕ) (ks : List ℕ) → Rising n ks → (j : ℕ) → j < length ks → n < typeAt ks j
+rising-above n [] h j l = absurd (not-suc-le-zero l)
+rising-above n (k ∷ ks) h zero l = h .0
+rising-above n (k ∷ ks) h (suc j) l = omega (arith, h .0, rising-above (k / 4) ks (h .1) j (le-of-suc-le-suc l))
+
+rank-of : (n : ℕ) (ks : List ℕ) → Rising n ks → (a r : ℕ) → r < length ks → a ≡ typeAt ks r → rankIn ks a ≡ r
+unfolding rankIn
+rank-of n [] h a r l e = absurd (not-suc-le-zero l)
+rank-of n (k ∷ ks) h a zero l e = rw (eq-eqb (k / 4) a (sym e))
+rank-of n (k ∷ ks) h a (suc r) l e =
+    rw (ne-eqb (k / 4) a (λ z. omega (arith, e, z, rising-above (k / 4) ks (h .1) r (le-of-suc-le-suc l))))
+    (ap suc (rank-of (k / 4) ks (h .1) a r (le-of-suc-le-suc l) e))
+
+-- no type has the number 0
+rank-none : (n : ℕ) (ks : List ℕ) → Rising n ks → rankIn ks 0 ≡ length ks
+unfolding rankIn
+rank-none n [] h = refl
+rank-none n (k ∷ ks) h = rw (ne-eqb (k / 4) 0 (λ z. omega (arith, z, h .0))) (ap suc (rank-none (k / 4) ks (h .1)))
+
+module _ (schema : List ℕ) (a : ℕ) where
+  -- does row `f` stand for the type?
+  unfoldable pub typeRow : ℕ → Bool
+  typeRow f = ltb (rankIn schema a) (length schema) && (eqb f (270 + rankIn schema a) && eqb 1 1)
+
+  module _ (j : ℕ) (t : List ℕ) where
+    pub type-known : rankIn schema a < length schema → typeNoted schema a j t ≡ marked t (270 + rankIn schema a) j 1
+    unfolding typeNoted
+    type-known h = rw (lt-ltb (rankIn schema a) (length schema) h)
+
+    pub type-unknown : length schema ≤ rankIn schema a → typeNoted schema a j t ≡ t
+    unfolding typeNoted
+    type-unknown h = rw (le-ltb (rankIn schema a) (length schema) h)
+
+    pub type-none : Rising 0 schema → a ≡ 0 → typeNoted schema a j t ≡ t
+    type-none h e = type-unknown (omega (arith, rank-none 0 schema h, ap (rankIn schema) e))
+
+    entered-type : length schema ≤ 64 → length t ≡ 2360 → j < 256 → Entered j typeRow t (typeNoted schema a j t)
+    unfolding typeRow typeNoted
+    entered-type few len small = go (ltb (rankIn schema a) (length schema)) refl
+      where
+        go : (b : Bool) → ltb (rankIn schema a) (length schema) ≡ b
+            → Entered j (λ f. b && (eqb f (270 + rankIn schema a) && eqb 1 1)) t (cond b (marked t (270 + rankIn schema a) j 1) t)
+        go true e =
+            let l : rankIn schema a < length schema = ltb-true (rankIn schema a) (length schema) e in
+            entered-row t (270 + rankIn schema a) j 1 len (omega arith) (omega arith) small (omega arith)
+        go false e = entered-none j t
+
+  -- no row but those of the types
+  type-row-other : (f : ℕ) → ((r : ℕ) → r < length schema → f ≡ 270 + r → ⊥) → typeRow f ≡ false
+  unfolding typeRow
+  type-row-other f h = go (ltb (rankIn schema a) (length schema)) refl
+    where
+      go : (b : Bool) → ltb (rankIn schema a) (length schema) ≡ b → (b && (eqb f (270 + rankIn schema a) && eqb 1 1)) ≡ false
+      go true e = rw (ne-eqb f (270 + rankIn schema a) (h (rankIn schema a) (ltb-true (rankIn schema a) (length schema) e)))
+      go false e = refl
+
+  type-row-at : Rising 0 schema → (r : ℕ) → r < length schema → typeRow (270 + r) ≡ eqb a (typeAt schema r)
+  unfolding typeRow
+  type-row-at rising r l = go (ltb (rankIn schema a) (length schema)) refl (eqb a (typeAt schema r)) refl
+    where
+      rank : eqb a (typeAt schema r) ≡ true → rankIn schema a ≡ r
+      rank q = rank-of 0 schema rising a r l (eqb-true a (typeAt schema r) q)
+
+      go : (b : Bool) → ltb (rankIn schema a) (length schema) ≡ b → (c : Bool) → eqb a (typeAt schema r) ≡ c
+          → (b && (eqb (270 + r) (270 + rankIn schema a) && eqb 1 1)) ≡ c
+      go true e true q = rw (eq-eqb (270 + r) (270 + rankIn schema a) (omega (arith, rank q)))
+      go true e false q =
+          let d : a ≡ typeAt schema r → ⊥ = eqb-false a (typeAt schema r) q in
+          let s : typeAt schema (rankIn schema a) ≡ a = rank-type schema a (ltb-true (rankIn schema a) (length schema) e) in
+          rw (ne-eqb (270 + r) (270 + rankIn schema a) (λ z. let y : rankIn schema a ≡ r = omega arith in d (sym s ∙ ap (typeAt schema) y)))
+      go false e true q = absurd (omega (arith, rank q, ltb-false (rankIn schema a) (length schema) e))
+      go false e false q = refl
+
 -- ---- the rows of one item
 
-pub slot-small : (d : ℕ) → slotOf d < 64
-unfolding slotOf
-slot-small d = omega arith
-
-pub present-small : (n : ℕ) → present n < 2
-unfolding present
-present-small n = go (eqb n 0)
-  where
-    go : (b : Bool) → cond b 0 1 < 2
-    go true = omega arith
-    go false = omega arith
-
-module _ (rights : List ℕ) (at rank : ℕ) where
+module _ (rights : List ℕ) (at : ℕ) (schema : List ℕ) where
   -- does the item enter row `f`?
   unfoldable pub belongs : ℕ → Bool
-  belongs f = ((eqb f (334 + slotOf (getD rights (at + DIGEST) 0)) && eqb 1 1)
-      || ((eqb f (269 + rank) && eqb (present rank) 1) || (eqb f (264 + getD rights (at + WHAT) 0) && eqb 1 1)))
-      || (permits 6 (getD rights (at + PERMISSIONS) 0) f || (eqb f 257 && eqb (getD rights (at + GRANTS) 0) 1))
+  belongs f = typeRow schema (getD rights (at + TYPE) 0) f
+      || (((eqb f (334 + slotOf (getD rights (at + DIGEST) 0)) && eqb 1 1) || (eqb f (264 + getD rights (at + WHAT) 0) && eqb 1 1))
+      || (permits 6 (getD rights (at + PERMISSIONS) 0) f || (eqb f 257 && eqb (getD rights (at + GRANTS) 0) 1)))
 
-  module _ (small : Small rights at) (low : rank ≤ 64) where
+  module _ (small : Small rights at) (rising : Rising 0 schema) (few : length schema ≤ 64) where
     entered-grants : (j : ℕ) (t : List ℕ) → length t ≡ 2360 → j < 256
         → Entered j (λ f. permits 6 (getD rights (at + PERMISSIONS) 0) f || (eqb f 257 && eqb (getD rights (at + GRANTS) 0) 1)) t (grantsNoted rights at j t)
     unfolding grantsNoted
@@ -129,48 +197,35 @@ module _ (rights : List ℕ) (at rank : ℕ) where
         (entered-permissions 6 (getD rights (at + PERMISSIONS) 0) j t₁ (omega arith) (g .size ∙ len) h)
 
     entered-about : (j : ℕ) (t : List ℕ) → length t ≡ 2360 → j < 256
-        → Entered j (λ f. (eqb f (334 + slotOf (getD rights (at + DIGEST) 0)) && eqb 1 1)
-        || ((eqb f (269 + rank) && eqb (present rank) 1) || (eqb f (264 + getD rights (at + WHAT) 0) && eqb 1 1))) t (aboutNoted rights at rank j t)
+        → Entered j (λ f. (eqb f (334 + slotOf (getD rights (at + DIGEST) 0)) && eqb 1 1) || (eqb f (264 + getD rights (at + WHAT) 0) && eqb 1 1)) t
+        (aboutNoted rights at j t)
     unfolding aboutNoted
     entered-about j t len h =
         let t₁ = marked t (264 + getD rights (at + WHAT) 0) j 1 in
-        let t₂ = marked t₁ (269 + rank) j (present rank) in
         let slot = slotOf (getD rights (at + DIGEST) 0) in
         let a = entered-row t (264 + getD rights (at + WHAT) 0) j 1 len (omega arith) (omega (arith, small .what)) h (omega arith) in
-        let b = entered-row t₁ (269 + rank) j (present rank) (a .size ∙ len) (omega arith) (omega (arith, low)) h (present-small rank) in
-        let c = entered-row t₂ (334 + slot) j 1 (b .size ∙ a .size ∙ len) (omega arith) (omega (arith, slot-small (getD rights (at + DIGEST) 0))) h (omega arith) in
-        entered-then j (λ f. eqb f (334 + slot) && eqb 1 1) (λ f. (eqb f (269 + rank) && eqb (present rank) 1) || (eqb f (264 + getD rights (at + WHAT) 0) && eqb 1 1)) t t₂
-        (marked t₂ (334 + slot) j 1)
-        (entered-then j (λ f. eqb f (269 + rank) && eqb (present rank) 1) (λ f. eqb f (264 + getD rights (at + WHAT) 0) && eqb 1 1) t t₁ t₂ a b) c
+        let b = entered-row t₁ (334 + slot) j 1 (a .size ∙ len) (omega arith) (omega (arith, slot-small (getD rights (at + DIGEST) 0))) h (omega arith) in
+        entered-then j (λ f. eqb f (334 + slot) && eqb 1 1) (λ f. eqb f (264 + getD rights (at + WHAT) 0) && eqb 1 1) t t₁ (marked t₁ (334 + slot) j 1) a b
 
-    pub entered-item : (j : ℕ) (t : List ℕ) → length t ≡ 2360 → j < 256 → Entered j belongs t (aboutNoted rights at rank j (grantsNoted rights at j t))
+    pub entered-item : (j : ℕ) (t : List ℕ) → length t ≡ 2360 → j < 256
+        → Entered j belongs t (typeNoted schema (getD rights (at + TYPE) 0) j (aboutNoted rights at j (grantsNoted rights at j t)))
     unfolding belongs
     entered-item j t len h =
+        let t₁ = grantsNoted rights at j t in
+        let t₂ = aboutNoted rights at j t₁ in
         let g = entered-grants j t len h in
-        entered-then j _ _ t (grantsNoted rights at j t) (aboutNoted rights at rank j (grantsNoted rights at j t)) g (entered-about j (grantsNoted rights at j t) (g .size ∙ len) h)
+        let b = entered-then j _ _ t t₁ t₂ g (entered-about j t₁ (g .size ∙ len) h) in
+        entered-then j _ _ t t₂ (typeNoted schema (getD rights (at + TYPE) 0) j t₂) b (entered-type schema (getD rights (at + TYPE) 0) j t₂ few (b .size ∙ len) h)
 
     none : (x : Bool) → (x || false) ≡ x
     none true = refl
     none false = refl
 
-    -- a row of the kinds is none of the types'
-    no-type : (f : ℕ) → f < 270 → (eqb f (269 + rank) && eqb (present rank) 1) ≡ false
-    unfolding present
-    no-type f h = go (eqb rank 0) refl
-      where
-        dead : (x : Bool) → (x && false) ≡ false
-        dead true = refl
-        dead false = refl
-
-        go : (b : Bool) → eqb rank 0 ≡ b → (eqb f (269 + rank) && eqb (cond b 0 1) 1) ≡ false
-        go true e = dead (eqb f (269 + rank))
-        go false e = let d : rank ≡ 0 → ⊥ = eqb-false rank 0 e in rw (ne-eqb f (269 + rank) (λ z. d (omega arith)))
-
     pub belongs-grants : belongs 257 ≡ eqb (getD rights (at + GRANTS) 0) 1
     unfolding belongs
     belongs-grants = rw (
       ne-eqb 257 (334 + slotOf (getD rights (at + DIGEST) 0)) (λ e. omega arith),
-      no-type 257 (omega arith),
+      type-row-other schema (getD rights (at + TYPE) 0) 257 (λ r l e. omega arith),
       ne-eqb 257 (264 + getD rights (at + WHAT) 0) (λ e. omega arith),
       permits-below 6 (getD rights (at + PERMISSIONS) 0) 257 (omega arith),
     )
@@ -179,7 +234,7 @@ module _ (rights : List ℕ) (at rank : ℕ) where
     unfolding belongs
     belongs-permission b h = rw (
       ne-eqb (258 + b) (334 + slotOf (getD rights (at + DIGEST) 0)) (λ e. omega arith),
-      no-type (258 + b) (omega arith),
+      type-row-other schema (getD rights (at + TYPE) 0) (258 + b) (λ r l e. omega arith),
       ne-eqb (258 + b) (264 + getD rights (at + WHAT) 0) (λ e. omega arith),
       permits-at 6 (getD rights (at + PERMISSIONS) 0) b h,
       ne-eqb (258 + b) 257 (λ e. omega arith),
@@ -189,7 +244,7 @@ module _ (rights : List ℕ) (at rank : ℕ) where
     unfolding belongs
     belongs-what x h = rw (
       ne-eqb (264 + x) (334 + slotOf (getD rights (at + DIGEST) 0)) (λ e. omega arith),
-      no-type (264 + x) (omega arith),
+      type-row-other schema (getD rights (at + TYPE) 0) (264 + x) (λ r l e. omega arith),
       permits-above 6 (getD rights (at + PERMISSIONS) 0) (264 + x) (omega arith),
       ne-eqb (264 + x) 257 (λ e. omega arith),
     ) (go (eqb (getD rights (at + WHAT) 0) x) refl)
@@ -200,27 +255,19 @@ module _ (rights : List ℕ) (at rank : ℕ) where
             let d : getD rights (at + WHAT) 0 ≡ x → ⊥ = eqb-false (getD rights (at + WHAT) 0) x e in
             rw (ne-eqb (264 + x) (264 + getD rights (at + WHAT) 0) (λ z. d (omega arith)))
 
-    pub belongs-type : (r : ℕ) → r < 64 → belongs (270 + r) ≡ eqb rank (suc r)
-    unfolding belongs present
+    pub belongs-type : (r : ℕ) → r < length schema → belongs (270 + r) ≡ eqb (getD rights (at + TYPE) 0) (typeAt schema r)
+    unfolding belongs
     belongs-type r h = rw (
       ne-eqb (270 + r) (334 + slotOf (getD rights (at + DIGEST) 0)) (λ e. omega arith),
       ne-eqb (270 + r) (264 + getD rights (at + WHAT) 0) (λ e. omega (arith, small .what)),
       permits-above 6 (getD rights (at + PERMISSIONS) 0) (270 + r) (omega arith),
       ne-eqb (270 + r) 257 (λ e. omega arith),
-    ) (go (eqb rank (suc r)) refl)
-      where
-        go : (b : Bool) → eqb rank (suc r) ≡ b → (((eqb (270 + r) (269 + rank) && eqb (cond (eqb rank 0) 0 1) 1) || false) || false) ≡ b
-        go true e =
-            let q : rank ≡ suc r = eqb-true rank (suc r) e in
-            rw (eq-eqb (270 + r) (269 + rank) (omega arith), ne-eqb rank 0 (λ z. omega arith))
-        go false e =
-            let d : rank ≡ suc r → ⊥ = eqb-false rank (suc r) e in
-            rw (ne-eqb (270 + r) (269 + rank) (λ z. d (omega arith)))
+    ) (none (typeRow schema (getD rights (at + TYPE) 0) (270 + r)) ∙ type-row-at schema (getD rights (at + TYPE) 0) rising r h)
 
     pub belongs-slot : (s : ℕ) → s < 64 → belongs (334 + s) ≡ eqb (slotOf (getD rights (at + DIGEST) 0)) s
     unfolding belongs
     belongs-slot s h = rw (
-      ne-eqb (334 + s) (269 + rank) (λ e. omega (arith, low)),
+      type-row-other schema (getD rights (at + TYPE) 0) (334 + s) (λ r l e. omega arith),
       ne-eqb (334 + s) (264 + getD rights (at + WHAT) 0) (λ e. omega (arith, small .what)),
       permits-above 6 (getD rights (at + PERMISSIONS) 0) (334 + s) (omega arith),
       ne-eqb (334 + s) 257 (λ e. omega arith),

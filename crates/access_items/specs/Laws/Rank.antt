@@ -12,8 +12,8 @@ use Rattle.rules.specs.Sheet.{Bytes}
 use Rattle.rules.specs.Permission.{Item}
 use Rattle.rules.specs.Laws.Decision.{weight}
 use Rattle.rules.specs.Laws.First.{score, blank, itemAt, Ranked}
-use Rattle.permissions.specs.Noted as Noted
-use Rattle.permissions.specs.Noted.{Table}
+use Rattle.permission_sheet.specs.Noted as Noted
+use Rattle.permission_sheet.specs.Noted.{Table}
 use Rattle.access_order.specs.Order.{keyAt, Order}
 
 -- one key more

@@ -6,20 +6,21 @@ use lib.Dec.{ltb}
 use lib.ListN.{length}
 use borrow.Author.Tests.{ltb-false}
 use Rattle.rules.specs.Sheet.{Bytes, lines}
+use Rattle.rules.specs.declared.Format.{Format}
 use Rattle.rules.specs.Judge.{accept}
 use Rattle.rules.specs.Name.{Schema}
 use Rattle.rules.specs.Permission.{Item, items, permissionsOf}
 use Rattle.rules.specs.Laws.Judge.{not-refused}
 use Rattle.rules.specs.Laws.First.{Ranked}
-use Rattle.permissions.specs.declared.Items.{Items}
-use Rattle.permissions.specs.Noted.{Noted}
+use Rattle.permission_sheet.specs.declared.Items.{Items}
+use Rattle.permission_sheet.specs.Noted.{Noted}
 use Rattle.access_items.specs.Sorted.{Sorted}
 
 -- an accepted sheet is not long
-accepted-small : (w : ℕ) (S : Schema) (p : Bytes) (is : List Item) → permissionsOf w S p ≡ accept is → length p ≤ 65536
+accepted-small : (f : Format) (S : Schema) (p : Bytes) (is : List Item) → permissionsOf f S p ≡ accept is → length p ≤ 65536
 unfolding permissionsOf
-accepted-small w S p is e = ltb-false 65536 (length p) (not-refused (ltb 65536 (length p)) 11 (items S 256 [] (lines w p)) is e .0)
+accepted-small f S p is e = ltb-false 65536 (length p) (not-refused (ltb 65536 (length p)) 11 (items (f .top) S 256 [] (lines (f .width) p)) is e .0)
 
-pub sorted-of : (w : ℕ) (S : Schema) (p : Bytes) (is : List Item) (r : Items) (order : List ℕ) → permissionsOf w S p ≡ accept is → Noted w p is r → Ranked is order → length order ≡ length is
-    → Sorted w p is (r .rights) (r .scopes) order
-sorted-of w S p is r order e n ranked count = record { small = accepted-small w S p is e; table = n .table; ranked = ranked; count = count }
+pub sorted-of : (f : Format) (S : Schema) (p : Bytes) (is : List Item) (r : Items) (order : List ℕ) → permissionsOf f S p ≡ accept is → Noted f p is r → Ranked is order → length order ≡ length is
+    → Sorted (f .width) p is (r .rights) (r .scopes) order
+sorted-of f S p is r order e n ranked count = record { small = accepted-small f S p is e; table = n .table; ranked = ranked; count = count }

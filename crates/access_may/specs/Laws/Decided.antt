@@ -6,6 +6,7 @@ use mathlib.Core.List.{List}
 use native.Mathlib.Omega.{arith}
 use lib.Dec.{eqb, ltb}
 use borrow.Author.Tests.{ne-eqb, eqb-false, ltb-true, ltb-false}
+use Rattle.rules.specs.Laws.Tests.{and-left, or-right}
 use Rattle.rules.specs.declared.Found.{Found}
 use Rattle.rules.specs.declared.Found.the-variants.{At, Nothing}
 use Rattle.access_set.specs.declared.Bits.{Bits}
@@ -19,10 +20,6 @@ use Rattle.access_may.specs.Decided.{Decided, First}
 not-true : (b : Bool) → (b ≡ true → ⊥) → b ≡ false
 not-true true h = absurd (h refl)
 not-true false h = refl
-
-and-left : (a b : Bool) → (a && b) ≡ true → a ≡ true
-and-left true b e = refl
-and-left false b e = e
 
 -- ---- the decision
 
@@ -143,10 +140,6 @@ off : (b c : Bool) → b ≡ false → (b && c) ≡ false
 off true c e = absurd (true≢false e)
 off false c e = refl
 
-second : (a b : Bool) → b ≡ true → (a || b) ≡ true
-second true b e = refl
-second false b e = e
-
 module _ (sets : List ℕ) (all single : Bits) (ok : ℕ → Bool) where
   abbrev asked : ℕ → Bool
   asked j = member all j || member single j && ok j
@@ -193,7 +186,7 @@ module _ (sets : List ℕ) (all single : Bits) (ok : ℕ → Bool) where
         g = first-same p (λ j. member single j && ok j) h end i f
 
         go : i < 256 → (t : Bool) → ltb i end ≡ t → asked i ≡ true
-        go l true q = second (member all i) (member single i && ok i) (g .passes (ltb-true i end q))
+        go l true q = or-right (member all i) (member single i && ok i) (g .passes (ltb-true i end q))
         go l false q =
             let x : end ≤ i = ltb-false i end q in
             let y : i ≤ end = g .within in

@@ -7,6 +7,7 @@ use native.Mathlib.Omega.{arith}
 use lib.Dec.{eqb, ltb}
 use lib.ListN.{length, getD}
 use borrow.Author.Tests.{lt-ltb, ltb-true}
+use Rattle.tables.specs.Laws.Sets.{slot-small}
 use Rattle.rules.specs.Sheet.{Bytes}
 use Rattle.rules.specs.Value.{byFound}
 use Rattle.rules.specs.Name.{Schema, Name, equal}
@@ -18,8 +19,9 @@ use Rattle.rules.specs.Laws.Decision.{concerns}
 use Rattle.rules.specs.Laws.First.{itemAt, decided-first, decided-none}
 use Rattle.rules.specs.declared.Found.{Found}
 use Rattle.rules.specs.declared.Found.the-variants.{At, Nothing}
-use Rattle.value.specs.Digest.{digest}
-use Rattle.name.specs.Schema.{equalBy, equal-at}
+use Rattle.value_syntax.specs.Digest.{digest}
+use Rattle.name.specs.Schema.{equalBy}
+use Rattle.name.specs.Laws.Schema.{equal-at}
 use Rattle.access_set.specs.Member.{Least}
 use Rattle.tables.specs.Book.{schema, types}
 use Rattle.tables.specs.Held.{typeAt}
@@ -29,7 +31,7 @@ use Rattle.tables.specs.Laws.Book.{schema-length, type-at}
 use Rattle.access_may.specs.Decided.{Decided}
 use Rattle.access_may.specs.Single.{agreesAt, sameAt}
 use Rattle.access_may.specs.Laws.Schema.{syntax-ranked}
-use Rattle.access_may.specs.Laws.Single.{slot-first, slot-small}
+use Rattle.access_may.specs.Laws.Single.{slot-first}
 
 -- ---- the first item that applies
 

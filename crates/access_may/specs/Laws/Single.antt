@@ -9,7 +9,7 @@ use lib.ListN.{getD, take, drop}
 use borrow.Author.Tests.{eq-eqb, ne-eqb}
 use Rattle.rules.specs.Sheet.{Bytes}
 use Rattle.rules.specs.Value.{fits, same}
-use Rattle.value.specs.Digest.{digest, digest-same}
+use Rattle.value_syntax.specs.Digest.{digest, digest-same}
 use Rattle.name.specs.Schema.{equalBy}
 use Rattle.access_set.specs.declared.Bits.{Bits}
 use Rattle.access_set.specs.Member.{member}
@@ -17,10 +17,6 @@ use Rattle.tables.specs.Sets.{rowOf, inRow, slotOf}
 use Rattle.tables.specs.Laws.Book.{cut-part}
 use Rattle.access_may.specs.Single.{agreesAt, sameAt}
 use Rattle.access_may.specs.Laws.Decided.{row-member}
-
-pub slot-small : (h : ℕ) → slotOf h < 64
-unfolding slotOf
-slot-small h = omega arith
 
 -- tests that equal values pass change nothing
 passed : (s : ℕ) (u v : Bytes) (x y : Bool) → (same s u v ≡ true → x ≡ true) → (same s u v ≡ true → y ≡ true) → (x && (y && equalBy s u v)) ≡ equalBy s u v

@@ -1,7 +1,7 @@
 use mathlib.Core.Path.{sym, ap, _∙_}
 use native.Mathlib.Omega.{arith}
 use denote.Ref.{now}
-use Rattle.entry_lookup.specs.Laws.Find.{up-to}
+use Rattle.directory_lookup.specs.Laws.Find.{up-to}
 use Rattle.access_scope.specs.Scopes.{spreadFrom}
 use borrow.Author.Needs.{needs}
 use Rattle.access_scope.proofs.reach_base.Statement.{statement}

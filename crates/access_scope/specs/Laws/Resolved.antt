@@ -10,9 +10,8 @@ use Rattle.rules.specs.Sheet.{Bytes}
 use Rattle.rules.specs.Directory.{Stored}
 use Rattle.rules.specs.Decision.{Setting}
 use Rattle.rules.specs.Places.{linesAt, partsOf}
-use Rattle.rules.specs.Laws.Resolve.{walk}
-use Rattle.rules.specs.Laws.Reach.{numberOr0, reachOf}
-use Rattle.permissions.specs.Noted.{Table, blank}
+use Rattle.rules.specs.Numbers.{walk, numberOr0, reachOf}
+use Rattle.permission_sheet.specs.Noted.{Table, blank}
 use Rattle.tables.specs.Book.{width}
 use Rattle.tables.specs.World.{Entries}
 use Rattle.access_scope.specs.Scopes.{Asker, scopeAt, itemBy}

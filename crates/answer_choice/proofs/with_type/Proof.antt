@@ -1,46 +1,26 @@
-use Prim.Native.Nat.{ℕ, _-_, _≤_, _<_}
-use mathlib.Core.Path.{_≡_, sym, ap, _∙_}
+use mathlib.Core.Path.{_≡_, ap, _∙_}
 use native.Mathlib.Omega.{arith}
-use lib.ListN.{length, getD}
 use denote.Ref.{now}
-use Prim.Native.Nat.{_/_}
-use Rattle.tables.specs.Book.{types, schema}
+use Rattle.name.specs.Laws.Schema.{rank-type}
 use Rattle.tables.specs.Held.{typeAt}
-use Rattle.tables.specs.Laws.Book.{schema-length, type-at}
-use Rattle.answer_choice.specs.Laws.Selected.{rank-in, rank-out, none}
+use Rattle.answer_choice.specs.Laws.Selected.{rank-in, rank-out}
 use borrow.Author.Needs.{needs}
 use Rattle.answer_choice.proofs.with_type.Statement.{statement}
 use Rattle.answer_choice.proofs.with_type.Tie as tie
 
-abbrev Inv-loop : tie.InvT-loop
-Inv-loop book ranks t types i₀ i = (i ≤ getD book 1 0) × ((r : ℕ) → r < i → typeAt (schema book) r ≡ t → ⊥)
+returns : tie.Need-returns
+returns c =
+    let A = c .before .before .before .args in
+    let P = c .before .before .before .pre in
+    let e = c .before .rank .ensures in
+    let l = c .if1 .taken in
+    let same : typeAt (now (A .types)) (c .before .rank .result) ≡ A .t = ap (typeAt (now (A .types))) e ∙ rank-type (now (A .types)) (A .t) (omega (arith, e, l)) in
+    λ r m. rank-in (now (A .types)) (A .t) (P .1) _ l (omega (arith, l, P .0)) same (A .ranks) r m
 
-abbrev μ-loop : tie.MeasureT-loop
-μ-loop book ranks t types i₀ i = getD book 1 0 - i
-
-element-copy-out-types : tie.Need-element-copy-out-types Inv-loop μ-loop
-element-copy-out-types c = let P = c .pre in omega (arith, P .0 .size)
-
-loop-holds : tie.Need-loop-holds Inv-loop μ-loop
-loop-holds c = (omega arith, λ r l. absurd (omega arith))
-
-element-copy-out-if1 : tie.Need-element-copy-out-if1 Inv-loop μ-loop
-element-copy-out-if1 c = let P = c .before .before .before .pre in omega (arith, P .0 .size, P .0 .few-types, c .before .loop .inv .0, c .loop-test .taken)
-
-shl-result : tie.Need-shl-result Inv-loop μ-loop
-shl-result c = let P = c .before .before .before .before .before .pre in omega (arith, P .0 .few-types, c .before .before .before .loop .inv .0, c .before .before .loop-test .taken)
-
-returns : tie.Need-returns Inv-loop μ-loop
-returns c = let b = now (c .before .before .before .before .before .args .book) in let P = c .before .before .before .before .before .pre in let L = c .before .before .before .loop in let n : length (schema b) ≡ types b = schema-length (P .0) in let l : L .i < types b = c .before .before .loop-test .taken in λ r m. rank-in (schema b) (c .before .before .before .before .before .args .t) (P .1) (L .i) (omega (arith, l)) (omega (arith, l, P .0 .few-types)) (ap (λ (x : ℕ). x / 4) (type-at b (L .i) l) ∙ c .if1 .taken) (c .before .before .before .before .before .args .ranks) r m
-
-loop-again : tie.Need-loop-again Inv-loop μ-loop
-loop-again c = let b = now (c .before .before .before .before .before .args .book) in let P = c .before .before .before .before .before .pre in let L = c .before .before .before .loop in let l : L .i < types b = c .before .before .loop-test .taken in (omega (arith, l), λ r m e. none (schema b) (c .before .before .before .before .before .args .t) (L .i) (L .inv .1) (λ q. c .if1 .left (sym (ap (λ (x : ℕ). x / 4) (type-at b (L .i) l)) ∙ q)) r m e)
-
-returns-2 : tie.Need-returns-2 Inv-loop μ-loop
-returns-2 c = let b = now (c .before .before .before .args .book) in let P = c .before .before .before .pre in let L = c .before .loop in let n : length (schema b) ≡ types b = schema-length (P .0) in λ r m. rank-out (schema b) (c .before .before .before .args .t) (λ r l. L .inv .1 r (omega (arith, c .loop-test .left))) (c .before .before .before .args .ranks) r m
+returns-2 : tie.Need-returns-2
+returns-2 c =
+    let A = c .before .before .before .args in
+    λ r m. rank-out (now (A .types)) (A .t) (omega (arith, c .before .rank .ensures, c .if1 .left)) (A .ranks) r m
 
 pub with-type-spec : {M : Type 1} → statement M
-with-type-spec =
-    tie.close
-    (tie.spec Inv-loop μ-loop element-copy-out-types loop-holds (λ c. search needs) (λ c. search needs) element-copy-out-if1 shl-result returns
-    (λ c. search needs) (λ c. search needs) loop-again returns-2)
+with-type-spec = tie.close (tie.spec (λ c κs. search needs) (λ c. search needs) returns returns-2)

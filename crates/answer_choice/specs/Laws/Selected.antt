@@ -1,28 +1,35 @@
 -- Laws of `Selected`: a noted request selects, the ranks listed one by one, and all ranks.
-use Prim.Native.Nat.{ℕ, zero, suc, _+_, _-_, _*_, _%_, _^_, _≤_, _<_}
+use Prim.Native.Nat.{ℕ, zero, suc, _-_, _*_, _%_, _^_, _≤_, _<_}
 use mathlib.Core.Path.{_≡_, refl, sym, ap, _∙_}
-use mathlib.Core.Bool.{Bool, true, false, _&&_, _||_, not, true≢false}
+use mathlib.Core.Bool.{Bool, true, false, _&&_, _||_, not, or-comm}
 use mathlib.Core.List.{List, [], _∷_}
 use native.Mathlib.Omega.{arith}
 use lib.Bits.{bitOr}
 use lib.Dec.{eqb}
-use lib.ListN.{length, drop}
+use lib.ListN.{length}
 use borrow.Author.Tests.{eq-eqb, ne-eqb, eqb-true, eqb-false}
 use Rattle.rules.specs.Lists.{any, isEmpty}
-use Rattle.rules.specs.Sheet.{Bytes, Sheet, frontOf}
+use Rattle.rules.specs.Sheet.{Bytes}
+use Rattle.rules.specs.Judge.{Grammar}
 use Rattle.rules.specs.Request.{Selection, Operation, read, compare, list, search}
 use Rattle.rules.specs.Answer.{selected}
 use Rattle.rules.specs.Places.{linesAt, typesOf}
-use Rattle.rules.specs.Laws.Sheet.{lines-taken, lines-broken, lines-end}
-use Rattle.rules.specs.declared.Front.the-variants.{Taken, NotInForm, End}
-use Rattle.request.specs.Noted as Requests
-use Rattle.request.specs.declared.Asked.{Asked}
+use Rattle.rules.specs.Laws.Tests.{and-left, and-right}
+use Rattle.sheet_line.specs.Line.{takenAt}
+use Rattle.sheet_line.specs.Laws.{linesBy, taken-lines}
+use Rattle.sheet_line.specs.declared.Line.{Line}
+use Rattle.sheet_line.specs.declared.Taken.{Taken}
+use Rattle.sheet_line.specs.declared.Taken.the-variants as Taken
+use Rattle.name.specs.Schema.{rankIn}
+use Rattle.name.specs.Laws.Schema.{rank-first}
+use Rattle.request_sheet.specs.Noted as Requests
+use Rattle.request_sheet.specs.declared.Asked.{Asked}
 use Rattle.access_set.specs.Member.{bit}
 use Rattle.access_set.specs.Bit.{bit-or, bit-pow, one-shl}
-use Rattle.tables.specs.Held.{typeAt}
+use Rattle.tables.specs.Held.{typeAt, Distinct}
 use Rattle.answer_plan.specs.declared.Choice.{Choice}
 use Rattle.answer_plan.specs.Choice.{Chooses}
-use Rattle.answer_choice.specs.Selected.{Distinct, nothingSelected, selectionOf, Selects}
+use Rattle.answer_choice.specs.Selected.{nothingSelected, selectionOf, Selects}
 
 module _ (w : ℕ) (q : Bytes) (r : Asked) where
   selects : (s : Selection) → Requests.NotedSelection w q s r → Selects w q s r
@@ -38,17 +45,17 @@ module _ (w : ℕ) (q : Bytes) (r : Asked) where
     values = sym (n .values);
   }
 
-  pub selection-noted : (o : Operation) → Requests.NotedOperation w q o r → Selects w q (selectionOf o) r
-  selection-noted (read s) n = selects s (n .selection)
-  selection-noted (compare t v) n = selects-none (n .no-selection)
-  selection-noted (list limit) n = selects-none (n .no-selection)
-  selection-noted (search s) n = selects (s .selection) (n .selection)
+  pub selection-noted : (G : Grammar) (o : Operation) → Requests.NotedOperation G w q o r → Selects w q (selectionOf o) r
+  selection-noted G (read s) n = selects s (n .selection)
+  selection-noted G (compare t v) n = selects-none (n .no-selection)
+  selection-noted G (list limit) n = selects-none (n .no-selection)
+  selection-noted G (search s) n = selects (s .selection) (n .selection)
 
 -- ---- one type more
 
 module _ (ks : List ℕ) (t : ℕ) where
   -- the type of rank `i` is the one: its bit is set
-  pub same-rank : Distinct ks → (i : ℕ) → i < length ks → typeAt ks i ≡ t → (r : ℕ) → r < length ks → eqb r i ≡ eqb (typeAt ks r) t
+  same-rank : Distinct ks → (i : ℕ) → i < length ks → typeAt ks i ≡ t → (r : ℕ) → r < length ks → eqb r i ≡ eqb (typeAt ks r) t
   same-rank distinct i l e r m = go (eqb (typeAt ks r) t) refl
     where
       go : (b : Bool) → eqb (typeAt ks r) t ≡ b → eqb r i ≡ b
@@ -62,27 +69,29 @@ module _ (ks : List ℕ) (t : ℕ) where
       bit-or ranks (1 * 2 ^ i % 2 ^ 64) r
       ∙ ap (λ (x : ℕ). bit ranks r || bit x r) (one-shl i small)
       ∙ ap (λ (b : Bool). bit ranks r || b) (bit-pow i r ∙ same-rank distinct i l e r m)
-      ∙ turn (bit ranks r) (eqb (typeAt ks r) t)
-    where
-      turn : (a b : Bool) → (a || b) ≡ (b || a)
-      turn true true = refl
-      turn true false = refl
-      turn false true = refl
-      turn false false = refl
-
-  -- no rank so far, nor this one
-  pub none : (i : ℕ) → ((r : ℕ) → r < i → typeAt ks r ≡ t → ⊥) → (typeAt ks i ≡ t → ⊥) → (r : ℕ) → r < i + 1 → typeAt ks r ≡ t → ⊥
-  none i h x r l e = go (eqb r i) refl
-    where
-      go : (b : Bool) → eqb r i ≡ b → ⊥
-      go true q = x (ap (typeAt ks) (sym (eqb-true r i q)) ∙ e)
-      go false q = let d : r ≡ i → ⊥ = eqb-false r i q in h r (omega arith) e
+      ∙ or-comm (bit ranks r) (eqb (typeAt ks r) t)
 
   -- no rank has it
-  pub rank-out : ((r : ℕ) → r < length ks → typeAt ks r ≡ t → ⊥) → (ranks r : ℕ) → r < length ks → bit ranks r ≡ (eqb (typeAt ks r) t || bit ranks r)
-  rank-out none ranks r m = ap (λ (b : Bool). b || bit ranks r) (sym (ne-eqb (typeAt ks r) t (none r m)))
+  pub rank-out : length ks ≤ rankIn ks t → (ranks r : ℕ) → r < length ks → bit ranks r ≡ (eqb (typeAt ks r) t || bit ranks r)
+  rank-out none ranks r m = ap (λ (b : Bool). b || bit ranks r) (sym (ne-eqb (typeAt ks r) t (λ e. absurd (omega (arith, none, m, rank-first ks t r m e)))))
 
 -- ---- the lines one by one
+
+-- the types listed, by what was taken at the first line
+abbrev typesBy : ℕ → Bytes → ℕ → Taken → List ℕ
+typesBy w q n (Taken.Line x) = x .a ∷ typesOf n (linesAt w q (x .next))
+typesBy w q n Taken.NotInForm = []
+typesBy w q n Taken.End = []
+
+types-by : (w : ℕ) (q : Bytes) (j n : ℕ) → 0 < n → (x : Taken) → takenAt w q j ≡ x → typesOf n (linesAt w q j) ≡ typesBy w q (n - 1) x
+unfolding typesOf
+types-by w q j zero h x e = absurd (omega arith)
+types-by w q j (suc n) h x e = let z : suc n - 1 ≡ n = omega arith in rw z (ap (typesOf (suc n)) (taken-lines w q j ∙ ap (linesBy w q) e) ∙ go x)
+  where
+    go : (x : Taken) → typesOf (suc n) (linesBy w q x) ≡ typesBy w q n x
+    go (Taken.Line x) = refl
+    go Taken.NotInForm = refl
+    go Taken.End = refl
 
 module _ (w : ℕ) (q : Bytes) (j : ℕ) (test : ℕ → Bool) where
   pub listed-done : (left : ℕ) → left ≤ 0 → any test (typesOf left (linesAt w q j)) ≡ false
@@ -90,35 +99,26 @@ module _ (w : ℕ) (q : Bytes) (j : ℕ) (test : ℕ → Bool) where
   listed-done zero h = refl
   listed-done (suc left) h = absurd (omega arith)
 
-  pub listed-broken : (left : ℕ) → 0 < left → frontOf w (drop j q) ≡ NotInForm → any test (typesOf left (linesAt w q j)) ≡ false
-  unfolding typesOf
-  listed-broken zero h f = absurd (omega arith)
-  listed-broken (suc left) h f = ap (λ (s : Sheet). any test (typesOf (suc left) s)) (lines-broken w q j f)
+  module _ (left : ℕ) (h : 0 < left) where
+    pub listed-broken : takenAt w q j ≡ Taken.NotInForm → any test (typesOf left (linesAt w q j)) ≡ false
+    listed-broken e = ap (any test) (types-by w q j left h Taken.NotInForm e)
 
-  pub listed-end : (left : ℕ) → 0 < left → frontOf w (drop j q) ≡ End → any test (typesOf left (linesAt w q j)) ≡ false
-  unfolding typesOf
-  listed-end zero h f = absurd (omega arith)
-  listed-end (suc left) h f = ap (λ (s : Sheet). any test (typesOf (suc left) s)) (lines-end w q j f)
+    pub listed-end : takenAt w q j ≡ Taken.End → any test (typesOf left (linesAt w q j)) ≡ false
+    listed-end e = ap (any test) (types-by w q j left h Taken.End e)
 
-  pub listed-on : {kind a b c n : ℕ} (left : ℕ) → 0 < left → frontOf w (drop j q) ≡ Taken kind a b c n
-      → any test (typesOf left (linesAt w q j)) ≡ (test a || any test (typesOf (left - 1) (linesAt w q (j + (5 * w + 1 + n)))))
-  unfolding typesOf
-  listed-on zero h f = absurd (omega arith)
-  listed-on (suc left) h f = let z : suc left - 1 ≡ left = omega arith in rw z (ap (λ (s : Sheet). any test (typesOf (suc left) s)) (lines-taken w q j f))
+    -- what was found so far, with one line more
+    pub listed-more : (x : Line) → takenAt w q j ≡ Taken.Line x → (old new all : Bool) → new ≡ (test (x .a) || old)
+        → (old || any test (typesOf left (linesAt w q j))) ≡ all → (new || any test (typesOf (left - 1) (linesAt w q (x .next)))) ≡ all
+    listed-more x f old new all e inv =
+        ap (λ (b : Bool). b || rest) e ∙ turn (test (x .a)) old rest ∙ ap (λ (ts : List ℕ). old || any test ts) (sym (types-by w q j left h (Taken.Line x) f)) ∙ inv
+      where
+        rest : Bool
+        rest = any test (typesOf (left - 1) (linesAt w q (x .next)))
 
-  -- what was found so far, with one line more
-  pub listed-more : {kind a b c n : ℕ} (left : ℕ) → 0 < left → frontOf w (drop j q) ≡ Taken kind a b c n → (old new all : Bool) → new ≡ (test a || old)
-      → (old || any test (typesOf left (linesAt w q j))) ≡ all → (new || any test (typesOf (left - 1) (linesAt w q (j + (5 * w + 1 + n))))) ≡ all
-  listed-more {a = a} {n = n} left h f old new all e inv =
-      ap (λ (b : Bool). b || rest) e ∙ turn (test a) old rest ∙ ap (λ (b : Bool). old || b) (sym (listed-on left h f)) ∙ inv
-    where
-      rest : Bool
-      rest = any test (typesOf (left - 1) (linesAt w q (j + (5 * w + 1 + n))))
-
-      turn : (x b r : Bool) → ((x || b) || r) ≡ (b || (x || r))
-      turn true true r = refl
-      turn true false r = refl
-      turn false b r = refl
+        turn : (x b r : Bool) → ((x || b) || r) ≡ (b || (x || r))
+        turn true true r = refl
+        turn true false r = refl
+        turn false b r = refl
 
 -- nothing is left
 pub or-none : (b x : Bool) → x ≡ false → b ≡ (b || x)
@@ -136,17 +136,9 @@ unfolding below
 below-at test zero h r l = absurd (omega arith)
 below-at test (suc n) h r l = go (eqb r n) refl (λ e m. below-at test n e r m)
   where
-    left : (a b : Bool) → (a && b) ≡ true → a ≡ true
-    left true b e = refl
-    left false b e = e
-
-    right : (a b : Bool) → (a && b) ≡ true → b ≡ true
-    right true b e = e
-    right false b e = absurd (true≢false (sym e))
-
     go : (t : Bool) → eqb r n ≡ t → (below test n ≡ true → r < n → test r ≡ true) → test r ≡ true
-    go true e ih = ap test (eqb-true r n e) ∙ left (test n) (below test n) h
-    go false e ih = let d : r ≡ n → ⊥ = eqb-false r n e in ih (right (test n) (below test n) h) (omega arith)
+    go true e ih = ap test (eqb-true r n e) ∙ and-left (test n) (below test n) h
+    go false e ih = let d : r ≡ n → ⊥ = eqb-false r n e in ih (and-right (test n) (below test n) h) (omega arith)
 
 pub all-ranks : (r : ℕ) → r < 64 → bit 18446744073709551615 r ≡ true
 unfolding below bit

@@ -23,7 +23,8 @@ use Rattle.answer_plan.specs.Sound.{Sound}
 use Rattle.answer_plan.specs.Outcome.{refusedPlan}
 use Rattle.answer_plan.specs.Laws.Outcome.{refused-planned}
 use Rattle.rules.specs.declared.Found.the-variants.{At}
-use Rattle.name.specs.Schema.{syntaxIn, equalBy, allowed-at, equal-at}
+use Rattle.name.specs.Schema.{syntaxIn, equalBy}
+use Rattle.name.specs.Laws.Schema.{allowed-at, equal-at}
 use Rattle.tables.specs.Book.{types, schema}
 use Rattle.tables.specs.Held.{typeAt}
 use Rattle.tables.specs.World.{Entries}

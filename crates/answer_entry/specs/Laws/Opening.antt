@@ -1,4 +1,4 @@
--- Laws of `Opening`: the answer of read and compare, by the outcome of opening the entry.
+-- Laws of `Opening`: the answer of an operation on one entry, by the outcome of opening it.
 use Prim.Native.Nat.{ℕ, zero, suc, _-_, _≤_}
 use mathlib.Core.Path.{_≡_, refl, sym, ap, _∙_}
 use mathlib.Core.Bool.{Bool, true, false, cond}
@@ -10,7 +10,7 @@ use borrow.Author.Tests.{eq-eqb, ne-eqb}
 use Rattle.rules.specs.Sheet.{Line}
 use Rattle.rules.specs.Name.{Name}
 use Rattle.rules.specs.Directory.{Stored, blank, Entry, entryOf}
-use Rattle.rules.specs.Permission.{Read, DiscloseOnError}
+use Rattle.rules.specs.Permission.{DiscloseOnError}
 use Rattle.rules.specs.Decision.{Setting, entry}
 use Rattle.rules.specs.Request.{Selection}
 use Rattle.rules.specs.Answer.{outcome, noSuchObject, named, opened}
@@ -25,25 +25,25 @@ use Rattle.answer_plan.specs.Outcome.{absentPlan, refusedPlan}
 use Rattle.answer_plan.specs.Laws.Outcome.{absent-planned, refused-planned, absent-sound, refused-sound}
 use Rattle.answer_entry.specs.Opening.{openingAt, withheldPlan}
 
-module _ (σ : Setting) (es : List Stored) (e : ℕ) where
-  pub opens-read : grantedAt σ es e entry Read ≡ true → 0 ≡ openingAt σ es e
+module _ (σ : Setting) (es : List Stored) (e q : ℕ) where
+  pub opens-granted : grantedAt σ es e entry q ≡ true → 0 ≡ openingAt σ es e q
   unfolding openingAt
-  opens-read h = rw h
+  opens-granted h = rw h
 
-  pub opens-disclosed : grantedAt σ es e entry Read ≡ false → grantedAt σ es e entry DiscloseOnError ≡ true → 2 ≡ openingAt σ es e
+  pub opens-disclosed : grantedAt σ es e entry q ≡ false → grantedAt σ es e entry DiscloseOnError ≡ true → 2 ≡ openingAt σ es e q
   unfolding openingAt
   opens-disclosed h g = rw (h, g)
 
-  pub opens-hidden : grantedAt σ es e entry Read ≡ false → grantedAt σ es e entry DiscloseOnError ≡ false → 1 ≡ openingAt σ es e
+  pub opens-hidden : grantedAt σ es e entry q ≡ false → grantedAt σ es e entry DiscloseOnError ≡ false → 1 ≡ openingAt σ es e q
   unfolding openingAt
   opens-hidden h g = rw (h, g)
 
   -- the root does not open
-  pub opens-entry : openingAt σ es e ≡ 0 → e ≡ 0 → ⊥
+  pub opens-entry : openingAt σ es e q ≡ 0 → e ≡ 0 → ⊥
   unfolding openingAt grantedAt
   opens-entry h z = go e z h
     where
-      go : (e : ℕ) → e ≡ 0 → _≡_ {A = ℕ} (cond (grantedAt σ es e entry Read) 0 (cond (grantedAt σ es e entry DiscloseOnError) 2 1)) 0 → ⊥
+      go : (e : ℕ) → e ≡ 0 → _≡_ {A = ℕ} (cond (grantedAt σ es e entry q) 0 (cond (grantedAt σ es e entry DiscloseOnError) 2 1)) 0 → ⊥
       go zero z h = omega (arith, h)
       go (suc k) z h = omega arith
 
@@ -64,43 +64,43 @@ module _ (op o missing : ℕ) where
       go true = absent-sound count hits op missing l
       go false = refused-sound count hits op 2
 
-module _ (σ : Setting) (es : List Stored) (ok : Accepted (σ .schema) es) (n : Name) (base : Found) (missing : ℕ) (h : Base σ es n base missing) (op : ℕ) (f : Entry → List Line) where
-  by-number : opened σ (map entryOf es) op n f (named σ (map entryOf es) n) ≡ opened σ (map entryOf es) op n f (entryBy es base)
-  by-number = ap (opened σ (map entryOf es) op n f) (named-walk σ es ok n ∙ ap (entryBy es) (h .walked))
+module _ (σ : Setting) (es : List Stored) (ok : Accepted (σ .schema) es) (n : Name) (base : Found) (missing : ℕ) (h : Base σ es n base missing) (op q : ℕ) (f : Entry → List Line) where
+  by-number : opened σ (map entryOf es) op q n f (named σ (map entryOf es) n) ≡ opened σ (map entryOf es) op q n f (entryBy es base)
+  by-number = ap (opened σ (map entryOf es) op q n f) (named-walk σ es ok n ∙ ap (entryBy es) (h .walked))
 
   -- the base is no entry
-  pub opened-none : (s : Selection) (hits : List ℕ) → base ≡ Nothing → planned σ es s (absentPlan op missing) hits ≡ opened σ (map entryOf es) op n f (named σ (map entryOf es) n)
+  pub opened-none : (s : Selection) (hits : List ℕ) → base ≡ Nothing → planned σ es s (absentPlan op missing) hits ≡ opened σ (map entryOf es) op q n f (named σ (map entryOf es) n)
   unfolding opened
-  opened-none s hits e = absent-planned σ es s hits op n base missing h ∙ sym (by-number ∙ ap (λ (b : Found). opened σ (map entryOf es) op n f (entryBy es b)) e)
+  opened-none s hits e = absent-planned σ es s hits op n base missing h ∙ sym (by-number ∙ ap (λ (b : Found). opened σ (map entryOf es) op q n f (entryBy es b)) e)
 
   -- it is entry number `b`, or the root
   module _ (b : ℕ) (e : base ≡ At b) where
-    at-number : opened σ (map entryOf es) op n f (named σ (map entryOf es) n)
-        ≡ cond (grantedAt σ es b entry Read) (f (entryOf (getD es (b - 1) blank))) (cond (grantedAt σ es b entry DiscloseOnError) (outcome op 2) (noSuchObject σ (map entryOf es) op n))
+    at-number : opened σ (map entryOf es) op q n f (named σ (map entryOf es) n)
+        ≡ cond (grantedAt σ es b entry q) (f (entryOf (getD es (b - 1) blank))) (cond (grantedAt σ es b entry DiscloseOnError) (outcome op 2) (noSuchObject σ (map entryOf es) op n))
     unfolding opened numbered grantedAt entryOf
-    at-number = by-number ∙ ap (λ (x : Found). opened σ (map entryOf es) op n f (entryBy es x)) e ∙ by b
+    at-number = by-number ∙ ap (λ (x : Found). opened σ (map entryOf es) op q n f (entryBy es x)) e ∙ by b
       where
-        by : (b : ℕ) → opened σ (map entryOf es) op n f (numbered es b)
-            ≡ cond (grantedAt σ es b entry Read) (f (entryOf (getD es (b - 1) blank))) (cond (grantedAt σ es b entry DiscloseOnError) (outcome op 2) (noSuchObject σ (map entryOf es) op n))
+        by : (b : ℕ) → opened σ (map entryOf es) op q n f (numbered es b)
+            ≡ cond (grantedAt σ es b entry q) (f (entryOf (getD es (b - 1) blank))) (cond (grantedAt σ es b entry DiscloseOnError) (outcome op 2) (noSuchObject σ (map entryOf es) op n))
         by zero = refl
         by (suc k) = let z : suc k - 1 ≡ k = omega arith in rw z
 
-    pub opened-open : openingAt σ es b ≡ 0 → opened σ (map entryOf es) op n f (named σ (map entryOf es) n) ≡ f (entryOf (getD es (b - 1) blank))
+    pub opened-open : openingAt σ es b q ≡ 0 → opened σ (map entryOf es) op q n f (named σ (map entryOf es) n) ≡ f (entryOf (getD es (b - 1) blank))
     unfolding openingAt
-    opened-open z = at-number ∙ go (grantedAt σ es b entry Read) (grantedAt σ es b entry DiscloseOnError) z
+    opened-open z = at-number ∙ go (grantedAt σ es b entry q) (grantedAt σ es b entry DiscloseOnError) z
       where
         go : (r t : Bool) → _≡_ {A = ℕ} (cond r 0 (cond t 2 1)) 0
             → cond r (f (entryOf (getD es (b - 1) blank))) (cond t (outcome op 2) (noSuchObject σ (map entryOf es) op n)) ≡ f (entryOf (getD es (b - 1) blank))
-        go true t q = refl
-        go false true q = absurd (omega (arith, q))
-        go false false q = absurd (omega (arith, q))
+        go true t z = refl
+        go false true z = absurd (omega (arith, z))
+        go false false z = absurd (omega (arith, z))
 
-    pub opened-withheld : (s : Selection) (hits : List ℕ) (o : ℕ) → o ≡ openingAt σ es b → (o ≡ 0 → ⊥)
-        → planned σ es s (withheldPlan op o missing) hits ≡ opened σ (map entryOf es) op n f (named σ (map entryOf es) n)
+    pub opened-withheld : (s : Selection) (hits : List ℕ) (o : ℕ) → o ≡ openingAt σ es b q → (o ≡ 0 → ⊥)
+        → planned σ es s (withheldPlan op o missing) hits ≡ opened σ (map entryOf es) op q n f (named σ (map entryOf es) n)
     unfolding openingAt withheldPlan
-    opened-withheld s hits o q z =
-        ap (λ (x : ℕ). planned σ es s (cond (eqb x 1) (absentPlan op missing) (refusedPlan op 2)) hits) q
-        ∙ go (grantedAt σ es b entry Read) (grantedAt σ es b entry DiscloseOnError) (λ x. z (q ∙ x)) ∙ sym at-number
+    opened-withheld s hits o told z =
+        ap (λ (x : ℕ). planned σ es s (cond (eqb x 1) (absentPlan op missing) (refusedPlan op 2)) hits) told
+        ∙ go (grantedAt σ es b entry q) (grantedAt σ es b entry DiscloseOnError) (λ x. z (told ∙ x)) ∙ sym at-number
       where
         go : (r t : Bool) → (_≡_ {A = ℕ} (cond r 0 (cond t 2 1)) 0 → ⊥)
             → planned σ es s (cond (eqb (cond r 0 (cond t 2 1)) 1) (absentPlan op missing) (refusedPlan op 2)) hits

@@ -1,4 +1,4 @@
--- Laws of `Passing`: what a loop over all entries collects, and what is gathered from a list by its indices.
+-- Laws of `Passing`: what a loop over all entries collects, and the entries that it stands for.
 use Prim.Native.Nat.{ℕ, zero, suc, _+_, _≤_, _<_, zero-le}
 use native.Mathlib.Numerals.{add-one}
 use native.Mathlib.Omega.{arith}
@@ -6,10 +6,12 @@ use mathlib.Core.Path.{_≡_, refl, sym, ap, ap₂, _∙_, subst}
 use mathlib.Core.Bool.{Bool, true, false}
 use mathlib.Core.List.{List, [], _∷_, _++_, map, append-nil, map-append}
 use lib.Dec.{eqb}
-use lib.ListN.{length, getD, take, set, length-set}
+use lib.ListN.{length, getD, take, set, length-set, length-map, List·getD-map}
 use lib.Seq.{take-suc-set, take-length, getD-set-same, getD-set-other}
 use borrow.Author.Tests.{eqb-true, eqb-false}
-use Rattle.rules.specs.Lists.{given, gather}
+use Rattle.rules.specs.Lists.{given, keep}
+use Rattle.rules.specs.Sheet.{Line}
+use Rattle.rules.specs.Directory.{Stored, blank, Entry, entryOf}
 use Rattle.rules.specs.Laws.Loops.{gather-suc}
 use Rattle.answer_entry.specs.Passing.{passing, Indices}
 
@@ -57,20 +59,46 @@ module _ (p : ℕ → Bool) (k n : ℕ) (hits : List ℕ) (n′ : ℕ) (hits′ 
 
 -- ---- what the indices stand for
 
-module _ {A B : Type 0} (q : A → Bool) (f : A → B) (z : A) (xs : List A) (p : ℕ → Bool) (g : ℕ → B)
-    (same : (k : ℕ) → k < length xs → q (getD xs k z) ≡ p k) (lines : (k : ℕ) → k < length xs → p k ≡ true → f (getD xs k z) ≡ g k) where
-  front : (m : ℕ) → m ≤ length xs → gather (λ x. given (q x) (f x ∷ [])) (take m xs) ≡ map g (passing p m)
+-- the elements that pass, by their indices
+module _ {A : Type 0} (q : A → Bool) (z : A) (xs : List A) (p : ℕ → Bool) (same : (k : ℕ) → k < length xs → q (getD xs k z) ≡ p k) where
+  front : (m : ℕ) → m ≤ length xs → keep q (take m xs) ≡ map (λ k. getD xs k z) (passing p m)
   unfolding passing
   front zero l = refl
   front (suc m) l =
-      gather-suc (λ x. given (q x) (f x ∷ [])) xs m z l
-      ∙ ap₂ (λ (a b : List B). a ++ b) (front m (omega arith)) (one (p m) refl)
+      gather-suc (λ x. given (q x) (x ∷ [])) xs m z l
+      ∙ ap₂ (λ (a b : List A). a ++ b) (front m (omega arith)) (ap (λ (b : Bool). given b (getD xs m z ∷ [])) (same m l) ∙ one (p m))
+      ∙ sym (map-append (λ k. getD xs k z) (passing p m) (given (p m) (m ∷ [])))
+    where
+      one : (b : Bool) → given b (getD xs m z ∷ []) ≡ map (λ k. getD xs k z) (given b (m ∷ []))
+      one true = refl
+      one false = refl
+
+  keep-passing : keep q xs ≡ map (λ k. getD xs k z) (passing p (length xs))
+  keep-passing = ap (keep q) (sym (take-length xs)) ∙ front (length xs) (omega arith)
+
+-- what is made of the elements that pass, by their indices
+module _ {A B : Type 0} (f : A → B) (h : ℕ → A) (g : ℕ → B) (p : ℕ → Bool) where
+  map-passing : (m : ℕ) → ((k : ℕ) → k < m → p k ≡ true → f (h k) ≡ g k) → map f (map h (passing p m)) ≡ map g (passing p m)
+  unfolding passing
+  map-passing zero same = refl
+  map-passing (suc m) same =
+      ap (map f) (map-append h (passing p m) (given (p m) (m ∷ []))) ∙ map-append f (map h (passing p m)) (map h (given (p m) (m ∷ [])))
+      ∙ ap₂ (λ (a b : List B). a ++ b) (map-passing m (λ k l. same k (omega arith))) (one (p m) refl)
       ∙ sym (map-append g (passing p m) (given (p m) (m ∷ [])))
     where
-      one : (b : Bool) → p m ≡ b → given (q (getD xs m z)) (f (getD xs m z) ∷ []) ≡ map g (given b (m ∷ []))
-      one true e = rw (same m l ∙ e) (ap (λ (x : B). x ∷ []) (lines m l e))
-      one false e = rw (same m l ∙ e)
+      one : (b : Bool) → p m ≡ b → map f (map h (given b (m ∷ []))) ≡ map g (given b (m ∷ []))
+      one true e = ap (λ (x : B). x ∷ []) (same m (omega arith) e)
+      one false e = refl
 
-  -- what the elements that pass give, from their indices
-  pub gather-passing : gather (λ x. given (q x) (f x ∷ [])) xs ≡ map g (passing p (length xs))
-  gather-passing = ap (gather (λ x. given (q x) (f x ∷ []))) (sym (take-length xs)) ∙ front (length xs) (omega arith)
+-- the entries that pass, and what is returned of them
+module _ (es : List Stored) (q : Entry → Bool) (p : ℕ → Bool) (same : (k : ℕ) → k < length es → q (entryOf (getD es k blank)) ≡ p k) where
+  entries-passing : keep q (map entryOf es) ≡ map (λ k. getD (map entryOf es) k (entryOf blank)) (passing p (length es))
+  entries-passing =
+      keep-passing q (entryOf blank) (map entryOf es) p (λ k l. ap q (List·getD-map entryOf es k blank) ∙ same k (subst (λ (m : ℕ). k < m) (length-map es entryOf) l))
+      ∙ ap (λ (m : ℕ). map (λ k. getD (map entryOf es) k (entryOf blank)) (passing p m)) (length-map es entryOf)
+
+  pub hits-passing : (f : Entry → List Line) (g : ℕ → List Line) → ((k : ℕ) → k < length es → p k ≡ true → f (entryOf (getD es k blank)) ≡ g k)
+      → map f (keep q (map entryOf es)) ≡ map g (passing p (length es))
+  hits-passing f g lines =
+      ap (map f) entries-passing
+      ∙ map-passing f (λ k. getD (map entryOf es) k (entryOf blank)) g p (length es) (λ k l e. ap f (List·getD-map entryOf es k blank) ∙ lines k l e)

@@ -5,20 +5,21 @@ use mathlib.Core.Path.{_≡_, refl, sym, ap, _∙_, subst}
 use mathlib.Core.Bool.{Bool, true, false, _&&_, not, cond}
 use mathlib.Core.List.{List, [], _∷_, _++_, map}
 use lib.Dec.{eqb, ltb}
-use lib.ListN.{length, getD, take, length-map, List·getD-map}
+use lib.ListN.{length, getD, take, length-map}
 use lib.Seq.{take-take, take-all, length-take-le}
 use borrow.Author.Tests.{ne-eqb, ltb-true, ltb-false}
 use Rattle.rules.specs.Lists.{gather, any, isEmpty}
 use Rattle.rules.specs.Sheet.{Line, line}
-use Rattle.rules.specs.Name.{Name, sameName}
-use Rattle.rules.specs.Directory.{Stored, blank, nameAt, entryOf}
+use Rattle.rules.specs.Name.{Name}
+use Rattle.rules.specs.Directory.{Stored, entryOf}
 use Rattle.rules.specs.Permission.{Read, Browse, ReturnDN, DiscloseOnError}
 use Rattle.rules.specs.Decision.{Setting, entry, granted}
 use Rattle.rules.specs.Request.{Selection}
 use Rattle.rules.specs.Answer as Answer
 use Rattle.rules.specs.Answer.{bit}
 use Rattle.rules.specs.Laws.Directory.{Accepted}
-use Rattle.rules.specs.Laws.Resolve.{walk, walk-found, numbered, disclosed-walk, entryBy, test}
+use Rattle.rules.specs.Numbers.{walk}
+use Rattle.rules.specs.Laws.Resolve.{numbered, disclosed-walk, entryBy, test}
 use Rattle.rules.specs.declared.Found.{Found}
 use Rattle.rules.specs.declared.Found.the-variants.{At}
 use Rattle.tables.specs.Sets.{grantedAt}
@@ -120,18 +121,6 @@ disclosed-at σ es ok n b walked = disclosed-walk σ es ok n ∙ ap (λ (f : Fou
     at : (b : ℕ) → test (λ e. granted σ (e .name) entry DiscloseOnError) (numbered es b) ≡ grantedAt σ es b entry DiscloseOnError
     at zero = unfold numbered grantedAt in refl
     at (suc k) = unfold numbered grantedAt entryOf in refl
-
-module _ (σ : Setting) (es : List Stored) (ok : Accepted (σ .schema) es) (n : Name) (b : ℕ) (walked : walk (σ .schema) es 0 n ≡ At b) where
-  pub base-found : (b ≤ length es) × (sameName (σ .schema) n (nameAt es b) ≡ true)
-  unfolding nameAt sameName
-  base-found = walk-found (σ .schema) es ok n [] 0 b zero-le refl walked
-
-module _ (es : List Stored) (k : ℕ) where
-  pub entry-at : getD (map entryOf es) k (entryOf blank) ≡ entryOf (getD es k blank)
-  entry-at = List·getD-map entryOf es k blank
-
-  pub entry-inside : k < length (map entryOf es) → k < length es
-  entry-inside l = subst (λ (m : ℕ). k < m) (length-map es entryOf) l
 
 -- ---- soundness
 

@@ -15,7 +15,8 @@ use Rattle.rules.specs.Answer as Answer
 use Rattle.rules.specs.Answer.{named, noSuchObject}
 use Rattle.rules.specs.Laws.Absent.{present′}
 use Rattle.rules.specs.Laws.Directory.{Accepted}
-use Rattle.rules.specs.Laws.Resolve.{walk, named-walk, entryBy}
+use Rattle.rules.specs.Numbers.{walk}
+use Rattle.rules.specs.Laws.Resolve.{named-walk, entryBy}
 use Rattle.rules.specs.declared.Found.{Found}
 use Rattle.rules.specs.declared.Found.the-variants.{At, Nothing}
 use Rattle.answer_plan.specs.declared.Plan.{Plan}

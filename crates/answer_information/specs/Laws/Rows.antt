@@ -6,14 +6,14 @@ use native.Mathlib.Omega.{arith}
 use native.Mathlib.Decide.{decLt}
 use lib.ListN.{length, getD, take, drop, length-drop}
 use Rattle.rules.specs.Sheet.{Bytes}
-use Rattle.rules.specs.Name.{part}
 use Rattle.rules.specs.Directory.{Stored, blank, nameAt}
 use Rattle.rules.specs.Decision.{Setting, Thing, granted}
 use Rattle.tables.specs.Book.{types, entries, schema, firstAt}
 use Rattle.tables.specs.Laws.Book.{schema-length, type-at}
-use Rattle.tables.specs.Held.{rankAt, placeAt, sizeAt, bytesAt, typeAt, ValueAt, HeldAt}
+use Rattle.tables.specs.Held.{rankAt, placeAt, sizeAt, typeAt, HeldAt}
 use Rattle.tables.specs.Sets.{grantedAt}
 use Rattle.tables.specs.World.{Entries}
+use Rattle.tables.specs.Laws.World as World
 use Rattle.answer_information.specs.Information.{Alike}
 
 -- ---- the entry of number `e`
@@ -40,29 +40,24 @@ module _ {σ : Setting} {es : List Stored} {d : Bytes} {book held : List ℕ} (E
     pub there : e ≤ length es
     there = omega (arith, entry, E .count)
 
+    index : e - 1 < entries book
+    index = omega (arith, some, entry)
+
     -- its rows
     pub rows-of : HeldAt (schema book) d (getD es (e - 1) blank .values) held (firstAt book (e - 1)) (firstAt book e)
     rows-of =
-        subst (λ (n : ℕ). HeldAt (schema book) d (getD es (e - 1) blank .values) held (firstAt book (e - 1)) (firstAt book n)) (sym (index-suc e some))
-        (E .values (e - 1) (omega (arith, some, there)))
+        subst (λ (n : ℕ). HeldAt (schema book) d (getD es (e - 1) blank .values) held (firstAt book (e - 1)) (firstAt book n)) (sym (index-suc e some)) (World.rows-of E (e - 1) index)
 
     -- a row lies within the directory, and so its bytes are few
     module _ (i : ℕ) (from : firstAt book (e - 1) ≤ i) (until : i < firstAt book e) where
-      row-at : ValueAt (schema book) d (getD (getD es (e - 1) blank .values) (i - firstAt book (e - 1)) (part 0 [])) held i
-      row-at =
-          let z : firstAt book (e - 1) + (i - firstAt book (e - 1)) ≡ i = omega (arith, from) in
-          subst (λ (j : ℕ). ValueAt (schema book) d (getD (getD es (e - 1) blank .values) (i - firstAt book (e - 1)) (part 0 [])) held j) z
-          (rows-of .row (i - firstAt book (e - 1)) (omega (arith, from, until, rows-of .count)))
+      before : i < firstAt book (suc (e - 1))
+      before = subst (λ (n : ℕ). i < firstAt book n) (index-suc e some) until
 
       pub row-rank : rankAt held i < types book
-      row-rank = omega (arith, row-at .rank, schema-length (E .fits))
+      row-rank = World.rank-within E (e - 1) index i from before
 
       pub row-within : placeAt held i + sizeAt held i ≤ length d
-      row-within = row-at .within
-
--- the part that the code takes
-pub row-part : (d : Bytes) (held : List ℕ) (i : ℕ) → take (placeAt held i + sizeAt held i - placeAt held i) (drop (placeAt held i) d) ≡ bytesAt d held i
-row-part d held i = let e : placeAt held i + sizeAt held i - placeAt held i ≡ sizeAt held i = omega arith in rw e
+      row-within = World.bytes-within E (e - 1) index i from before
 
 take-short : (n : ℕ) (l : Bytes) → length (take n l) ≤ length l
 take-short zero l = zero-le

@@ -10,8 +10,8 @@ use lib.Seq.{length-take-le, take-append-seam, drop-append-add, drop-drop, take-
 use borrow.Author.Tests.{lt-ltb, le-ltb}
 use Rattle.rules.specs.Sheet.{Bytes, Line, lineBytes, print}
 use Rattle.rules.specs.Laws.Sheet.{line-length}
-use Rattle.write.specs.Put.{putAt}
-use Rattle.write.specs.Laws.Put.{put-append}
+use Rattle.sheet_write.specs.Put.{putAt}
+use Rattle.sheet_write.specs.Laws.Put.{put-append}
 use Rattle.answer_line.specs.Emit.{emitAt, emitLines, Emits}
 
 -- ---- one part

@@ -1,27 +1,26 @@
 -- Laws of `Hits`: the tests of the rules at an index, and the hits as indices that pass.
-use Prim.Native.Nat.{ℕ, suc, _≤_, _<_}
+use Prim.Native.Nat.{ℕ, suc, _<_}
 use mathlib.Core.Path.{_≡_, sym, ap, _∙_}
 use mathlib.Core.Bool.{Bool, true, false, _&&_, or-false}
 use mathlib.Core.List.{List, map}
 use lib.Dec.{eqb}
 use borrow.Author.Tests.{eq-eqb, ne-eqb}
-use lib.ListN.{length, getD, length-map}
-use Rattle.rules.specs.Name.{Name, sameName}
-use Rattle.rules.specs.Directory.{Stored, blank, nameAt, entryOf}
+use lib.ListN.{length, getD}
+use Rattle.rules.specs.Name.{Name}
+use Rattle.rules.specs.Directory.{Stored, blank, entryOf}
 use Rattle.rules.specs.Permission.{Browse, ReturnDN}
 use Rattle.rules.specs.Decision.{Setting, entry, granted}
 use Rattle.rules.specs.Answer as Answer
 use Rattle.rules.specs.Laws.Directory.{Accepted}
 use Rattle.rules.specs.Laws.Tests.{and-left}
 use Rattle.rules.specs.Laws.Hits.{listed-number, child-hit}
-use Rattle.rules.specs.Laws.Resolve.{walk}
+use Rattle.rules.specs.Numbers.{walk}
 use Rattle.rules.specs.declared.Found.the-variants.{At}
 use Rattle.tables.specs.Sets.{grantedAt}
 use Rattle.answer_plan.specs.Plan.{childLines}
 use Rattle.answer_entry.specs.Returned.{browsableAt, returnableAt}
 use Rattle.answer_entry.specs.Passing.{passing}
-use Rattle.answer_entry.specs.Laws.Passing.{gather-passing}
-use Rattle.answer_entry.specs.Laws.Returned.{base-found, entry-at, entry-inside}
+use Rattle.answer_entry.specs.Laws.Passing.{hits-passing}
 use Rattle.answer_list.specs.Hits.{listedAt}
 
 -- ---- what the code finds of an entry
@@ -38,25 +37,17 @@ module _ (σ : Setting) (es : List Stored) (b k : ℕ) where
 -- ---- it is the test of the rules
 
 module _ (σ : Setting) (es : List Stored) (ok : Accepted (σ .schema) es) (n : Name) (b : ℕ) (walked : walk (σ .schema) es 0 n ≡ At b) where
-  base : (b ≤ length es) × (sameName (σ .schema) n (nameAt es b) ≡ true)
-  base = base-found σ es ok n b walked
+  listed-at : (k : ℕ) → k < length es → Answer.listed σ n (entryOf (getD es k blank)) ≡ listedAt σ es b k
+  unfolding listedAt returnableAt browsableAt grantedAt
+  listed-at k l =
+      listed-number σ es ok n b walked k l
+      ∙ ap (λ (x : Bool). eqb (getD es k blank .parent) b && (x && granted σ (getD es k blank .name) entry ReturnDN)) (sym (or-false (granted σ (getD es k blank .name) entry Browse)))
 
-  module _ (k : ℕ) (l : k < length es) where
-    listed-at : Answer.listed σ n (entryOf (getD es k blank)) ≡ listedAt σ es b k
-    unfolding listedAt returnableAt browsableAt grantedAt
-    listed-at =
-        listed-number σ es ok n b (base .0) (base .1) k l
-        ∙ ap (λ (x : Bool). eqb (getD es k blank .parent) b && (x && granted σ (getD es k blank .name) entry ReturnDN)) (sym (or-false (granted σ (getD es k blank .name) entry Browse)))
-
-    listed-lines : listedAt σ es b k ≡ true → Answer.listHit σ n (entryOf (getD es k blank)) ≡ childLines es k
-    unfolding listedAt childLines
-    listed-lines e = child-hit σ es ok n b (base .0) (base .1) k l (and-left (eqb (getD es k blank .parent) b) _ e)
+  listed-lines : (k : ℕ) → k < length es → listedAt σ es b k ≡ true → Answer.listHit σ n (entryOf (getD es k blank)) ≡ childLines es k
+  unfolding listedAt childLines
+  listed-lines k l e = child-hit σ es ok n b walked k l (and-left (eqb (getD es k blank .parent) b) _ e)
 
   -- the hits, by their indices
   pub list-hits : Answer.listHits σ (map entryOf es) n ≡ map (childLines es) (passing (listedAt σ es b) (length es))
   unfolding Answer.listHits
-  list-hits =
-      gather-passing (Answer.listed σ n) (Answer.listHit σ n) (entryOf blank) (map entryOf es) (listedAt σ es b) (childLines es)
-      (λ k l. ap (Answer.listed σ n) (entry-at es k) ∙ listed-at k (entry-inside es k l))
-      (λ k l e. ap (Answer.listHit σ n) (entry-at es k) ∙ listed-lines k (entry-inside es k l) e)
-      ∙ ap (λ (m : ℕ). map (childLines es) (passing (listedAt σ es b) m)) (length-map es entryOf)
+  list-hits = hits-passing es (Answer.listed σ n) (listedAt σ es b) listed-at (Answer.listHit σ n) (childLines es) listed-lines

@@ -2,7 +2,7 @@ use Prim.Native.Nat.{_-_, _≤_, zero-le}
 use native.Mathlib.Omega.{arith}
 use denote.Ref.{now}
 use Rattle.tables.specs.Book.{entries}
-use Rattle.entry_lookup.specs.Laws.Find.{within-of}
+use Rattle.directory_lookup.specs.Laws.Find.{within-of}
 use Rattle.answer_matched.specs.Laws.Way.{Way, way-start, way-end, way-lost, way-ended, way-on}
 use borrow.Author.Needs.{needs}
 use Rattle.answer_matched.proofs.matched.Statement.{statement}
@@ -30,16 +30,16 @@ disclosed-requires c κs = (omega (arith, within-of _ _ _ _ (c .before .before .
 loop-again : tie.Need-loop-again Inv-loop μ-loop
 loop-again c = let a = c .before .before .before .before .before .before .before .before .before .before .args in let L = c .before .before .before .before .before .before .loop in (
   c .disclosed .ensures .0 _ (within-of _ _ _ _ (c .before .before .before .before .down .ensures .0) (c .before .before .number .given .1)) (L .inv .0),
-  way-on (now (a .book)) (now (a .sets)) (now (a .d)) (now (a .q)) (a .place) (a .parts) (L .left) (L .last) (L .from) (L .j) (L .inv .1) _ (c .before .before .before .before .down .ensures .1) _ _ _ (c .before .before .number .given .1) (within-of _ _ _ _ (c .before .before .before .before .down .ensures .0) (c .before .before .number .given .1)) (c .disclosed .ensures .1),
+  way-on (now (a .book)) (now (a .sets)) (now (a .d)) (now (a .q)) (a .place) (a .parts) (L .left) (L .last) (L .from) (L .j) (L .inv .1) (c .before .before .before .before .before .loop-test .taken) _ (c .before .before .before .before .down .ensures .1) _ _ _ (c .before .before .number .given .1) (within-of _ _ _ _ (c .before .before .before .before .down .ensures .0) (c .before .before .number .given .1)) (c .disclosed .ensures .1),
 )
 
 returns-2 : tie.Need-returns-2 Inv-loop μ-loop
 returns-2 c = let a = c .before .before .before .before .before .before .before .before .args in let L = c .before .before .before .before .loop in
-    (L .inv .0, way-lost (now (a .book)) (now (a .sets)) (now (a .d)) (now (a .q)) (a .place) (a .parts) (L .left) (L .last) (L .from) (L .j) (L .inv .1) _ (c .before .before .down .ensures .1) (c .enum-told .given .1) (L .inv .0))
+    (L .inv .0, way-lost (now (a .book)) (now (a .sets)) (now (a .d)) (now (a .q)) (a .place) (a .parts) (L .left) (L .last) (L .from) (L .j) (L .inv .1) (c .before .before .before .loop-test .taken) _ (c .before .before .down .ensures .1) (c .enum-told .given .1) (L .inv .0))
 
 returns-3 : tie.Need-returns-3 Inv-loop μ-loop
 returns-3 c = let a = c .before .before .before .before .before .before .before .before .args in let L = c .before .before .before .before .loop in
-    (L .inv .0, way-ended (now (a .book)) (now (a .sets)) (now (a .d)) (now (a .q)) (a .place) (a .parts) (L .left) (L .last) (L .from) (L .j) (L .inv .1) _ (c .before .before .down .ensures .1) (c .enum-told2 .given .1) (L .inv .0))
+    (L .inv .0, way-ended (now (a .book)) (now (a .sets)) (now (a .d)) (now (a .q)) (a .place) (a .parts) (L .left) (L .last) (L .from) (L .j) (L .inv .1) (c .before .before .before .loop-test .taken) _ (c .before .before .down .ensures .1) (c .enum-told2 .given .1) (L .inv .0))
 
 returns-4 : tie.Need-returns-4 Inv-loop μ-loop
 returns-4 c = let a = c .before .before .before .before .before .args in let L = c .before .loop in

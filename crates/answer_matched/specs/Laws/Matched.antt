@@ -15,9 +15,10 @@ use Rattle.rules.specs.Decision.{Setting, entry, granted}
 use Rattle.rules.specs.Answer.{orName, matchedName}
 use Rattle.rules.specs.Places.{partsOf}
 use Rattle.rules.specs.Laws.Directory.{Accepted}
-use Rattle.rules.specs.Laws.Resolve.{onFound, childFrom, walk, walk-more, entryBy, numbered, filtered, matched-step}
+use Rattle.rules.specs.Numbers.{onFound, childFrom, walk}
+use Rattle.rules.specs.Laws.Resolve.{walk-more, entryBy, numbered, filtered, matched-step}
 use Rattle.tables.specs.Sets.{grantedAt}
-use Rattle.entry_lookup.specs.Laws.Find.{byChild}
+use Rattle.directory_lookup.specs.Laws.Find.{byChild}
 use Rattle.answer_matched.specs.Matched.{lastOf}
 use Rattle.rules.specs.declared.Found.{Found}
 use Rattle.rules.specs.declared.Found.the-variants.{At, Nothing}

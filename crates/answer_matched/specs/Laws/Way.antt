@@ -1,10 +1,10 @@
 -- The ways through the loop that looks for the matched name.
-use Prim.Native.Nat.{ℕ, zero, suc, _-_, _≤_}
+use Prim.Native.Nat.{ℕ, zero, suc, _-_, _≤_, _<_}
 use mathlib.Core.Path.{_≡_, refl, sym, ap, _∙_}
 use mathlib.Core.List.{List, map}
 use native.Mathlib.Omega.{arith}
-use lib.ListN.{length, drop}
-use Rattle.rules.specs.Sheet.{Bytes, Sheet, frontOf}
+use lib.ListN.{length}
+use Rattle.rules.specs.Sheet.{Bytes, Sheet}
 use Rattle.rules.specs.Name.{Name}
 use Rattle.rules.specs.Directory.{Stored, nameAt, entryOf}
 use Rattle.rules.specs.Decision.{Setting}
@@ -12,25 +12,25 @@ use Rattle.rules.specs.Answer.{matchedName}
 use Rattle.rules.specs.Places.{linesAt, partsOf}
 use Rattle.tables.specs.Book.{entries, width}
 use Rattle.tables.specs.World.{Entries, World}
-use Rattle.entry_lookup.specs.Names.{nextOf}
-use Rattle.entry_lookup.specs.Find.{stepOf}
-use Rattle.entry_lookup.specs.Laws.Find.{byStep, name-step}
+use Rattle.sheet_line.specs.Line.{takenAt}
+use Rattle.directory_lookup.specs.Find.{stepOf}
+use Rattle.directory_lookup.specs.Laws.Find.{byStep, name-step}
 use Rattle.answer_matched.specs.Matched.{lastOf}
 use Rattle.answer_matched.specs.Laws.Matched.{descend, descend-matched}
-use Rattle.entry_lookup.specs.declared.find.Step.{Step}
-use Rattle.entry_lookup.specs.declared.find.Step.the-variants.{To, Lost, Ended}
+use Rattle.directory_lookup.specs.declared.find.Step.{Step}
+use Rattle.directory_lookup.specs.declared.find.Step.the-variants.{To, Lost, Ended}
 
 descend-end : (σ : Setting) (es : List Stored) (from last left : ℕ) (s : Sheet) → left ≤ 0 → descend σ es from last (partsOf left s) ≡ last
 unfolding descend partsOf
 descend-end σ es from last zero s h = refl
 descend-end σ es from last (suc n) s h = absurd (omega arith)
 
-descend-step : (σ : Setting) (es : List Stored) (from last w : ℕ) (s : Bytes) (j n : ℕ)
+descend-step : (σ : Setting) (es : List Stored) (from last w : ℕ) (s : Bytes) (j n : ℕ) → 0 < n
     → descend σ es from last (partsOf n (linesAt w s j))
-    ≡ byStep last last (λ k next. descend σ es k (lastOf σ es k last) (partsOf (n - 1) (linesAt w s next))) (stepOf (σ .schema) es from w s j (nextOf n (frontOf w (drop j s))))
+    ≡ byStep last last (λ k next. descend σ es k (lastOf σ es k last) (partsOf (n - 1) (linesAt w s next))) (stepOf (σ .schema) es from s (takenAt w s j))
 unfolding descend
-descend-step σ es from last w s j n =
-    name-step (σ .schema) es from w s j n (descend σ es from last) last last (λ k ps. descend σ es k (lastOf σ es k last) ps) refl (λ p ps. refl)
+descend-step σ es from last w s j n h =
+    name-step (σ .schema) es from w s j n h (descend σ es from last) last last (λ k ps. descend σ es k (lastOf σ es k last) ps) refl (λ p ps. refl)
 
 module _ (book sets : List ℕ) (d q : Bytes) (place parts : ℕ) where
   -- number `r` has the matched name
@@ -58,14 +58,13 @@ module _ (book sets : List ℕ) (d q : Bytes) (place parts : ℕ) where
     pub way-end : left ≤ 0 → last ≤ entries book → Matched last
     way-end e l = reached l (λ σ es p held h. descend-end σ es from last left (linesAt (width book) q j) e)
 
-    module _ (x : Step)
-        (is : (σ : Setting) (es : List Stored) (held : List ℕ) → Entries σ es d book held → x ≡ stepOf (σ .schema) es from (width book) q j (nextOf left (frontOf (width book) (drop j q))))
+    module _ (more : 0 < left) (x : Step) (is : (σ : Setting) (es : List Stored) (held : List ℕ) → Entries σ es d book held → x ≡ stepOf (σ .schema) es from q (takenAt (width book) q j))
       where
         turn : (y : Step) → x ≡ y → (σ : Setting) (es : List Stored) (p : Bytes) (held : List ℕ) → World σ es d p book held sets
             → descend σ es from last (partsOf left (linesAt (width book) q j))
             ≡ byStep last last (λ k next. descend σ es k (lastOf σ es k last) (partsOf (left - 1) (linesAt (width book) q next))) y
         turn y e σ es p held h =
-            descend-step σ es from last (width book) q j left
+            descend-step σ es from last (width book) q j left more
             ∙ ap (byStep last last (λ k next. descend σ es k (lastOf σ es k last) (partsOf (left - 1) (linesAt (width book) q next)))) (sym (is σ es held (h .entries)) ∙ e)
 
         pub way-lost : x ≡ Lost → last ≤ entries book → Matched last

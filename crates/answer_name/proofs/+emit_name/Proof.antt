@@ -1,4 +1,5 @@
-use Rattle.answer_name.specs.Laws.Name.{parent-low, named-root, named-on}
+use Rattle.answer_name.specs.Laws.Name.{named-root, named-on}
+use Rattle.tables.specs.Laws.World.{parent-falls}
 use Rattle.tables.specs.Book.{width}
 use denote.Ref.{now}
 use native.Mathlib.Omega.{arith}
@@ -71,7 +72,7 @@ emit-name-emit-name-requires : (t : ℕ) → emit-name-lts.Need-emit-name-requir
   emit-part-reads.Learnt,
 ) (emit-name-at t) emit-name.Post
 emit-name-emit-name-requires t c κs = let P = c .before .before .before .before .before .pre in
-    let h = parent-low (P .1 .0 .3) (c .before .before .before .before .before .args .e - 1) (omega (arith, P .1 .2, c .before .before .if1 .left)) in
+    let h = parent-falls (P .1 .0 .3) (c .before .before .before .before .before .args .e - 1) (omega (arith, P .1 .2, c .before .before .if1 .left)) in
     (omega (arith, h, P .0, c .before .before .if1 .left), (P .1 .0, P .1 .1, omega (arith, h, P .1 .2)))
 
 emit-name-emit-part-requires : (t : ℕ) → emit-name-lts.Need-emit-part-requires (
@@ -82,7 +83,7 @@ emit-name-emit-part-requires : (t : ℕ) → emit-name-lts.Need-emit-part-requir
 ) (emit-name-at t) emit-name.Post
 emit-name-emit-part-requires t c κs = let P = c .before .before .before .before .before .before .before .before .before .pre in
     let g = c .before .before .before .before .before .before .if1 .left in
-    let h = parent-low (P .1 .0 .3) (c .before .before .before .before .before .before .before .before .before .args .e - 1) (omega (arith, P .1 .2, g)) in
+    let h = parent-falls (P .1 .0 .3) (c .before .before .before .before .before .before .before .before .before .args .e - 1) (omega (arith, P .1 .2, g)) in
     (P .1 .0, omega (arith, h, P .1 .0 .3 .fits .few-entries, P .1 .1, P .1 .2, c .before .before .before .emit-name .ensures .0), omega (arith, P .1 .2, g))
 
 emit-name-same-length : (t : ℕ) → emit-name-lts.Need-same-length (
@@ -101,7 +102,7 @@ emit-name-returns-2 : (t : ℕ) → emit-name-lts.Need-returns-2 (
 ) (emit-name-at t) emit-name.Post
 emit-name-returns-2 t c = let P = c .before .before .before .before .before .before .before .before .before .before .before .before .pre in
     let g = c .before .before .before .before .before .before .before .before .before .if1 .left in
-    let h = parent-low (P .1 .0 .3) (c .before .before .before .before .before .before .before .before .before .before .before .before .args .e - 1) (omega (arith, P .1 .2, g)) in
+    let h = parent-falls (P .1 .0 .3) (c .before .before .before .before .before .before .before .before .before .before .before .before .args .e - 1) (omega (arith, P .1 .2, g)) in
     let p = c .before .before .before .before .before .before .emit-name .ensures in
     let q = c .before .before .emit-part .ensures in
     (omega (arith, h, g, p .0, q .0), λ σ es held E. named-on E (c .before .before .before .before .before .before .before .before .before .before .before .before .args .e) g (P .1 .2) (p .1 σ es held E) (q .1 σ es held E))

@@ -1,7 +1,8 @@
 use denote.Ref.{now}
 use native.Mathlib.Omega.{arith}
 use Prim.Native.Nat.{_+_, _-_, _≤_}
-use Rattle.answer_name.specs.Laws.Name.{parent-low, Climbed, climb-start, climb-on, climb-end}
+use Rattle.answer_name.specs.Laws.Name.{Climbed, climb-start, climb-on, climb-end}
+use Rattle.tables.specs.Laws.World.{parent-falls}
 use Rattle.tables.specs.Book.{entries}
 use borrow.Author.Needs.{needs}
 use Rattle.answer_name.proofs.depth.Statement.{statement}
@@ -31,13 +32,13 @@ add-n c = omega (arith, c .before .before .loop .inv .1, c .before .before .befo
 loop-less : tie.Need-loop-less Inv-loop μ-loop
 loop-less c = let L = c .before .before .loop in
     let t = c .before .loop-test .taken in
-    omega (arith, t, parent-low (c .before .before .before .pre .0 .1 .3) (L .j - 1) (omega (arith, t, L .inv .0)))
+    omega (arith, t, parent-falls (c .before .before .before .pre .0 .1 .3) (L .j - 1) (omega (arith, t, L .inv .0)))
 
 loop-again : tie.Need-loop-again Inv-loop μ-loop
 loop-again c = let a = c .before .before .before .args in
     let L = c .before .before .loop in
     let t = c .before .loop-test .taken in
-    let h = parent-low (c .before .before .before .pre .0 .1 .3) (L .j - 1) (omega (arith, t, L .inv .0)) in
+    let h = parent-falls (c .before .before .before .pre .0 .1 .3) (L .j - 1) (omega (arith, t, L .inv .0)) in
     (omega (arith, h, t, L .inv .0), omega (arith, h, t, L .inv .1), climb-on (now (a .book)) (a .e) (L .n) (L .j) (omega (arith, t)) (L .inv .0) (L .inv .2))
 
 returns : tie.Need-returns Inv-loop μ-loop

@@ -18,31 +18,28 @@ use Rattle.answer_operation.proofs.plan_of.Statement.{statement}
 use Rattle.answer_operation.proofs.plan_of.Tie as tie
 
 returns : tie.Need-returns
-returns c = let A = c .before .before .before .before .before .before .args in let b = now (A .book) in let K = c .before .before .before .before .before .before .pre .0 .2 .entries in let R = c .read .result in (c .read .ensures .0 (now (A .hits)), λ σ es x w N C B. by-read (width b) (now (A .q)) (A .asked) (λ (o : Operation). Chooses (schema b) (selectionOf o) (A .choice) → planned σ es (selectionOf o) R (now (A .hits)) ≡ answer σ (map entryOf es) (x .base) o) (x .operation) (N .operation) (c .before .if1 .taken) (λ s. λ ch. c .read .ensures .1 σ es (x .base) s (now (A .hits)) w ch B) C)
+returns c = let A = c .before .before .before .before .before .before .args in let b = now (A .book) in let K = c .before .before .before .before .before .before .pre .0 .2 .entries in let R = c .read .result in (c .read .ensures .0 (now (A .hits)), λ σ es G x w N C B. by-read G (width b) (now (A .q)) (A .asked) (λ (o : Operation). Chooses (schema b) (selectionOf o) (A .choice) → planned σ es (selectionOf o) R (now (A .hits)) ≡ answer σ (map entryOf es) (x .base) o) (x .operation) (N .operation) (c .before .if1 .taken) (λ s. λ ch. c .read .ensures .1 σ es (x .base) s (now (A .hits)) w ch B) C)
 
-element-copy-out-w : tie.Need-element-copy-out-w
-element-copy-out-w c = let A = c .before .before .before .before .before .before .before .args in let b = now (A .book) in let K = c .before .before .before .before .before .before .before .pre .0 .2 .entries in omega (arith, K .fits .size)
-
-value-at-requires : tie.Need-value-at-requires
-value-at-requires c κs = let A = c .before .before .before .before .before .before .before .before .args in let b = now (A .book) in let K = c .before .before .before .before .before .before .before .before .pre .0 .2 .entries in let N = c .before .before .before .before .before .before .before .before .pre .3 in value-within (width b) (now (A .q)) (A .asked) (N .0 .operation) (N .1 .operation) (c .before .if2 .taken)
+part-requires : tie.Need-part-requires
+part-requires c κs = let A = c .before .before .before .before .before .before .before .args in let b = now (A .book) in let N = c .before .before .before .before .before .before .before .pre .3 in value-within (N .0) (width b) (now (A .q)) (A .asked) (N .1 .operation) (N .2 .operation) (c .if2 .taken)
 
 returns-2 : tie.Need-returns-2
-returns-2 c = let A = c .before .before .before .before .before .before .before .before .before .before .args in let b = now (A .book) in let K = c .before .before .before .before .before .before .before .before .before .before .pre .0 .2 .entries in let R = c .compare .result in (c .compare .ensures .0 (now (A .hits)), λ σ es x w N C B. by-compare (width b) (now (A .q)) (A .asked) (λ (o : Operation). Chooses (schema b) (selectionOf o) (A .choice) → planned σ es (selectionOf o) R (now (A .hits)) ≡ answer σ (map entryOf es) (x .base) o) (x .operation) (N .operation) (c .before .before .before .if2 .taken) (λ t v et ev. λ ch. c .compare .ensures .1 σ es (x .base) nothingSelected (now (A .hits)) w B ∙ ap₂ (λ (i : ℕ) (u : List ℕ). answer σ (map entryOf es) (x .base) (compare i u)) et (c .before .value-at .ensures ∙ ev)) C)
+returns-2 c = let A = c .before .before .before .before .before .before .before .before .before .args in let b = now (A .book) in let R = c .compare .result in (c .compare .ensures .0 (now (A .hits)), λ σ es G x w N C B. by-compare G (width b) (now (A .q)) (A .asked) (λ (o : Operation). Chooses (schema b) (selectionOf o) (A .choice) → planned σ es (selectionOf o) R (now (A .hits)) ≡ answer σ (map entryOf es) (x .base) o) (x .operation) (N .operation) (c .before .before .if2 .taken) (λ t v et ev. λ ch. c .compare .ensures .1 σ es (x .base) nothingSelected (now (A .hits)) w B ∙ ap₂ (λ (i : ℕ) (u : List ℕ). answer σ (map entryOf es) (x .base) (compare i u)) et (c .before .part .ensures ∙ ev)) C)
 
 list-requires : tie.Need-list-requires
 list-requires c κs = let A = c .before .before .before .before .before .before .before .before .before .before .args in let b = now (A .book) in let K = c .before .before .before .before .before .before .before .before .before .before .pre .0 .2 .entries in (c .before .before .before .before .before .before .before .before .before .before .pre .1, c .before .before .before .before .before .before .before .before .before .before .pre .2, (now (A .d), now (A .p), now (A .held), c .before .before .before .before .before .before .before .before .before .before .pre .0))
 
 returns-3 : tie.Need-returns-3
-returns-3 c = let A = c .before .before .before .before .before .before .before .before .before .before .before .args in let b = now (A .book) in let K = c .before .before .before .before .before .before .before .before .before .before .before .pre .0 .2 .entries in let R = c .list .result in (c .list .ensures .0, λ σ es x w N C B. by-list (width b) (now (A .q)) (A .asked) (λ (o : Operation). Chooses (schema b) (selectionOf o) (A .choice) → planned σ es (selectionOf o) R (c .list .last .1 .1 .1 .1 .0) ≡ answer σ (map entryOf es) (x .base) o) (x .operation) (N .operation) (c .before .before .if3 .taken) (λ m e. λ ch. c .list .ensures .1 σ es (now (A .d)) (now (A .p)) (now (A .held)) (x .base) nothingSelected w B ∙ ap (λ (i : ℕ). answer σ (map entryOf es) (x .base) (list i)) e) C)
+returns-3 c = let A = c .before .before .before .before .before .before .before .before .before .before .before .args in let b = now (A .book) in let K = c .before .before .before .before .before .before .before .before .before .before .before .pre .0 .2 .entries in let R = c .list .result in (c .list .ensures .0, λ σ es G x w N C B. by-list G (width b) (now (A .q)) (A .asked) (λ (o : Operation). Chooses (schema b) (selectionOf o) (A .choice) → planned σ es (selectionOf o) R (c .list .last .1 .1 .1 .1 .0) ≡ answer σ (map entryOf es) (x .base) o) (x .operation) (N .operation) (c .before .before .if3 .taken) (λ m e. λ ch. c .list .ensures .1 σ es (now (A .d)) (now (A .p)) (now (A .held)) (x .base) nothingSelected w B ∙ ap (λ (i : ℕ). answer σ (map entryOf es) (x .base) (list i)) e) C)
 
 search-requires : tie.Need-search-requires
-search-requires c κs = let A = c .before .before .before .before .before .before .before .before .before .before .args in let b = now (A .book) in let K = c .before .before .before .before .before .before .before .before .before .before .pre .0 .2 .entries in (c .before .before .before .before .before .before .before .before .before .before .pre .0, c .before .before .before .before .before .before .before .before .before .before .pre .1, c .before .before .before .before .before .before .before .before .before .before .pre .2, omega (arith, K .fits .narrow, c .before .before .before .before .before .before .before .before .before .before .pre .3 .1 .short))
+search-requires c κs = let A = c .before .before .before .before .before .before .before .before .before .before .args in let b = now (A .book) in let K = c .before .before .before .before .before .before .before .before .before .before .pre .0 .2 .entries in (c .before .before .before .before .before .before .before .before .before .before .pre .0, c .before .before .before .before .before .before .before .before .before .before .pre .1, c .before .before .before .before .before .before .before .before .before .before .pre .2, omega (arith, K .fits .narrow, c .before .before .before .before .before .before .before .before .before .before .pre .3 .2 .short))
 
 returns-4 : tie.Need-returns-4
-returns-4 c = let A = c .before .before .before .before .before .before .before .before .before .before .before .args in let b = now (A .book) in let K = c .before .before .before .before .before .before .before .before .before .before .before .pre .0 .2 .entries in let R = c .search .result in (c .search .ensures .0, λ σ es x w N C B. by-search (width b) (now (A .q)) (A .asked) (λ (o : Operation). Chooses (schema b) (selectionOf o) (A .choice) → planned σ es (selectionOf o) R (c .search .last .1 .1 .1 .1 .1 .1 .1 .1 .1 .1 .0) ≡ answer σ (map entryOf es) (x .base) o) (x .operation) (N .operation) (c .before .before .before .before .before .before .if1 .left) (c .before .before .before .before .if2 .left) (c .before .before .if3 .left) (λ s el eb rd. λ ch. c .search .ensures .1 σ es (x .base) s w B el eb rd) C)
+returns-4 c = let A = c .before .before .before .before .before .before .before .before .before .before .before .args in let b = now (A .book) in let K = c .before .before .before .before .before .before .before .before .before .before .before .pre .0 .2 .entries in let R = c .search .result in (c .search .ensures .0, λ σ es G x w N C B. by-search G (width b) (now (A .q)) (A .asked) (λ (o : Operation). Chooses (schema b) (selectionOf o) (A .choice) → planned σ es (selectionOf o) R (c .search .last .1 .1 .1 .1 .1 .1 .1 .1 .0) ≡ answer σ (map entryOf es) (x .base) o) (x .operation) (N .operation) (c .before .before .before .before .before .before .if1 .left) (c .before .before .before .before .if2 .left) (c .before .before .if3 .left) (λ s sk. λ ch. c .search .ensures .1 σ es G (x .base) s w B sk) C)
 
 pub plan-of-spec : {M : Type 1} → statement M
 plan-of-spec =
     tie.close
-    (tie.spec (λ c κs. search needs) returns element-copy-out-w value-at-requires (λ c κs. search needs) returns-2 list-requires returns-3
+    (tie.spec (λ c κs. search needs) returns part-requires (λ c κs. search needs) returns-2 list-requires returns-3
     search-requires returns-4)

@@ -11,8 +11,8 @@ use Rattle.rules.specs.Sheet.{Bytes, Line, print}
 use Rattle.rules.specs.Serve.{fitting}
 use Rattle.answer_line.specs.Emit.{Emits}
 use Rattle.answer_line.specs.Laws.Emit.{emit-all, put-front}
-use Rattle.reply.specs.declared.Reply.{Reply}
-use Rattle.reply.specs.Reply.{replyOf, leftOf, Replies}
+use Rattle.answer_reply.specs.declared.Reply.{Reply}
+use Rattle.answer_reply.specs.Reply.{replyOf, leftOf, Replies}
 
 module _ (w : ℕ) (ls : List Line) (out : Bytes) where
   -- the answer does not fit

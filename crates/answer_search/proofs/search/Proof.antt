@@ -18,7 +18,7 @@ use Rattle.answer_search.proofs.search.Tie as tie
 returns : tie.Need-returns
 returns c = let A = c .before .before .before .before .before .before .args in let b = now (A .book) in let K = c .before .before .before .before .before .before .pre .0 .2 .entries in (
   none-sound (entries b) (A .target .base) (A .target .missing) (c .before .before .before .before .before .before .pre .1) _ _ 4 (c .absent .ensures),
-  λ σ es n s w q l u h. search-none σ es (w .entries .accepted) n (A .target .base) (A .target .missing) q _ _ (c .before .enum-told .given .1) s (c .absent .ensures),
+  λ σ es g n s w q h. search-none σ es (w .entries .accepted) n (A .target .base) (A .target .missing) q _ _ (c .before .enum-told .given .1) s (c .absent .ensures),
 )
 
 schema-requires : tie.Need-schema-requires
@@ -31,7 +31,7 @@ note-requires : tie.Need-note-requires
 note-requires c κs = let A = c .before .before .before .before .before .before .before .before .before .before .args in let b = now (A .book) in let K = c .before .before .before .before .before .before .before .before .before .before .pre .0 .2 .entries in (K .fits .wide, c .before .before .before .before .before .before .before .before .before .before .pre .3, search needs)
 
 mask-requires : tie.Need-mask-requires
-mask-requires c κs = c .before .before .note .ensures .0 .few
+mask-requires c κs = c .before .before .note .ensures .0 .placed .few
 
 found-requires : tie.Need-found-requires
 found-requires c κs = let A = c .before .before .before .before .before .before .before .before .before .before .before .before .before .before .before .before .args in let b = now (A .book) in let K = c .before .before .before .before .before .before .before .before .before .before .before .before .before .before .before .before .pre .0 .2 .entries in (c .before .before .before .before .before .before .before .before .before .before .before .before .before .before .before .before .pre .0, c .before .before .before .before .before .before .before .before .before .before .before .before .before .before .before .before .pre .2, c .before .before .before .before .before .note .ensures .0, (subst (λ (x : List ℕ). Typed x (c .before .before .before .before .before .note .last .1 .1 .1 .1 .0) (c .before .before .before .before .before .note .result)) (c .before .before .before .before .before .before .before .before .schema .ensures) (c .before .before .before .before .before .note .ensures .1)), c .before .before .mask .ensures)
@@ -43,11 +43,11 @@ returns-2 : tie.Need-returns-2
 returns-2 c = let A = c .before .before .before .before .before .before .before .before .before .before .before .before .before .before .before .before .before .before .before .args in let b = now (A .book) in let K = c .before .before .before .before .before .before .before .before .before .before .before .before .before .before .before .before .before .before .before .pre .0 .2 .entries in let told = c .before .before .before .before .before .before .before .before .before .before .before .before .before .before .base .given in
     let found = c .before .before .found .ensures in
     let within : told .0 .0 ≤ entries b = c .before .before .before .before .before .before .before .before .before .before .before .before .before .before .before .before .before .before .before .pre .1 .found (told .0 .0) (told .1) in (
-      some-sound (entries b) (A .target .base) (A .target .missing) (c .before .before .before .before .before .before .before .before .before .before .before .before .before .before .before .before .before .before .before .pre .1) _ _ 4 _ _ (found .0) _ (A .limit) (c .returned .ensures),
-      λ σ es n s w q l u h.
+      some-sound (entries b) (A .target .base) (A .target .missing) (c .before .before .before .before .before .before .before .before .before .before .before .before .before .before .before .before .before .before .before .pre .1) _ _ 4 _ _ (found .0) _ (A .query .limit) (c .returned .ensures),
+      λ σ es g n s w q h.
           search-some σ es (w .entries .accepted) n (A .target .base) (A .target .missing) q _ _ (told .0 .0) (told .1) _
           (c .before .may-entry .ensures σ es (now (A .d)) (now (A .p)) b (now (A .held)) w (omega (arith, within, w .entries .count)))
-          _ (found .0 .room) s (A .limit) (A .subset) l u (found .1 σ es (s .filter) w (ap (λ (i : ℕ). Request.filter 16 128 (linesAt (width b) (now (A .q)) i) (λ f left rest. accept f)) (c .before .before .before .before .before .before .before .before .note .ensures .2) ∙ h)) (c .returned .ensures),
+          _ (found .0 .room) s (A .query .limit) (A .query .subset) (h .limit) (h .subset) (found .1 σ es g (s .filter) w (ap (λ (i : ℕ). Request.filter g 16 128 (linesAt (width b) (now (A .q)) i) (λ f left rest. accept f)) (c .before .before .before .before .before .before .before .before .note .ensures .2) ∙ h .reads)) (c .returned .ensures),
     )
 
 pub search-spec : {M : Type 1} → statement M

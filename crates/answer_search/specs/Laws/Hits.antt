@@ -1,29 +1,27 @@
 -- Laws of `Hits`: the tests of the rules at an index, and the hits as indices that pass.
-use Prim.Native.Nat.{ℕ, suc, _+_, _≤_, _<_}
+use Prim.Native.Nat.{ℕ, suc, _+_, _<_}
 use mathlib.Core.Path.{_≡_, refl, ap, _∙_}
 use mathlib.Core.Bool.{Bool, true, false, _&&_, and-assoc}
 use mathlib.Core.List.{List, map}
 use native.Mathlib.Numerals.{add-one}
 use lib.Dec.{eqb}
 use borrow.Author.Tests.{eq-eqb, ne-eqb}
-use lib.ListN.{length, getD, length-map}
-use Rattle.rules.specs.Name.{Name, sameName}
+use lib.ListN.{length, getD}
+use Rattle.rules.specs.Name.{Name}
 use Rattle.rules.specs.Directory.{Stored, blank, nameAt, entryOf}
 use Rattle.rules.specs.Decision.{Setting}
 use Rattle.rules.specs.Filter.{Filter}
 use Rattle.rules.specs.Request.{Search}
 use Rattle.rules.specs.Answer as Answer
 use Rattle.rules.specs.Laws.Directory.{Accepted}
-use Rattle.rules.specs.Laws.ByNumber.{climbs}
-use Rattle.rules.specs.Laws.Hits.{withinNumber, candidate-number}
-use Rattle.rules.specs.Laws.Resolve.{walk}
+use Rattle.rules.specs.Numbers.{climbs, withinNumber, walk}
+use Rattle.rules.specs.Laws.Hits.{candidate-number}
 use Rattle.rules.specs.declared.Found.the-variants.{At}
 use Rattle.tables.specs.Sets.{grantedAt}
 use Rattle.answer_plan.specs.Plan.{foundLines, informationAt}
 use Rattle.answer_entry.specs.Returned.{browsableAt, returnableAt}
 use Rattle.answer_entry.specs.Passing.{passing}
-use Rattle.answer_entry.specs.Laws.Passing.{gather-passing}
-use Rattle.answer_entry.specs.Laws.Returned.{base-found, entry-at, entry-inside}
+use Rattle.answer_entry.specs.Laws.Passing.{hits-passing}
 use Rattle.filter_tree.specs.Tree.{matchesAt}
 use Rattle.answer_search.specs.Hits.{foundAt}
 
@@ -57,26 +55,19 @@ module _ (σ : Setting) (es : List Stored) (b subset : ℕ) (f : Filter) (k : �
 
 -- ---- they are the tests of the rules
 
-module _ (σ : Setting) (es : List Stored) (ok : Accepted (σ .schema) es) (n : Name) (b : ℕ) (walked : walk (σ .schema) es 0 n ≡ At b) where
-  base : (b ≤ length es) × (sameName (σ .schema) n (nameAt es b) ≡ true)
-  base = base-found σ es ok n b walked
+module _ (σ : Setting) (es : List Stored) (ok : Accepted (σ .schema) es) (n : Name) (b : ℕ) (walked : walk (σ .schema) es 0 n ≡ At b) (r : Search) where
+  found-at : (k : ℕ) → k < length es → Answer.found σ n r (entryOf (getD es k blank)) ≡ foundAt σ es b (r .subset) (r .filter) k
+  unfolding Answer.found foundAt matchesAt returnableAt browsableAt grantedAt
+  found-at k l =
+      ap (λ (x : Bool). x && matchesAt σ es (r .filter) k) (candidate-number σ es ok n b walked k l (r .subset))
+      ∙ and-assoc (withinNumber es (r .subset) b (suc k)) (returnableAt σ es (suc k) (eqb (suc k) b)) (matchesAt σ es (r .filter) k)
 
-  module _ (k : ℕ) (l : k < length es) where
-    found-at : (r : Search) → Answer.found σ n r (entryOf (getD es k blank)) ≡ foundAt σ es b (r .subset) (r .filter) k
-    unfolding Answer.found foundAt matchesAt returnableAt browsableAt grantedAt
-    found-at r =
-        ap (λ (x : Bool). x && matchesAt σ es (r .filter) k) (candidate-number σ es ok n b (base .0) (base .1) k l (r .subset))
-        ∙ and-assoc (withinNumber es (r .subset) b (suc k)) (returnableAt σ es (suc k) (eqb (suc k) b)) (matchesAt σ es (r .filter) k)
-
-    found-lines : (r : Search) → Answer.searchHit σ r (entryOf (getD es k blank)) ≡ foundLines σ es (r .selection) k
-    unfolding Answer.searchHit foundLines informationAt entryOf nameAt
-    found-lines r = refl
+  found-lines : (k : ℕ) → Answer.searchHit σ r (entryOf (getD es k blank)) ≡ foundLines σ es (r .selection) k
+  unfolding Answer.searchHit foundLines informationAt entryOf nameAt
+  found-lines k = refl
 
   -- the hits, by their indices
-  pub search-hits : (r : Search) → Answer.searchHits σ (map entryOf es) n r ≡ map (foundLines σ es (r .selection)) (passing (foundAt σ es b (r .subset) (r .filter)) (length es))
+  pub search-hits : Answer.searchHits σ (map entryOf es) n r ≡ map (foundLines σ es (r .selection)) (passing (foundAt σ es b (r .subset) (r .filter)) (length es))
   unfolding Answer.searchHits
-  search-hits r =
-      gather-passing (Answer.found σ n r) (Answer.searchHit σ r) (entryOf blank) (map entryOf es) (foundAt σ es b (r .subset) (r .filter)) (foundLines σ es (r .selection))
-      (λ k l. ap (Answer.found σ n r) (entry-at es k) ∙ found-at k (entry-inside es k l) r)
-      (λ k l e. ap (Answer.searchHit σ r) (entry-at es k) ∙ found-lines k (entry-inside es k l) r)
-      ∙ ap (λ (m : ℕ). map (foundLines σ es (r .selection)) (passing (foundAt σ es b (r .subset) (r .filter)) m)) (length-map es entryOf)
+  search-hits =
+      hits-passing es (Answer.found σ n r) (foundAt σ es b (r .subset) (r .filter)) found-at (Answer.searchHit σ r) (foundLines σ es (r .selection)) (λ k l e. found-lines k)

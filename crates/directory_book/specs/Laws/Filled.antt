@@ -1,14 +1,14 @@
 -- Laws of `filled`: the counts and the columns of the book are the notes'.
-use Prim.Native.Nat.{ℕ, _+_, _≤_, _<_}
+use Prim.Native.Nat.{ℕ, _+_, _*_, _≤_, _<_}
 use mathlib.Core.Path.{_≡_, sym, ap, _∙_}
 use mathlib.Core.List.{List}
 use native.Mathlib.Omega.{arith}
 use lib.ListN.{length, getD, take, drop, set, length-set}
-use lib.Seq.{getD-set-same, getD-set-other, getD-take, getD-drop}
-use Rattle.tables.specs.Book.{width, types, entries, schema, positions, parents, naming, lengths, firstAt}
-use Rattle.directory.specs.declared.Notes.{Notes}
-use Rattle.directory_book.specs.Filled.{put, filled}
-use Rattle.directory_book.specs.Laws.Put.{put-length, put-here, put-before, number-at}
+use lib.Seq.{getD-set-same, getD-set-other}
+use Rattle.tables.specs.Book.{width, types, entries, schema, placeAt, parentAt, namingAt, lengthAt, firstAt}
+use Rattle.directory_sheet.specs.declared.Notes.{Notes}
+use Rattle.directory_book.specs.Filled.{put, placesOf, filled}
+use Rattle.directory_book.specs.Laws.Put.{put-length, put-here, put-before, number-at, number-of, places-length, place-of}
 
 -- the notes' arrays have their lengths, and no more is counted than they hold
 pub record Fit (r : Notes) : Type 0 where
@@ -28,10 +28,10 @@ pub record Copied (w : ℕ) (r : Notes) (b : List ℕ) : Type 0 where
   pub types-are : types b ≡ r .types
   pub entries-are : entries b ≡ r .count
   pub schema-is : schema b ≡ take (r .types) (r .schema)
-  pub positions-are : positions b ≡ take (r .count) (r .at)
-  pub parents-are : parents b ≡ take (r .count) (r .parents)
-  pub naming-is : naming b ≡ take (r .count) (r .naming)
-  pub lengths-are : lengths b ≡ take (r .count) (r .lengths)
+  pub place-is : (k : ℕ) → k < r .count → placeAt b k ≡ getD (r .at) k 0 + 5 * w
+  pub parent-is : (k : ℕ) → k < r .count → parentAt b k ≡ getD (r .parents) k 0
+  pub naming-is : (k : ℕ) → k < r .count → namingAt b k ≡ getD (r .naming) k 0
+  pub length-is : (k : ℕ) → k < r .count → lengthAt b k ≡ getD (r .lengths) k 0
   pub first-is : (k : ℕ) → k ≤ r .count → firstAt b k ≡ getD (r .first) k 0
 
 module _ (w : ℕ) (r : Notes) (b : List ℕ) (fit : Fit r) (size : length b ≡ 1353) where
@@ -47,7 +47,7 @@ module _ (w : ℕ) (r : Notes) (b : List ℕ) (fit : Fit r) (size : length b ≡
   b₁ = put b₀ 8 (r .schema) (r .types)
 
   abbrev b₂ : List ℕ
-  b₂ = put b₁ 72 (r .at) n
+  b₂ = put b₁ 72 (placesOf w (r .at)) n
 
   abbrev b₃ : List ℕ
   b₃ = put b₂ 328 (r .parents) n
@@ -64,8 +64,11 @@ module _ (w : ℕ) (r : Notes) (b : List ℕ) (fit : Fit r) (size : length b ≡
   size₁ : length b₁ ≡ 1353
   size₁ = put-length b₀ 8 (r .schema) (r .types) (omega (arith, size₀)) (omega arith) ∙ size₀
 
+  places : n ≤ length (placesOf w (r .at))
+  places = omega (arith, places-length w (r .at), fit .at, fit .count)
+
   size₂ : length b₂ ≡ 1353
-  size₂ = put-length b₁ 72 (r .at) n (omega (arith, size₁)) (omega arith) ∙ size₁
+  size₂ = put-length b₁ 72 (placesOf w (r .at)) n (omega (arith, size₁)) places ∙ size₁
 
   size₃ : length b₃ ≡ 1353
   size₃ = put-length b₂ 328 (r .parents) n (omega (arith, size₂)) (omega arith) ∙ size₂
@@ -86,7 +89,7 @@ module _ (w : ℕ) (r : Notes) (b : List ℕ) (fit : Fit r) (size : length b ≡
   before₁ j m h = put-before b₀ 8 (r .schema) (r .types) (omega (arith, size₀)) (omega arith) j m h
 
   before₂ : (j m : ℕ) → j + m ≤ 72 → take m (drop j b₂) ≡ take m (drop j b₁)
-  before₂ j m h = put-before b₁ 72 (r .at) n (omega (arith, size₁)) (omega arith) j m h
+  before₂ j m h = put-before b₁ 72 (placesOf w (r .at)) n (omega (arith, size₁)) places j m h
 
   before₃ : (j m : ℕ) → j + m ≤ 328 → take m (drop j b₃) ≡ take m (drop j b₂)
   before₃ j m h = put-before b₂ 328 (r .parents) n (omega (arith, size₂)) (omega arith) j m h
@@ -103,35 +106,38 @@ module _ (w : ℕ) (r : Notes) (b : List ℕ) (fit : Fit r) (size : length b ≡
 
   -- ---- the columns
 
-  lengths-at : take n (drop 840 (filled w r b)) ≡ take n (r .lengths)
-  lengths-at = before₆ 840 n (omega arith) ∙ put-here b₄ 840 (r .lengths) n (omega (arith, size₄)) (omega arith)
-
-  naming-at : take n (drop 584 (filled w r b)) ≡ take n (r .naming)
-  naming-at = before₆ 584 n (omega arith) ∙ before₅ 584 n (omega arith) ∙ put-here b₃ 584 (r .naming) n (omega (arith, size₃)) (omega arith)
-
-  parents-at : take n (drop 328 (filled w r b)) ≡ take n (r .parents)
-  parents-at =
-      before₆ 328 n (omega arith) ∙ before₅ 328 n (omega arith) ∙ before₄ 328 n (omega arith)
-      ∙ put-here b₂ 328 (r .parents) n (omega (arith, size₂)) (omega arith)
-
-  -- a part before the columns of the entries, and those after the positions
+  -- a part before the columns of the entries, and those after the places
   head-at : (j m : ℕ) → j + m ≤ 328 → take m (drop j (filled w r b)) ≡ take m (drop j b₂)
   head-at j m h = before₆ j m (omega arith) ∙ before₅ j m (omega arith) ∙ before₄ j m (omega arith) ∙ before₃ j m h
-
-  positions-at : take n (drop 72 (filled w r b)) ≡ take n (r .at)
-  positions-at = head-at 72 n (omega arith) ∙ put-here b₁ 72 (r .at) n (omega (arith, size₁)) (omega arith)
 
   schema-at : take (r .types) (drop 8 (filled w r b)) ≡ take (r .types) (r .schema)
   schema-at =
       head-at 8 (r .types) (omega arith) ∙ before₂ 8 (r .types) (omega arith)
       ∙ put-here b₀ 8 (r .schema) (r .types) (omega (arith, size₀)) (omega arith)
 
+  module _ (k : ℕ) (l : k < n) where
+    place-at : placeAt (filled w r b) k ≡ getD (r .at) k 0 + 5 * w
+    place-at =
+        number-of (filled w r b) (placesOf w (r .at)) 72 n k (head-at 72 n (omega arith) ∙ put-here b₁ 72 (placesOf w (r .at)) n (omega (arith, size₁)) places) l
+        ∙ place-of w (r .at) k (omega (arith, l, fit .at, fit .count))
+
+    parent-at : parentAt (filled w r b) k ≡ getD (r .parents) k 0
+    parent-at =
+        number-of (filled w r b) (r .parents) 328 n k
+        (before₆ 328 n (omega arith) ∙ before₅ 328 n (omega arith) ∙ before₄ 328 n (omega arith) ∙ put-here b₂ 328 (r .parents) n (omega (arith, size₂)) (omega arith)) l
+
+    naming-at : namingAt (filled w r b) k ≡ getD (r .naming) k 0
+    naming-at =
+        number-of (filled w r b) (r .naming) 584 n k
+        (before₆ 584 n (omega arith) ∙ before₅ 584 n (omega arith) ∙ put-here b₃ 584 (r .naming) n (omega (arith, size₃)) (omega arith)) l
+
+    length-at : lengthAt (filled w r b) k ≡ getD (r .lengths) k 0
+    length-at =
+        number-of (filled w r b) (r .lengths) 840 n k (before₆ 840 n (omega arith) ∙ put-here b₄ 840 (r .lengths) n (omega (arith, size₄)) (omega arith)) l
+
   first-at : (k : ℕ) → k ≤ n → firstAt (filled w r b) k ≡ getD (r .first) k 0
   unfolding filled
-  first-at k h =
-      sym (getD-take (n + 1) (drop 1096 (filled w r b)) k 0 (omega arith) ∙ getD-drop 1096 (filled w r b) k 0)
-      ∙ ap (λ (x : List ℕ). getD x k 0) (put-here b₅ 1096 (r .first) (n + 1) (omega (arith, size₅)) (omega arith))
-      ∙ getD-take (n + 1) (r .first) k 0 (omega arith)
+  first-at k h = number-of (filled w r b) (r .first) 1096 (n + 1) k (put-here b₅ 1096 (r .first) (n + 1) (omega (arith, size₅)) (omega arith)) (omega arith)
 
   -- ---- the counts
 
@@ -158,16 +164,16 @@ module _ (w : ℕ) (r : Notes) (b : List ℕ) (fit : Fit r) (size : length b ≡
   entries-at = count-at 2 (omega arith) ∙ getD-set-same (set (set b 0 w) 1 (r .types)) 2 n 0 (simp length-set (omega arith))
 
   pub copied : Copied w r (filled w r b)
-  unfolding schema positions parents naming lengths
+  unfolding schema
   copied = record {
     size = size₆;
     width-is = width-at;
     types-are = types-at;
     entries-are = entries-at;
     schema-is = rw types-at schema-at;
-    positions-are = rw entries-at positions-at;
-    parents-are = rw entries-at parents-at;
-    naming-is = rw entries-at naming-at;
-    lengths-are = rw entries-at lengths-at;
+    place-is = place-at;
+    parent-is = parent-at;
+    naming-is = naming-at;
+    length-is = length-at;
     first-is = first-at;
   }

@@ -1,12 +1,13 @@
--- Laws of `put`: the loop that copies, the column that is put, and what stands beside it.
-use Prim.Native.Nat.{ℕ, _+_, _≤_, _<_}
-use mathlib.Core.Path.{_≡_, sym, ap, _∙_}
-use mathlib.Core.List.{List, _++_, append-assoc}
+-- Laws of `put`: the loop that copies, the column that is put, what stands beside it, and its numbers.
+use Prim.Native.Nat.{ℕ, zero, suc, _+_, _*_, _≤_, _<_}
+use mathlib.Core.Path.{_≡_, refl, sym, ap, _∙_}
+use mathlib.Core.List.{List, [], _∷_, _++_, append-assoc}
+use native.Mathlib.Nat.{not-suc-le-zero, le-of-suc-le-suc}
 use native.Mathlib.Numerals.{add-one}
 use native.Mathlib.Omega.{arith}
-use lib.ListN.{length, getD, take, drop, set, length-drop, take-append-drop}
+use lib.ListN.{length, getD, take, drop, set, length-drop, length-map, take-append-drop}
 use lib.Seq.{paste-zero, paste-suc, length-paste, length-take-le, take-append-le, drop-append-le, drop-at, take-at, getD-take, getD-drop}
-use Rattle.directory_book.specs.Filled.{put}
+use Rattle.directory_book.specs.Filled.{put, placesOf}
 
 -- ---- the loop that copies
 
@@ -54,3 +55,20 @@ module _ (b : List ℕ) (at : ℕ) (column : List ℕ) (n : ℕ) (room : at + n 
 -- one number as a part
 pub number-at : (b : List ℕ) (k : ℕ) → getD (take 1 (drop k b)) 0 0 ≡ getD b k 0
 number-at b k = let e : k + 0 ≡ k = omega arith in getD-take 1 (drop k b) 0 0 (omega arith) ∙ rw e at (getD-drop k b 0 0)
+
+-- ---- numbers of a column
+
+-- a number of a column that was put
+pub number-of : (b column : List ℕ) (at n k : ℕ) → take n (drop at b) ≡ take n column → k < n → getD b (at + k) 0 ≡ getD column k 0
+number-of b column at n k e l =
+    sym (getD-take n (drop at b) k 0 l ∙ getD-drop at b k 0) ∙ ap (λ (x : List ℕ). getD x k 0) e ∙ getD-take n column k 0 l
+
+pub places-length : (w : ℕ) (lines : List ℕ) → length (placesOf w lines) ≡ length lines
+unfolding placesOf
+places-length w lines = length-map lines (λ p. p + 5 * w)
+
+pub place-of : (w : ℕ) (lines : List ℕ) (k : ℕ) → k < length lines → getD (placesOf w lines) k 0 ≡ getD lines k 0 + 5 * w
+unfolding placesOf
+place-of w [] k h = absurd (not-suc-le-zero h)
+place-of w (p ∷ ps) zero h = refl
+place-of w (p ∷ ps) (suc k) h = place-of w ps k (le-of-suc-le-suc h)

@@ -10,11 +10,12 @@ use lib.ListN.{length}
 use Rattle.rules.specs.Lists.{isEmpty, any, lastOr}
 use Rattle.rules.specs.Name.{part, allowed, samePart}
 use Rattle.rules.specs.Sheet.{Bytes, Line, Sheet, end, broken, row, lines}
+use Rattle.rules.specs.declared.Format.{Format}
 use Rattle.rules.specs.Columns.{inForm, directoryForms}
 use Rattle.rules.specs.Judge.{Verdict, accept, refuse, refusalOf, refuseIf, then, fold}
 use Rattle.rules.specs.Directory.{Stored, Directory, Reading, directoryOf, step, finish, nothing, typeLine, entryLine, valueLine, lacksNaming, entriesOf, lastType, newEntry, clashes}
-use Rattle.directory.specs.Judged as Directories
-use Rattle.directory.specs.declared.Notes.{Notes}
+use Rattle.directory_sheet.specs.Judged as Directories
+use Rattle.directory_sheet.specs.declared.Notes.{Notes}
 
 -- the verdict refuses with no 0
 abbrev Told : {A : Type 0} → Verdict A → Type 0
@@ -54,34 +55,34 @@ told-entry st x =
     go a b c d e r =
         told-if a 2 _ (omega arith) (told-if b 6 _ (omega arith) (told-if c 3 _ (omega arith) (told-if d 4 _ (omega arith) (told-if e 5 _ (omega arith) (told-accept r)))))
 
-told-step : (st : Reading) (x : Line) → Told (step st x)
+told-step : (top : ℕ) (st : Reading) (x : Line) → Told (step top st x)
 unfolding step
-told-step st x = told-if (not (inForm directoryForms x)) 2 _ (omega arith) (go (eqb (x .kind) 1) (eqb (x .kind) 2))
+told-step top st x = told-if (not (inForm (directoryForms top) x)) 2 _ (omega arith) (go (eqb (x .kind) 1) (eqb (x .kind) 2))
   where
     go : (b c : Bool) → Told (cond b (typeLine st x) (cond c (entryLine st x) (valueLine st (st .current) x)))
     go true c = told-type st x
     go false true = told-entry st x
     go false false = told-value st (st .current) x
 
-told-fold : (s : Sheet) (st : Reading) → Told (fold step finish 2 st s)
+told-fold : (top : ℕ) (s : Sheet) (st : Reading) → Told (fold (step top) finish 2 st s)
 unfolding fold finish
-told-fold end st = told-if (lacksNaming (st .schema) (st .current)) 6 _ (omega arith) (told-accept _)
-told-fold broken st = λ e. absurd (let z : 2 ≡ 0 = e in omega arith)
-told-fold (row x rest) st = told-then (step st x) (λ next. fold step finish 2 next rest) (told-step st x) (λ next. told-fold rest next)
+told-fold top end st = told-if (lacksNaming (st .schema) (st .current)) 6 _ (omega arith) (told-accept _)
+told-fold top broken st = λ e. absurd (let z : 2 ≡ 0 = e in omega arith)
+told-fold top (row x rest) st = told-then (step top st x) (λ next. fold (step top) finish 2 next rest) (told-step top st x) (λ next. told-fold top rest next)
 
-told-directory : (w : ℕ) (s : Bytes) → Told (directoryOf w s)
+told-directory : (f : Format) (s : Bytes) → Told (directoryOf f s)
 unfolding directoryOf
-told-directory w s = told-if (ltb 65536 (length s)) 1 _ (omega arith) (told-fold (lines w s) nothing)
+told-directory f s = told-if (ltb 65536 (length s)) 1 _ (omega arith) (told-fold (f .top) (lines (f .width) s) nothing)
 
-module _ (w : ℕ) (s : Bytes) (r : Notes) {held : List ℕ} (j : Directories.Judged w s r held) where
+module _ (f : Format) (s : Bytes) (r : Notes) {held : List ℕ} (j : Directories.DirectoryJudged f s r held) where
   -- a refusal is the one that the rules give
-  pub directory-refused : (r .refusal ≡ 0 → ⊥) → directoryOf w s ≡ refuse (r .refusal)
-  directory-refused n = by (directoryOf w s) (j .refusal)
+  pub directory-refused : (r .refusal ≡ 0 → ⊥) → directoryOf f s ≡ refuse (r .refusal)
+  directory-refused n = by (directoryOf f s) (j .refusal)
     where
       by : (v : Verdict Directory) → r .refusal ≡ refusalOf v → v ≡ refuse (r .refusal)
       by (accept x) e = absurd (n e)
       by (refuse m) e = rw e
 
   -- without one, the directory that the rules accept is noted
-  pub directory-accepted : r .refusal ≡ 0 → (x : Directory) × (directoryOf w s ≡ accept x) × Directories.Noted w s x r held
-  directory-accepted z = let a = told-directory w s (sym (j .refusal) ∙ z) in (a .0, a .1, j .noted (a .0) (a .1))
+  pub directory-accepted : r .refusal ≡ 0 → (x : Directory) × (directoryOf f s ≡ accept x) × Directories.DirectoryNoted (f .width) s x r held
+  directory-accepted z = let a = told-directory f s (sym (j .refusal) ∙ z) in (a .0, a .1, j .noted (a .0) (a .1))

@@ -3,36 +3,37 @@ use Prim.Native.Nat.{ℕ, _+_, _-_, _≤_}
 use mathlib.Core.Path.{_≡_, refl, sym, ap, _∙_, subst}
 use mathlib.Core.List.{List, _++_, map}
 use native.Mathlib.Omega.{arith}
-use lib.ListN.{length, getD, take, replicate, length-replicate}
+use lib.ListN.{length, getD, take, replicate, length-replicate, length-append}
 use lib.Seq.{take-append-seam, length-take-le}
-use Rattle.rules.specs.Sheet.{Bytes, print}
+use Rattle.rules.specs.Sheet.{Bytes, Usable, print}
+use Rattle.rules.specs.declared.Format.{Format}
 use Rattle.rules.specs.Name.{Name}
-use Rattle.rules.specs.Judge.{accept}
+use Rattle.rules.specs.Judge.{Grammar, accept}
 use Rattle.rules.specs.Directory.{Stored, Directory, directoryOf, entries, entryOf, nameAt}
 use Rattle.rules.specs.Permission.{Item}
 use Rattle.rules.specs.Decision.{Setting, Requester}
 use Rattle.rules.specs.Request.{Request}
 use Rattle.rules.specs.Answer.{answer, matchedName}
-use Rattle.rules.specs.Serve.{settingOf, fitting, respond}
+use Rattle.rules.specs.Serve.{Ground, settingOf, fitting, respond}
 use Rattle.rules.specs.Places.{linesAt, partsOf}
 use Rattle.rules.specs.Laws.First.{Ranked}
-use Rattle.rules.specs.Laws.Resolve.{walk}
-use Rattle.rules.specs.Laws.Reach.{reachOf}
+use Rattle.rules.specs.Numbers.{walk, reachOf}
 use Rattle.rules.specs.declared.Found.{Found}
-use Rattle.request.specs.Noted as Requests
-use Rattle.request.specs.declared.Asked.{Asked}
+use Rattle.request_sheet.specs.Noted as Requests
+use Rattle.request_sheet.specs.declared.Asked.{Asked}
 use Rattle.tables.specs.Book as Book
-use Rattle.schema.specs.Schema.{Rising}
-use Rattle.directory.specs.declared.Notes.{Notes}
-use Rattle.directory.specs.Judged as Directories
+use Rattle.directory_schema.specs.Schema.{Rising}
+use Rattle.directory_sheet.specs.declared.Notes.{Notes}
+use Rattle.directory_sheet.specs.Judged as Directories
 use Rattle.directory_book.specs.Filled.{filled, StandsFor}
 use Rattle.directory_book.specs.Laws.Filled.{Copied, copied}
+use Rattle.directory_book.specs.Laws.Entries.{fit-of}
 use Rattle.tables.specs.Sets.{Rights}
 use Rattle.tables.specs.World.{Entries, World}
 use Rattle.tables.specs.Laws.Book.{parents-length, parent-at}
 use Rattle.tables.specs.Laws.World.{parent-is}
-use Rattle.entry_lookup.specs.Find.{UpTo}
-use Rattle.entry_lookup.specs.Laws.Find.{up-to}
+use Rattle.directory_lookup.specs.Find.{UpTo}
+use Rattle.directory_lookup.specs.Laws.Find.{up-to}
 use Rattle.access_scope.specs.Scopes.{Asker}
 use Rattle.access_scope.specs.declared.Requester as Scopes
 use Rattle.access_items.specs.Sorted.{Sorted}
@@ -56,9 +57,9 @@ module _ (σ : Setting) (es : List Stored) (w : ℕ) (q : Bytes) (n : Name) (pla
 
 -- ---- the requester
 
-pub asker-of : (σ : Setting) (w : ℕ) (q : Bytes) (y : Request) (a : Asked) → σ .requester ≡ y .requester → Requests.Noted w q y a
+pub asker-of : (σ : Setting) (G : Grammar) (w : ℕ) (q : Bytes) (y : Request) (a : Asked) → σ .requester ≡ y .requester → Requests.Noted G w q y a
     → Asker σ w q (record { level = a .level; place = a .requester; parts = a .«requester_parts» })
-asker-of σ w q y a u n = record {
+asker-of σ G w q y a u n = record {
   level-is = ap (λ (r : Requester). r .level) u ∙ sym (n .level);
   name-is = n .requester .parts ∙ ap (λ (r : Requester). r .name) (sym u);
   parts-are = sym (n .requester .count) ∙ ap (λ (r : Requester). length (r .name)) (sym u);
@@ -83,36 +84,27 @@ reached-of {σ} {es} {book = book} E w p rights scopes order parents q s r = rec
 pub front-again : (x rest : List ℕ) (n : ℕ) → length x ≡ n → take (n - 0) (x ++ rest) ≡ x
 front-again x rest n e = let z : n - 0 ≡ length x = omega (arith, e) in rw (z, take-append-seam x rest)
 
+pub front-within : (x rest : List ℕ) (n : ℕ) → length x ≡ n → n ≤ length (x ++ rest)
+front-within x rest n e = omega (arith, e, length-append x rest)
+
 pub cut-count : (n : ℕ) (l : List ℕ) → n ≤ length l → length (take (n - 0) l) ≡ n
 cut-count n l h = let z : n - 0 ≡ n = omega arith in rw z (length-take-le n l h)
 
-pub respond-is : (w : ℕ) (x : Directory) (is : List Item) (y : Request) (room : ℕ)
-    → fitting room (print w (answer (settingOf x is (y .requester)) (map entryOf (x .entries)) (y .base) (y .operation))) ≡ respond w x is y room
+pub respond-is : (f : Format) (w : ℕ) (g : Ground) (y : Request) (room : ℕ) → w ≡ f .width
+    → fitting room (print w (answer (settingOf (g .directory) (g .items) (y .requester)) (map entryOf (g .directory .entries)) (y .base) (y .operation))) ≡ respond f g y room
 unfolding respond entries
-respond-is w x is y room = refl
+respond-is f w g y room e = rw e
 
 -- ---- the tables
 
 -- the filled book stands for the directory that was judged
-module _ (w : ℕ) (d : Bytes) (x : Directory) (r : Notes) (held b book : List ℕ) (ok : directoryOf w d ≡ accept x) (noted : Directories.Noted w d x r held)
-    (size : length b ≡ 1353) (is : book ≡ filled w r b) where
-  copy : Copied w r book
-  copy = subst (Copied w r) (sym is) (copied w r b (record {
-    types = noted .types;
-    count = noted .most;
-    schema = noted .schema-length;
-    at = noted .at-length;
-    parents = noted .parents-length;
-    naming = noted .naming-length;
-    lengths = noted .lengths-length;
-    first = noted .first-length;
-  }) size)
+module _ (f : Format) (d : Bytes) (x : Directory) (r : Notes) (held b book : List ℕ) (ok : directoryOf f d ≡ accept x) (noted : Directories.DirectoryNoted (f .width) d x r held)
+    (size : length b ≡ 1353) (is : book ≡ filled (f .width) r b) where
+  copy : Copied (f .width) r book
+  copy = subst (Copied (f .width) r) (sym is) (copied (f .width) r b (fit-of noted) size)
 
-  pub directory-at : StandsFor w r book → DirectoryAt d x book held
-  directory-at stands = record { entries = λ σ e. stands σ d x held ok noted e; rising = subst (Rising 0) (sym (copy .schema-is)) (noted .rising) }
-
-  pub width-is : Book.width book ≡ w
-  width-is = copy .width-is
+  pub directory-at : Usable f → StandsFor f r book → DirectoryAt f d x book held
+  directory-at usable stands = record { usable = usable; columns = copy .width-is; entries = λ σ e. stands σ d x held ok noted e; rising = subst (Rising 0) (sym (copy .schema-is)) (noted .rising) }
 
 -- the sets stand for what the requester may
 pub world-of : {σ : Setting} {es : List Stored} {d p : Bytes} {book held : List ℕ} (schema sets : List ℕ) → Entries σ es d book held → length sets ≡ 2360 → schema ≡ Book.schema book
@@ -125,6 +117,10 @@ pub order-front : (is : List Item) (order : List ℕ) (n : ℕ) → Ranked is or
 order-front is order n ranked e size few =
     let z : n - 0 ≡ length is = omega (arith, e) in
     rw z (ranked-front is order ranked, length-take-le (length is) order (omega (arith, size, few)))
+
+-- the items in columns of the same width by another word
+pub sorted-in : {v w : ℕ} {p : Bytes} {is : List Item} {rights scopes order : List ℕ} → v ≡ w → Sorted w p is rights scopes order → Sorted v p is rights scopes order
+sorted-in {p = p} {is = is} {rights = rights} {scopes = scopes} {order = order} e s = subst (λ (m : ℕ). Sorted m p is rights scopes order) (sym e) s
 
 -- a cleared table has its length
 pub cleared : (n : ℕ) → length {A = ℕ} (replicate n 0) ≡ n

@@ -1,50 +1,58 @@
 -- Laws of `Serve`: what each refusal and each acceptance makes of the verdict.
 use Prim.Native.Nat.{ℕ}
-use mathlib.Core.Path.{_≡_, subst}
+use mathlib.Core.Path.{_≡_, refl, subst}
 use mathlib.Core.List.{List}
 use lib.ListN.{length}
 use Rattle.rules.specs.Sheet.{Bytes}
-use Rattle.rules.specs.Judge.{Verdict, accept, refuse, refusalOf}
+use Rattle.rules.specs.Judge.{Verdict, accept, refuse, refusalOf, then}
 use Rattle.rules.specs.Directory.{Directory, directoryOf}
 use Rattle.rules.specs.Permission.{Item, permissionsOf}
 use Rattle.rules.specs.Request.{Request, requestOf}
-use Rattle.rules.specs.Serve.{respond, serveAt}
+use Rattle.rules.specs.Serve.{Ground, ground, within, respond, serveAt}
+use Rattle.rules.specs.declared.Format.{Format}
+use Rattle.rules.specs.declared.Limits.{Limits}
 use Rattle.rules.specs.Places.{schemaOf}
-use Rattle.permissions.specs.Noted as Permissions
-use Rattle.permissions.specs.declared.Items.{Items}
-use Rattle.reply.specs.declared.Reply.{Reply}
-use Rattle.reply.specs.Reply.{replyOf, leftOf, Replies}
-use Rattle.engine.specs.Serve.{fromRequest, fromPermissions}
+use Rattle.permission_sheet.specs.Noted as Permissions
+use Rattle.permission_sheet.specs.declared.Items.{Items}
+use Rattle.answer_reply.specs.declared.Reply.{Reply}
+use Rattle.answer_reply.specs.Reply.{replyOf, leftOf, Replies}
+use Rattle.engine.specs.Serve.{fromGround, fromDirectory}
 
 pub replies-refused : (n : ℕ) (v : Verdict Bytes) (out : Bytes) (r : Reply) → r ≡ record { refusal = n; length = 0 } → v ≡ refuse n → Replies v out r out
 unfolding replyOf leftOf
 replies-refused n v out r q e = record { reply = rw e q; left = rw e }
 
-module _ (w : ℕ) (d p q : Bytes) (room : ℕ) where
-  pub directory-refuses : (n : ℕ) → directoryOf w d ≡ refuse n → serveAt w d p q room ≡ refuse n
-  unfolding serveAt
+module _ (f : Format) (k : Limits) (d p q : Bytes) (room : ℕ) where
+  pub directory-refuses : (n : ℕ) → directoryOf f d ≡ refuse n → serveAt f k d p q room ≡ refuse n
+  unfolding serveAt ground
   directory-refuses n e = rw e
 
-  pub directory-accepts : (x : Directory) → directoryOf w d ≡ accept x → fromPermissions w x p q room ≡ serveAt w d p q room
-  unfolding serveAt
-  directory-accepts x e = rw e
+  pub directory-accepts : (x : Directory) → directoryOf f d ≡ accept x → fromDirectory f k x p q room ≡ serveAt f k d p q room
+  unfolding serveAt ground
+  directory-accepts x e = rw e (go (permissionsOf f (x .schema) p))
+    where
+      go : (v : Verdict (List Item)) → then v (λ is. fromGround f k (record { directory = x; items = is }) q room)
+          ≡ then (then v (λ is. accept (record { directory = x; items = is }))) (λ g. fromGround f k g q room)
+      go (accept is) = refl
+      go (refuse n) = refl
 
-module _ (w : ℕ) (x : Directory) (schema : List ℕ) (same : x .schema ≡ schemaOf schema) (p q : Bytes) (room : ℕ) (r : Items) (j : Permissions.Judged w p schema r) where
+module _ (f : Format) (k : Limits) (x : Directory) (schema : List ℕ) (same : x .schema ≡ schemaOf schema) (p q : Bytes) (room : ℕ) (r : Items) (j : Permissions.Judged f p schema r) where
   by-refusal : (v : Verdict (List Item)) → r .refusal ≡ refusalOf v → (r .refusal ≡ 0 → ⊥) → v ≡ refuse (r .refusal)
   by-refusal (accept is) e n = absurd (n e)
   by-refusal (refuse m) e n = rw e
 
-  pub permissions-refuse : (r .refusal ≡ 0 → ⊥) → fromPermissions w x p q room ≡ refuse (r .refusal)
-  permissions-refuse n = rw (same, by-refusal (permissionsOf w (schemaOf schema) p) (j .refusal) n)
+  pub permissions-refuse : (r .refusal ≡ 0 → ⊥) → fromDirectory f k x p q room ≡ refuse (r .refusal)
+  permissions-refuse n = rw (same, by-refusal (permissionsOf f (schemaOf schema) p) (j .refusal) n)
 
-  pub permissions-accept : (is : List Item) → permissionsOf w (schemaOf schema) p ≡ accept is → fromRequest w x is q room ≡ fromPermissions w x p q room
+  pub permissions-accept : (is : List Item) → permissionsOf f (schemaOf schema) p ≡ accept is
+      → fromGround f k (record { directory = x; items = is }) q room ≡ fromDirectory f k x p q room
   permissions-accept is e = rw (same, e)
 
-module _ (w : ℕ) (x : Directory) (is : List Item) (q : Bytes) (room : ℕ) where
-  pub request-refuses : (n : ℕ) → requestOf w q ≡ refuse n → fromRequest w x is q room ≡ refuse n
+module _ (f : Format) (k : Limits) (g : Ground) (q : Bytes) (room : ℕ) where
+  pub request-refuses : (n : ℕ) → requestOf f q ≡ refuse n → fromGround f k g q room ≡ refuse n
   request-refuses n e = rw e
 
-  pub request-accepts : (r : Request) → requestOf w q ≡ accept r → respond w x is r room ≡ fromRequest w x is q room
+  pub request-accepts : (r : Request) → requestOf f q ≡ accept r → respond f g (within k r) room ≡ fromGround f k g q room
   request-accepts r e = rw e
 
 -- a reply to the same verdict by another word

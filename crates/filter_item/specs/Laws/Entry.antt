@@ -20,14 +20,14 @@ use Rattle.rules.specs.Laws.Held.{holds-flat, someValue-flat}
 use Rattle.rules.specs.declared.Found.the-variants.{At}
 use Rattle.rules.specs.declared.Truth.{Truth}
 use Rattle.rules.specs.declared.Truth.the-variants.{Undefined}
-use Rattle.name.specs.Schema.{syntaxIn}
+use Rattle.name.specs.Schema.{rankIn, syntaxIn}
+use Rattle.name.specs.Laws.Schema.{rank-type, syntax-known, syntax-unknown}
 use Rattle.access_set.specs.Member.{bit}
 use Rattle.tables.specs.Book.{types, schema, firstAt}
 use Rattle.tables.specs.Held.{rankAt, bytesAt, typeAt, ValueAt}
 use Rattle.tables.specs.Sets.{grantedAt}
 use Rattle.tables.specs.World.{Entries}
 use Rattle.tables.specs.Laws.Book.{schema-length, type-at}
-use Rattle.filter_lines.specs.Lines.{Placed}
 use Rattle.filter_item.specs.Seen.{bitAt, SeenAt}
 use Rattle.filter_item.specs.Rows.{someFrom, seenAt, heldRow, someRow}
 use Rattle.filter_item.specs.Items.{assertionBy, definedBy, passesBy, satisfiedIn}
@@ -109,24 +109,27 @@ module _ (σ : Setting) (es : List Stored) (d : Bytes) (book held : List ℕ) (n
 -- ---- the item's truth: a law for each way through the code
 
 module _ (σ : Setting) (es : List Stored) (d : Bytes) (book held : List ℕ) (noted : Entries σ es d book held) (k : ℕ) (l : k < length es)
-    (kind t place : ℕ) (v : Bytes) (ps : List Piece) (placed : Placed (schema book) t place) where
+    (kind t place : ℕ) (v : Bytes) (ps : List Piece) (is : place ≡ rankIn (schema book) t) where
   abbrev found : Truth
   found = itemTruth σ (entryOf (getD es k blank)) (assertionBy kind t v ps)
 
   pub item-beyond : types book ≤ place → Undefined ≡ found
   unfolding entryOf
   item-beyond b =
-      sym (item-unknown σ (getD es k blank .name) (getD es k blank .values) (schema book) (noted .schema-is) kind t v ps (placed .unknown (omega (arith, b, schema-length (noted .fits)))))
+      sym (item-unknown σ (getD es k blank .name) (getD es k blank .values) (schema book) (noted .schema-is) kind t v ps (syntax-unknown (schema book) t (omega (arith, b, is, schema-length (noted .fits)))))
 
   module _ (few : place < types book) where
     known : place < length (schema book)
     known = omega (arith, few, schema-length (noted .fits))
 
+    type-is : typeAt (schema book) place ≡ t
+    type-is = ap (typeAt (schema book)) is ∙ rank-type (schema book) t (rw is at known)
+
     abbrev syntax : ℕ
     syntax = getD book (8 + place) 0 % 4
 
     with-syntax : syntaxIn (schema book) t ≡ At syntax
-    with-syntax = placed .syntax known ∙ ap (λ (x : ℕ). At (x % 4)) (type-at book place few)
+    with-syntax = syntax-known (schema book) t (rw is at known) ∙ ap (λ (i : ℕ). At (getD (schema book) i 0 % 4)) (sym is) ∙ ap (λ (x : ℕ). At (x % 4)) (type-at book place few)
 
     undecided : (definedBy syntax kind ps v && granted σ (getD es k blank .name) (ofType t) FilterMatch) ≡ false → Undefined ≡ found
     unfolding entryOf
@@ -139,7 +142,7 @@ module _ (σ : Setting) (es : List Stored) (d : Bytes) (book held : List ℕ) (n
       type-bit =
           seen .types-seen .type place known
           ∙ ap (λ (b : Bool). b && grantedAt σ es (suc k) (ofType (typeAt (schema book) place)) FilterMatch) wanted
-          ∙ ap (λ (x : ℕ). granted σ (getD es k blank .name) (ofType x) FilterMatch) (placed .type known)
+          ∙ ap (λ (x : ℕ). granted σ (getD es k blank .name) (ofType x) FilterMatch) type-is
 
       swapped : (bit types place && definedBy syntax kind ps v) ≡ (definedBy syntax kind ps v && granted σ (getD es k blank .name) (ofType t) FilterMatch)
       swapped = ap (λ (b : Bool). b && definedBy syntax kind ps v) type-bit ∙ swap (granted σ (getD es k blank .name) (ofType t) FilterMatch) (definedBy syntax kind ps v)
@@ -157,5 +160,5 @@ module _ (σ : Setting) (es : List Stored) (d : Bytes) (book held : List ℕ) (n
       unfolding entryOf
       item-told h =
           ap truth (satisfied-in σ es d book held noted k l place known asked types values seen wanted syntax kind ps v)
-          ∙ ap (λ (x : ℕ). truth (satisfiedBy σ (record { name = getD es k blank .name; held = heldOf (getD es k blank .values) }) syntax kind x ps v)) (placed .type known)
+          ∙ ap (λ (x : ℕ). truth (satisfiedBy σ (record { name = getD es k blank .name; held = heldOf (getD es k blank .values) }) syntax kind x ps v)) type-is
           ∙ sym (item-decided σ (getD es k blank .name) (getD es k blank .values) (schema book) (noted .schema-is) kind t v ps syntax with-syntax (sym swapped ∙ h))

@@ -20,7 +20,8 @@ use Rattle.rules.specs.Laws.Tests.{and-left}
 use Rattle.rules.specs.Laws.Held.{someValue-flat}
 use Rattle.rules.specs.declared.Found.the-variants.{At, Nothing}
 use Rattle.rules.specs.declared.Truth.the-variants.{Undefined}
-use Rattle.name.specs.Schema.{syntaxIn, equalBy, by-syntax, known-at, allowed-at, equal-at}
+use Rattle.name.specs.Schema.{syntaxIn, equalBy}
+use Rattle.name.specs.Laws.Schema.{by-syntax, known-at, allowed-at, equal-at}
 use Rattle.filter_item.specs.Rows.{heldRow, someRow, besideBy}
 use Rattle.filter_item.specs.Items.{assertionBy, definedBy, passesBy, satisfiedIn}
 

@@ -11,7 +11,7 @@ use lib.Dec.{eqb, ltb}
 use borrow.Author.Tests.{eq-eqb, ne-eqb, eqb-true, eqb-false, ltb-true, ltb-false}
 use Rattle.access_set.specs.Member.{bit}
 use Rattle.access_set.specs.Bit.{bit-none}
-use Rattle.filter_lines.specs.Lines.{kindAt, placeAt}
+use Rattle.filter_lines.specs.Lines.{kindAt, typeRank}
 use Rattle.filter_item.specs.Mask.{operatorAt, occurs, Masks}
 use Rattle.filter_item.specs.Laws.Bits.{word-more}
 
@@ -41,7 +41,7 @@ module _ (n place r : ℕ) (small : r < 64) where
       none true = refl
       none false = refl
 
-pub mask-on : (rows : List ℕ) (k x y : ℕ) (b : Bool) → b ≡ (not (operatorAt rows k) && ltb (placeAt rows k) 64) → y ≡ cond b (2 ^ (placeAt rows k % 64)) 0 → Masks rows k x → Masks rows (k + 1) (bitOr x y)
+pub mask-on : (rows : List ℕ) (k x y : ℕ) (b : Bool) → b ≡ (not (operatorAt rows k) && ltb (typeRank rows k) 64) → y ≡ cond b (2 ^ (typeRank rows k % 64)) 0 → Masks rows k x → Masks rows (k + 1) (bitOr x y)
 unfolding occurs
 mask-on rows k x y b g e h = record { rank = λ r l. rw (add-one k) (here r l) }
   where
@@ -51,14 +51,14 @@ mask-on rows k x y b g e h = record { rank = λ r l. rw (add-one k) (here r l) }
     swap false true = refl
     swap false false = refl
 
-    here : (r : ℕ) → r < 64 → bit (bitOr x y) r ≡ (not (operatorAt rows k) && eqb (placeAt rows k) r || occurs rows k r)
+    here : (r : ℕ) → r < 64 → bit (bitOr x y) r ≡ (not (operatorAt rows k) && eqb (typeRank rows k) r || occurs rows k r)
     here r l =
-        word-more x y b (placeAt rows k % 64) e r
-        ∙ ap₂ _||_ (h .rank r l) (ap (λ (c : Bool). eqb r (placeAt rows k % 64) && c) g ∙ added k (placeAt rows k) r l (not (operatorAt rows k)) (ltb (placeAt rows k) 64) refl)
-        ∙ swap (occurs rows k r) (not (operatorAt rows k) && eqb (placeAt rows k) r)
+        word-more x y b (typeRank rows k % 64) e r
+        ∙ ap₂ _||_ (h .rank r l) (ap (λ (c : Bool). eqb r (typeRank rows k % 64) && c) g ∙ added k (typeRank rows k) r l (not (operatorAt rows k)) (ltb (typeRank rows k) 64) refl)
+        ∙ swap (occurs rows k r) (not (operatorAt rows k) && eqb (typeRank rows k) r)
 
 -- an item's own rank occurs
-pub occurs-own : (rows : List ℕ) (n k : ℕ) → k < n → operatorAt rows k ≡ false → occurs rows n (placeAt rows k) ≡ true
+pub occurs-own : (rows : List ℕ) (n k : ℕ) → k < n → operatorAt rows k ≡ false → occurs rows n (typeRank rows k) ≡ true
 unfolding occurs
 occurs-own rows zero k l e = absurd (omega arith)
 occurs-own rows (suc n) k l e = go (decLt k n) (λ m. occurs-own rows n k m e)
@@ -67,11 +67,11 @@ occurs-own rows (suc n) k l e = go (decLt k n) (λ m. occurs-own rows n k m e)
     last true = refl
     last false = refl
 
-    go : Dec (k < n) → (k < n → occurs rows n (placeAt rows k) ≡ true) → (not (operatorAt rows n) && eqb (placeAt rows n) (placeAt rows k) || occurs rows n (placeAt rows k)) ≡ true
-    go (yes m) ih = ap (λ (c : Bool). not (operatorAt rows n) && eqb (placeAt rows n) (placeAt rows k) || c) (ih m) ∙ last (not (operatorAt rows n) && eqb (placeAt rows n) (placeAt rows k))
+    go : Dec (k < n) → (k < n → occurs rows n (typeRank rows k) ≡ true) → (not (operatorAt rows n) && eqb (typeRank rows n) (typeRank rows k) || occurs rows n (typeRank rows k)) ≡ true
+    go (yes m) ih = ap (λ (c : Bool). not (operatorAt rows n) && eqb (typeRank rows n) (typeRank rows k) || c) (ih m) ∙ last (not (operatorAt rows n) && eqb (typeRank rows n) (typeRank rows k))
     go (no m) ih =
         let z : k ≡ n = omega arith in
-        ap (λ (c : Bool). c || occurs rows n (placeAt rows k)) (ap₂ (λ (o p : Bool). not o && p) (ap (operatorAt rows) (sym z) ∙ e) (eq-eqb (placeAt rows n) (placeAt rows k) (ap (placeAt rows) (sym z))))
+        ap (λ (c : Bool). c || occurs rows n (typeRank rows k)) (ap₂ (λ (o p : Bool). not o && p) (ap (operatorAt rows) (sym z) ∙ e) (eq-eqb (typeRank rows n) (typeRank rows k) (ap (typeRank rows) (sym z))))
 
 -- is line `k` an operator?
 module _ (rows : List ℕ) (k : ℕ) where

@@ -2,24 +2,24 @@
 use Prim.Native.Nat.{ℕ, zero, suc, _+_, _-_, _/_, _%_, _^_, _≤_, _<_}
 use mathlib.Core.Path.{_≡_, refl, sym, ap, _∙_, subst}
 use mathlib.Core.Bool.{Bool, false, _&&_, cond}
-use mathlib.Core.List.{List, []}
+use mathlib.Core.List.{List}
 use native.Mathlib.Decide.{decLt}
 use native.Mathlib.Numerals.{add-one}
 use native.Mathlib.Omega.{arith}
 use lib.Bits.{bitOr}
 use lib.ListN.{length, getD, set, replicate}
 use Rattle.rules.specs.Sheet.{Bytes}
-use Rattle.rules.specs.Name.{part}
-use Rattle.rules.specs.Directory.{Stored, blank}
+use Rattle.rules.specs.Directory.{Stored}
 use Rattle.rules.specs.Permission.{FilterMatch}
 use Rattle.rules.specs.Decision.{Setting, ofType}
 use Rattle.access_set.specs.Member.{bit}
 use Rattle.access_set.specs.Bit.{bit-none}
 use Rattle.tables.specs.Book.{Fits, types, entries, schema, firstAt}
-use Rattle.tables.specs.Held.{rankAt, placeAt, sizeAt, typeAt, ValueAt}
+use Rattle.tables.specs.Held.{typeAt}
 use Rattle.tables.specs.Sets.{grantedAt}
 use Rattle.tables.specs.World.{Entries}
-use Rattle.tables.specs.Laws.Book.{schema-length}
+use Rattle.tables.specs.Laws.Book.{schema-length, end-is}
+use Rattle.tables.specs.Laws.World.{rows-within, bytes-within}
 use Rattle.filter_item.specs.Seen.{bitAt, valueSeen, SeenTypes, SeenValues}
 use Rattle.filter_item.specs.Rows.{Within}
 use Rattle.filter_item.specs.Laws.Bits.{word-other, word-here, bits-other, bits-here}
@@ -97,30 +97,7 @@ values-until σ es d book held k asked i end words l s = record { value = λ j m
 
 -- ---- the rows of an entry
 
--- where they end, as code reads it
-pub end-at : (book : List ℕ) (k : ℕ) → getD book (1097 + k) 0 ≡ firstAt book (suc k)
-end-at book k = let z : 1097 + k ≡ 1096 + suc k = omega arith in ap (λ (m : ℕ). getD book m 0) z
-
-module _ {σ : Setting} {es : List Stored} {d : Bytes} {book held : List ℕ} (noted : Entries σ es d book held) (k : ℕ) (l : k < entries book) where
-  entry-in : k < length es
-  entry-in = omega (arith, noted .count, l)
-
-  pub rows-end : firstAt book (suc k) ≤ 2115
-  rows-end = noted .values k entry-in .room
-
-  module _ (i : ℕ) (from : firstAt book k ≤ i) (to : i < firstAt book (suc k)) where
-    pub row-value : ValueAt (schema book) d (getD (getD es k blank .values) (i - firstAt book k) (part 0 [])) held i
-    row-value =
-        let v = noted .values k entry-in in
-        let z : firstAt book k + (i - firstAt book k) ≡ i = omega arith in
-        subst (λ (m : ℕ). ValueAt (schema book) d (getD (getD es k blank .values) (i - firstAt book k) (part 0 [])) held m) z (v .row (i - firstAt book k) (omega (arith, v .count)))
-
-    pub row-rank : rankAt held i < types book
-    row-rank = omega (arith, row-value .rank, schema-length (noted .fits))
-
-    pub row-within : placeAt held i + sizeAt held i ≤ length d
-    row-within = row-value .within
-
-  -- the rows as code takes them
-  pub rows-within : Within d held (firstAt book k) (getD book (1097 + k) 0)
-  rows-within = rw (end-at book k) record { room = rows-end; part = λ i from to. row-within i from to }
+-- the rows as code takes them
+pub values-within : {σ : Setting} {es : List Stored} {d : Bytes} {book held : List ℕ} → Entries σ es d book held → (k : ℕ) → k < entries book
+    → Within d held (firstAt book k) (getD book (1097 + k) 0)
+values-within {book = book} E k l = rw (end-is book k) record { room = rows-within E k l .1; part = λ i from to. bytes-within E k l i from to }

@@ -5,19 +5,19 @@ use mathlib.Core.Bool.{Bool, true, false, _||_, cond, true≢false}
 use mathlib.Core.List.{List}
 use native.Mathlib.Omega.{arith}
 use lib.Dec.{eqb}
-use lib.ListN.{drop}
 use borrow.Author.Tests.{eq-eqb, ne-eqb}
-use Rattle.rules.specs.Sheet.{Bytes, line, Sheet, frontOf}
+use Rattle.rules.specs.Sheet.{Bytes, line, Sheet, end, broken}
 use Rattle.rules.specs.Filter.{Assertion, Filter, truth, negation, evaluate}
-use Rattle.rules.specs.Judge.{accept}
+use Rattle.rules.specs.Judge.{accept, Grammar}
 use Rattle.rules.specs.Request.{filter}
 use Rattle.rules.specs.Places.{linesAt}
-use Rattle.rules.specs.Laws.Sheet.{lines-taken, lines-broken, lines-end}
-use Rattle.rules.specs.Laws.Filter.{both, either, assertionOf, afterItem, Evaluated, evaluated, partsFrom, evaluateLine, evaluateSheet, evaluateLines, filter-read}
+use Rattle.rules.specs.FilterLines.{both, either, assertionOf, afterItem, Evaluated, evaluated, partsFrom, evaluateLine, evaluateSheet, evaluateLines}
+use Rattle.rules.specs.Laws.Filter.{filter-read}
 use Rattle.rules.specs.declared.Truth.{Truth}
 use Rattle.rules.specs.declared.Truth.the-variants.{True, False, Undefined}
-use Rattle.rules.specs.declared.Front.the-variants.{NotInForm, End}
 use Rattle.filter_lines.specs.Lines.{Lines, kindAt, firstAt, secondAt, positionAt, valueAt, piecesAt}
+use Rattle.filter_lines.specs.Laws.Lines.{row-lines}
+use Rattle.filter_lines.specs.Laws.Pieces.{pieces-are}
 use Rattle.filter_item.specs.Items.{assertionBy}
 use Rattle.filter_tree.specs.Tree.{joinBy, afterBy}
 
@@ -32,13 +32,12 @@ module _ (m : Assertion → Truth) {w : ℕ} {q : Bytes} {rows : List ℕ} {line
   -- no line is left
   pub tree-over : lines ≤ k → k ≤ lines → evaluated Undefined (linesAt w q (positionAt rows k)) ≡ evaluateLines m depth (linesAt w q (positionAt rows k))
   unfolding evaluateLines evaluateSheet
-  tree-over l n = let z : k ≡ lines = omega (arith, l, n) in rw z (over depth (h .broken) (h .ends))
+  tree-over l n = let z : k ≡ lines = omega (arith, l, n) in rw (z, h .ends) (over depth (h .unread))
     where
-      over : (depth : ℕ) (b : Bool) → frontOf w (drop (positionAt rows lines) q) ≡ cond b NotInForm End
-          → evaluated Undefined (linesAt w q (positionAt rows lines)) ≡ evaluateLines m depth (linesAt w q (positionAt rows lines))
-      over zero b e = refl
-      over (suc depth) true e = rw (lines-broken w q (positionAt rows lines) e)
-      over (suc depth) false e = rw (lines-end w q (positionAt rows lines) e)
+      over : (depth : ℕ) (b : Bool) → evaluated Undefined (cond b broken end) ≡ evaluateLines m depth (cond b broken end)
+      over zero b = refl
+      over (suc depth) true = refl
+      over (suc depth) false = refl
 
   module _ (l : k < lines) (nz : depth ≡ 0 → ⊥) where
     abbrev one : Sheet → Evaluated
@@ -48,11 +47,10 @@ module _ (m : Assertion → Truth) {w : ℕ} {q : Bytes} {rows : List ℕ} {line
     rest = linesAt w q (positionAt rows (k + 1))
 
     by-line : evaluateLines m depth (linesAt w q (positionAt rows k))
-        ≡ evaluateLine m one (line (kindAt rows k) (firstAt rows k) (secondAt rows k) (h .line k l .third) (valueAt w q rows k)) rest
+        ≡ evaluateLine m one (line (kindAt rows k) (firstAt rows k) (secondAt rows k) (h .line k l .third) (valueAt q rows k)) rest
     unfolding evaluateLines evaluateSheet
     by-line = deeper depth nz
-        ∙ ap (evaluateSheet m (evaluateLine m one)) (lines-taken w q (positionAt rows k) (h .line k l .front))
-        ∙ ap (λ (x : ℕ). evaluateLine m one (line (kindAt rows k) (firstAt rows k) (secondAt rows k) (h .line k l .third) (valueAt w q rows k)) (linesAt w q x)) (sym (h .line k l .next))
+        ∙ ap (evaluateSheet m (evaluateLine m one)) (row-lines (h .line k l))
       where
         deeper : (depth : ℕ) → (depth ≡ 0 → ⊥) → evaluateLines m depth (linesAt w q (positionAt rows k)) ≡ evaluateSheet m (evaluateLine m (evaluateLines m (depth - 1))) (linesAt w q (positionAt rows k))
         deeper zero nz = absurd (nz refl)
@@ -76,17 +74,17 @@ module _ (m : Assertion → Truth) {w : ℕ} {q : Bytes} {rows : List ℕ} {line
 
     pub tree-item : (kindAt rows k ≡ 22 → ⊥) → (eqb (kindAt rows k) 20 || eqb (kindAt rows k) 21) ≡ false
         → evaluateLines m depth (linesAt w q (positionAt rows k))
-        ≡ evaluated (m (assertionBy (kindAt rows k) (firstAt rows k) (valueAt w q rows k) (piecesAt w q rows k))) (afterBy (kindAt rows k) (secondAt rows k) rest)
+        ≡ evaluated (m (assertionBy (kindAt rows k) (firstAt rows k) (valueAt q rows k) (piecesAt q rows lines k))) (afterBy (kindAt rows k) (secondAt rows k) rest)
     unfolding evaluateLine assertionOf afterItem afterBy
     tree-item ne e = by-line ∙ go (eqb (kindAt rows k) 20) (eqb (kindAt rows k) 21) e _ _
       where
         go : (x y : Bool) → (x || y) ≡ false → (a b : Evaluated)
             → cond x a (cond y b (cond (eqb (kindAt rows k) 22) (evaluated (negation (one rest .truth)) (one rest .rest))
-            (evaluated (m (assertionOf (line (kindAt rows k) (firstAt rows k) (secondAt rows k) (h .line k l .third) (valueAt w q rows k)) rest)) (afterItem (line (kindAt rows k) (firstAt rows k) (secondAt rows k) (h .line k l .third) (valueAt w q rows k)) rest))))
-            ≡ evaluated (m (assertionBy (kindAt rows k) (firstAt rows k) (valueAt w q rows k) (piecesAt w q rows k))) (afterBy (kindAt rows k) (secondAt rows k) rest)
+            (evaluated (m (assertionOf (line (kindAt rows k) (firstAt rows k) (secondAt rows k) (h .line k l .third) (valueAt q rows k)) rest)) (afterItem (line (kindAt rows k) (firstAt rows k) (secondAt rows k) (h .line k l .third) (valueAt q rows k)) rest))))
+            ≡ evaluated (m (assertionBy (kindAt rows k) (firstAt rows k) (valueAt q rows k) (piecesAt q rows lines k))) (afterBy (kindAt rows k) (secondAt rows k) rest)
         go true y e a b = absurd (true≢false e)
         go false true e a b = absurd (true≢false e)
-        go false false e a b = rw (ne-eqb (kindAt rows k) 22 ne)
+        go false false e a b = rw (ne-eqb (kindAt rows k) 22 ne, pieces-are h (secondAt rows k) (k + 1) (omega (arith, l)))
 
 -- ---- the parts one by one
 
@@ -112,5 +110,5 @@ module _ (join : Truth → Truth → Truth) (one : Sheet → Evaluated) (left : 
 accepted : {A : Type 0} (x y : A) → accept x ≡ accept y → x ≡ y
 accepted x y e = cc
 
-pub whole-read : (m : Assertion → Truth) (s : Sheet) (f : Filter) → filter 16 128 s (λ f left rest. accept f) ≡ accept f → evaluateLines m 16 s .truth ≡ evaluate m f
-whole-read m s f e = let r = filter-read f m 16 128 s (λ f left rest. accept f) e in r .3 ∙ ap (evaluate m) (accepted (r .0) f (r .2))
+pub whole-read : (g : Grammar) (m : Assertion → Truth) (s : Sheet) (f : Filter) → filter g 16 128 s (λ f left rest. accept f) ≡ accept f → evaluateLines m 16 s .truth ≡ evaluate m f
+whole-read g m s f e = let r = filter-read g f m 16 128 s (λ f left rest. accept f) e in r .3 ∙ ap (evaluate m) (accepted (r .0) f (r .2))

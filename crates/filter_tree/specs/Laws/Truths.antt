@@ -37,15 +37,15 @@ module _ (x : ℕ) where
   unfolding truthOf
   truth-other n m = rw (ne-eqb x 2 n, ne-eqb x 1 m)
 
-module _ (m : Assertion → Truth) (w : ℕ) (q : Bytes) (rows : List ℕ) where
-  pub truths-none : (truths : List ℕ) → Truths m w q rows 0 truths
+module _ (m : Assertion → Truth) (q : Bytes) (rows : List ℕ) (lines : ℕ) where
+  pub truths-none : (truths : List ℕ) → Truths m q rows lines 0 truths
   truths-none truths = record { line = λ k l. absurd (omega (arith, l)) }
 
   -- one line more
-  pub truths-on : (k x : ℕ) (truths : List ℕ) → k < length truths → TruthAt m w q rows k x → Truths m w q rows k truths → Truths m w q rows (k + 1) (set truths k x)
+  pub truths-on : (k x : ℕ) (truths : List ℕ) → k < length truths → TruthAt m q rows lines k x → Truths m q rows lines k truths → Truths m q rows lines (k + 1) (set truths k x)
   truths-on k x truths room t h = record { line = λ j l. go j l (decLt j k) }
     where
-      go : (j : ℕ) → j < k + 1 → Dec (j < k) → TruthAt m w q rows j (getD (set truths k x) j 0)
-      go j l (yes b) = subst (TruthAt m w q rows j) (sym (getD-set-other truths k j x 0 (λ e. omega (arith, b, e)))) (h .line j b)
+      go : (j : ℕ) → j < k + 1 → Dec (j < k) → TruthAt m q rows lines j (getD (set truths k x) j 0)
+      go j l (yes b) = subst (TruthAt m q rows lines j) (sym (getD-set-other truths k j x 0 (λ e. omega (arith, b, e)))) (h .line j b)
       go j l (no b) = let e : k ≡ j = omega (arith, l, b) in
-          subst (λ (i : ℕ). TruthAt m w q rows i (getD (set truths k x) i 0)) e (subst (TruthAt m w q rows k) (sym (getD-set-same truths k x 0 room)) t)
+          subst (λ (i : ℕ). TruthAt m q rows lines i (getD (set truths k x) i 0)) e (subst (TruthAt m q rows lines k) (sym (getD-set-same truths k x 0 room)) t)

@@ -1,6 +1,6 @@
 use mathlib.Core.Path.{sym, _∙_}
 use denote.Ref.{now}
-use Rattle.name.specs.Schema.{allowed-at, allowed-none}
+use Rattle.name.specs.Laws.Schema.{allowed-at, allowed-none}
 use borrow.Author.Needs.{needs}
 use Rattle.name.proofs.allowed.Statement.{statement}
 use Rattle.name.proofs.allowed.Tie as tie

@@ -1,6 +1,6 @@
 use mathlib.Core.Path.{sym, _∙_}
 use denote.Ref.{now}
-use Rattle.name.specs.Schema.{equal-at, equal-none}
+use Rattle.name.specs.Laws.Schema.{equal-at, equal-none}
 use borrow.Author.Needs.{needs}
 use Rattle.name.proofs.equal.Statement.{statement}
 use Rattle.name.proofs.equal.Tie as tie

@@ -1,6 +1,6 @@
 use mathlib.Core.Path.{sym, _∙_}
 use denote.Ref.{now}
-use Rattle.name.specs.Schema.{equal-fit, equal-unfit, equal-apart}
+use Rattle.name.specs.Laws.Schema.{equal-fit, equal-unfit, equal-apart}
 use borrow.Author.Needs.{needs}
 use Rattle.name.proofs.equal_by.Statement.{statement}
 use Rattle.name.proofs.equal_by.Tie as tie

@@ -1,6 +1,6 @@
 use mathlib.Core.Path.{sym, _∙_}
 use denote.Ref.{now}
-use Rattle.name.specs.Schema.{known-at, known-none}
+use Rattle.name.specs.Laws.Schema.{known-at, known-none}
 use borrow.Author.Needs.{needs}
 use Rattle.name.proofs.known.Statement.{statement}
 use Rattle.name.proofs.known.Tie as tie

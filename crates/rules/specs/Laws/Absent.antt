@@ -8,15 +8,15 @@ use mathlib.Core.Bool.{Bool, true, false, _||_, cond, true≢false, false≢true
 use mathlib.Core.List.{List, [], _∷_, _++_, map}
 use lib.ListN.{length, getD, length-map, List·getD-map}
 use lib.Dec.{eqb}
-use Rattle.rules.specs.Lists.{any}
+use Rattle.rules.specs.Lists.{any, keep}
 use Rattle.rules.specs.Sheet.{Line}
 use Rattle.rules.specs.Name.{Schema, Name, sameName, covers, childOf}
 use Rattle.rules.specs.Directory.{Stored, blank, nameAt, Directory, Entry, entryOf, entries}
 use Rattle.rules.specs.Decision.{Setting}
 use Rattle.rules.specs.Request.{Search, list, search}
-use Rattle.rules.specs.Answer.{listed, candidate, found, inSubset, disclosed, noSuchObject, returned, listHits, searchHits, answer}
+use Rattle.rules.specs.Answer.{listed, candidate, found, inSubset, disclosed, noSuchObject, returned, listHit, searchHit, listHits, searchHits, answer}
 use Rattle.rules.specs.Laws.Tests.{and-left}
-use Rattle.rules.specs.Laws.Lists.{any-at, any-none, any-weaken, gather-none}
+use Rattle.rules.specs.Laws.Lists.{any-at, any-none, any-weaken, keep-none}
 use Rattle.rules.specs.Laws.Name.{covers-snoc, same-covers}
 use Rattle.rules.specs.Laws.Directory.{Accepted}
 
@@ -88,17 +88,18 @@ module _ (σ : Setting) (d : Directory) (e : σ .schema ≡ d .schema) (ok : Acc
   nothing-returned op limit hits q =
       rw (q, any-weaken (disclosed σ n) (λ x. sameName (σ .schema) n (x .name)) (λ x. and-left _ _) (map entryOf (d .entries)) absent)
 
+  -- a test that only names below pass keeps none
+  none-kept : (p : Entry → Bool) → ((x : Entry) → p x ≡ true → covers (σ .schema) n (x .name) ≡ true) → keep p (entries d) ≡ []
+  none-kept p h = keep-none p (entries d) (any-weaken p (λ x. covers (σ .schema) n (x .name)) h (entries d) below-none)
+
   pub list-absent : (limit : ℕ) → answer σ (entries d) n (list limit) ≡ noSuchObject σ (entries d) 3 n
   unfolding answer listHits listed childOf
   list-absent limit =
-      nothing-returned 3 limit _
-      (gather-none (listed σ n) _ (λ x. covers (σ .schema) n (x .name))
-      (λ x r. and-left (covers (σ .schema) n (x .name)) _ (and-left (childOf (σ .schema) n (x .name)) _ r)) (entries d) below-none)
+      nothing-returned 3 limit _ (ap (map (listHit σ n))
+      (none-kept (listed σ n) (λ x r. and-left (covers (σ .schema) n (x .name)) _ (and-left (childOf (σ .schema) n (x .name)) _ r))))
 
   pub search-absent : (r : Search) → answer σ (entries d) n (search r) ≡ noSuchObject σ (entries d) 4 n
   unfolding answer searchHits found candidate
   search-absent r =
-      nothing-returned 4 (r .limit) _
-      (gather-none (found σ n r) _ (λ x. covers (σ .schema) n (x .name))
-      (λ x q. subset-covers σ (r .subset) n (x .name) (and-left (inSubset σ (r .subset) n (x .name)) _ (and-left (candidate σ n (r .subset) x) _ q)))
-      (entries d) below-none)
+      nothing-returned 4 (r .limit) _ (ap (map (searchHit σ r))
+      (none-kept (found σ n r) (λ x q. subset-covers σ (r .subset) n (x .name) (and-left (inSubset σ (r .subset) n (x .name)) _ (and-left (candidate σ n (r .subset) x) _ q)))))

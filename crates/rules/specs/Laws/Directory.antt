@@ -13,6 +13,7 @@ use lib.Dec.{eqb, ltb, leb}
 use borrow.Author.Tests.{ltb-false, eq-eqb}
 use Rattle.rules.specs.Lists.{any, isEmpty, lastOr, optional}
 use Rattle.rules.specs.Sheet.{Bytes, Line, Sheet, end, broken, row, lines}
+use Rattle.rules.specs.declared.Format.{Format}
 use Rattle.rules.specs.Columns.{inForm, directoryForms}
 use Rattle.rules.specs.Name.{Schema, part, Name, allowed, samePart, sameName}
 use Rattle.rules.specs.Judge.{Verdict, accept, refuse, then, fold}
@@ -154,31 +155,31 @@ value-sound st x next (some c) ok f e =
     = record { before = ok; last = record { parent = f .parent; name = f .name; alone = f .alone } } in
     subst Sound (accepted-is (h₅ .1)) s
 
-step-sound : (st : Reading) (x : Line) (next : Reading) → Sound st → step st x ≡ accept next → Sound next
+step-sound : (top : ℕ) (st : Reading) (x : Line) (next : Reading) → Sound st → step top st x ≡ accept next → Sound next
 unfolding step
-step-sound st x next ok e = go (eqb (x .kind) 1) (eqb (x .kind) 2) ((not-refused (not (inForm directoryForms x)) 2 _ next e) .1)
+step-sound top st x next ok e = go (eqb (x .kind) 1) (eqb (x .kind) 2) ((not-refused (not (inForm (directoryForms top) x)) 2 _ next e) .1)
   where
     go : (a b : Bool) → cond a (typeLine st x) (cond b (entryLine st x) (valueLine st (st .current) x)) ≡ accept next → Sound next
     go true b h = type-sound st x next h
     go false true h = entry-sound st x next ok h
     go false false h = value-sound st x next (st .current) (ok .before) (ok .last) h
 
-fold-sound : (s : Sheet) (st : Reading) (d : Directory.Directory) → Sound st → fold step finish 2 st s ≡ accept d → Accepted (d .schema) (d .entries)
+fold-sound : (top : ℕ) (s : Sheet) (st : Reading) (d : Directory.Directory) → Sound st → fold (step top) finish 2 st s ≡ accept d → Accepted (d .schema) (d .entries)
 unfolding fold finish
-fold-sound end st d ok e =
+fold-sound top end st d ok e =
     subst (λ (x : Directory.Directory). Accepted (x .schema) (x .entries)) (accepted-is ((not-refused (lacksNaming (st .schema) (st .current)) 6 _ d e) .1)) (sound-all st ok)
-fold-sound broken st d ok e = absurd (refused-not 2 d e)
-fold-sound (row x rest) st d ok e = go (step st x) refl e (λ next. fold-sound rest next d)
+fold-sound top broken st d ok e = absurd (refused-not 2 d e)
+fold-sound top (row x rest) st d ok e = go (step top st x) refl e (λ next. fold-sound top rest next d)
   where
-    go : (v : Verdict Reading) → step st x ≡ v → then v (λ next. fold step finish 2 next rest) ≡ accept d
-        → ((next : Reading) → Sound next → fold step finish 2 next rest ≡ accept d → Accepted (d .schema) (d .entries)) → Accepted (d .schema) (d .entries)
-    go (accept next) p q ih = ih next (step-sound st x next ok p) q
+    go : (v : Verdict Reading) → step top st x ≡ v → then v (λ next. fold (step top) finish 2 next rest) ≡ accept d
+        → ((next : Reading) → Sound next → fold (step top) finish 2 next rest ≡ accept d → Accepted (d .schema) (d .entries)) → Accepted (d .schema) (d .entries)
+    go (accept next) p q ih = ih next (step-sound top st x next ok p) q
     go (refuse n) p q ih = absurd (refused-not n d q)
 
 -- what an accepted sheet tells
-pub accepted-means : (w : ℕ) (s : Bytes) (d : Directory.Directory) → directoryOf w s ≡ accept d → Accepted (d .schema) (d .entries)
+pub accepted-means : (f : Format) (s : Bytes) (d : Directory.Directory) → directoryOf f s ≡ accept d → Accepted (d .schema) (d .entries)
 unfolding directoryOf
-accepted-means w s d e = fold-sound (lines w s) nothing d (record { before = none-accepted []; last = tt }) ((not-refused (ltb 65536 (length s)) 1 _ d e) .1)
+accepted-means f s d e = fold-sound (f .top) (lines (f .width) s) nothing d (record { before = none-accepted []; last = tt }) ((not-refused (ltb 65536 (length s)) 1 _ d e) .1)
 
 -- ---- a name names at most one entry
 

@@ -1,35 +1,22 @@
--- A filter evaluated while its lines are read, an operator before its parts: for a program that builds no tree.
-use Prim.Native.Nat.{ℕ, zero, suc}
+-- Laws of `FilterLines`: a filter evaluated while its lines are read has the truth of the filter that is read.
+use Prim.Native.Nat.{ℕ, zero, suc, _+_}
 use mathlib.Core.Path.{_≡_, refl, sym, ap, _∙_, subst}
 use mathlib.Core.Bool.{Bool, true, false, _&&_, _||_, not, cond}
 use mathlib.Core.List.{List, [], _∷_}
 use lib.Dec.{eqb}
 use Rattle.rules.specs.Lists.{any}
 use Rattle.rules.specs.Sheet.{Line, Sheet, end, broken, row}
-use Rattle.rules.specs.Columns.{inForm, requestForms}
+use Rattle.rules.specs.Columns.{inForm}
 use Rattle.rules.specs.Value.{Piece}
-use Rattle.rules.specs.Judge.{Verdict, accept, refuse}
+use Rattle.rules.specs.Judge.{Grammar, Verdict, accept, refuse}
 use Rattle.rules.specs.Filter.{Assertion, equality, atLeast, atMost, present, substrings, Filter, and, or, not′, item, Filters, none, more, isTrue, isFalse, conjunction, disjunction, negation, evaluate, evaluateAll}
-use Rattle.rules.specs.Request.{requestGrammar, filterLine, pieces, filters, filterOf, filter}
+use Rattle.rules.specs.Request.{filterLine, pieces, filters, filterOf, filter}
+use Rattle.rules.specs.FilterLines.{both, either, piecesOf, afterLines, assertionOf, afterItem, Evaluated, evaluated, partsFrom, evaluateLine, evaluateSheet, evaluateLines}
 use Rattle.rules.specs.Laws.Judge.{refused-not, not-refused, misplaced-not}
 use Rattle.rules.specs.declared.Truth.{Truth}
 use Rattle.rules.specs.declared.Truth.the-variants.{True, False, Undefined}
 
 -- ---- and, or: one part at a time
-
-abbrev pub both : Truth → Truth → Truth
-both False u = False
-both True u = u
-both Undefined False = False
-both Undefined True = Undefined
-both Undefined Undefined = Undefined
-
-abbrev pub either : Truth → Truth → Truth
-either True u = True
-either False u = u
-either Undefined True = True
-either Undefined False = Undefined
-either Undefined Undefined = Undefined
 
 conj-more : (t : Truth) (ts : List Truth) → conjunction (t ∷ ts) ≡ both t (conjunction ts)
 unfolding conjunction
@@ -53,63 +40,6 @@ disj-more Undefined ts = go (any isTrue ts) (any (λ t. not (isFalse t)) ts)
     go false true = refl
     go false false = refl
 
--- ---- lines
-
--- the first `n` lines as pieces, and what follows them
-unfoldable pub piecesOf : ℕ → Sheet → List Piece
-piecesOf zero s = []
-piecesOf (suc n) end = []
-piecesOf (suc n) broken = []
-piecesOf (suc n) (row x rest) = record { place = x .a; bytes = x .bytes } ∷ piecesOf n rest
-
-unfoldable pub afterLines : ℕ → Sheet → Sheet
-afterLines zero s = s
-afterLines (suc n) end = end
-afterLines (suc n) broken = broken
-afterLines (suc n) (row x rest) = afterLines n rest
-
--- the item of a line K 23 to 27, and what follows it
-unfoldable pub assertionOf : Line → Sheet → Assertion
-assertionOf x rest =
-    cond (eqb (x .kind) 23) (equality (x .a) (x .bytes))
-    (cond (eqb (x .kind) 24) (atLeast (x .a) (x .bytes))
-    (cond (eqb (x .kind) 25) (atMost (x .a) (x .bytes))
-    (cond (eqb (x .kind) 26) (present (x .a))
-    (substrings (x .a) (piecesOf (x .b) rest)))))
-
-unfoldable pub afterItem : Line → Sheet → Sheet
-afterItem x rest = cond (eqb (x .kind) 23 || (eqb (x .kind) 24 || (eqb (x .kind) 25 || eqb (x .kind) 26))) rest (afterLines (x .b) rest)
-
-pub record Evaluated : Type 0 where
-  pub truth : Truth
-  pub rest : Sheet
-
-abbrev pub evaluated : Truth → Sheet → Evaluated
-evaluated t s = record { truth = t; rest = s }
-
--- `n` parts joined to what came before
-unfoldable pub partsFrom : (Truth → Truth → Truth) → (Sheet → Evaluated) → ℕ → Truth → Sheet → Evaluated
-partsFrom join one zero t s = evaluated t s
-partsFrom join one (suc n) t s = partsFrom join one n (join t (one s .truth)) (one s .rest)
-
-module _ (m : Assertion → Truth) where
-  unfoldable pub evaluateLine : (Sheet → Evaluated) → Line → Sheet → Evaluated
-  evaluateLine one x rest =
-      cond (eqb (x .kind) 20) (partsFrom both one (x .a) True rest)
-      (cond (eqb (x .kind) 21) (partsFrom either one (x .a) False rest)
-      (cond (eqb (x .kind) 22) (evaluated (negation (one rest .truth)) (one rest .rest))
-      (evaluated (m (assertionOf x rest)) (afterItem x rest))))
-
-  unfoldable pub evaluateSheet : (Line → Sheet → Evaluated) → Sheet → Evaluated
-  evaluateSheet f end = evaluated Undefined end
-  evaluateSheet f broken = evaluated Undefined broken
-  evaluateSheet f (row x rest) = f x rest
-
-  -- the filter at the front of a sheet, at most `depth` levels deep
-  unfoldable pub evaluateLines : ℕ → Sheet → Evaluated
-  evaluateLines zero s = evaluated Undefined s
-  evaluateLines (suc depth) s = evaluateSheet (evaluateLine (evaluateLines depth)) s
-
 -- ---- it is the truth of the filter that was read
 
 both-assoc : (a b c : Truth) → both (both a b) c ≡ both a (both b c)
@@ -130,24 +60,24 @@ either-assoc Undefined Undefined True = refl
 either-assoc Undefined Undefined False = refl
 either-assoc Undefined Undefined Undefined = refl
 
-module _ {A : Type 0} (a : A) where
+module _ {A : Type 0} (g : Grammar) (a : A) where
   -- a filter line that was taken
-  line-taken : (left : ℕ) (s : Sheet) (next : ℕ → Line → Sheet → Verdict A) → filterLine left s next ≡ accept a
+  line-taken : (left : ℕ) (s : Sheet) (next : ℕ → Line → Sheet → Verdict A) → filterLine g left s next ≡ accept a
       → (l : ℕ) × (x : Line) × (rest : Sheet) × (s ≡ row x rest) × (next l x rest ≡ accept a)
   unfolding filterLine
-  line-taken zero s next e = absurd (misplaced-not requestGrammar s a e)
-  line-taken (suc left) end next e = absurd (misplaced-not requestGrammar end a e)
-  line-taken (suc left) broken next e = absurd (misplaced-not requestGrammar broken a e)
-  line-taken (suc left) (row x rest) next e = (left, x, rest, refl, not-refused (not (inForm requestForms x)) 22 _ a e .1)
+  line-taken zero s next e = absurd (misplaced-not g s a e)
+  line-taken (suc left) end next e = absurd (misplaced-not g end a e)
+  line-taken (suc left) broken next e = absurd (misplaced-not g broken a e)
+  line-taken (suc left) (row x rest) next e = (left, x, rest, refl, not-refused (not (inForm (g .forms) x)) (g .refusals + 2) _ a e .1)
 
-  pieces-read : (n : ℕ) (first : Bool) (left : ℕ) (s : Sheet) (next : List Piece → ℕ → Sheet → Verdict A) → pieces first n left s next ≡ accept a
+  pieces-read : (n : ℕ) (first : Bool) (left : ℕ) (s : Sheet) (next : List Piece → ℕ → Sheet → Verdict A) → pieces g first n left s next ≡ accept a
       → (l : ℕ) × (next (piecesOf n s) l (afterLines n s) ≡ accept a)
   unfolding pieces piecesOf afterLines
   pieces-read zero first left s next e = (left, e)
   pieces-read (suc n) first left s next e =
       let t = line-taken left s _ e in
       let x : Line = t .1 in
-      let h = not-refused (not (eqb (x .kind) 28) || (eqb (x .a) 0 && not first || eqb (x .a) 2 && not (eqb n 0))) 23 _ a (t .4) .1 in
+      let h = not-refused (not (eqb (x .kind) 28) || (eqb (x .a) 0 && not first || eqb (x .a) 2 && not (eqb n 0))) (g .refusals + 3) _ a (t .4) .1 in
       let r = pieces-read n false (t .0) (t .2) (λ ps. next (record { place = x .a; bytes = x .bytes } ∷ ps)) h in
       (r .0, subst (λ (z : Sheet). next (piecesOf (suc n) z) (r .0) (afterLines (suc n) z) ≡ accept a) (sym (t .3)) (r .1))
 
@@ -198,7 +128,7 @@ module _ {A : Type 0} (a : A) where
         )
 
     -- one line and its parts
-    line-read : (left : ℕ) (x : Line) (s : Sheet) (next : Filter → ℕ → Sheet → Verdict A) → filterOf one next left x s ≡ accept a
+    line-read : (left : ℕ) (x : Line) (s : Sheet) (next : Filter → ℕ → Sheet → Verdict A) → filterOf g one next left x s ≡ accept a
         → (f : Filter) × (l : ℕ) × (next f l (evaluateLine m tell x s .rest) ≡ accept a) × (evaluateLine m tell x s .truth ≡ evaluate m f)
     unfolding filterOf evaluateLine assertionOf afterItem evaluate
     line-read left x s next e = go (eqb (x .kind) 20) (eqb (x .kind) 21) (eqb (x .kind) 22) (eqb (x .kind) 23) (eqb (x .kind) 24) (eqb (x .kind) 25) (eqb (x .kind) 26) (eqb (x .kind) 27) e
@@ -222,7 +152,7 @@ module _ {A : Type 0} (a : A) where
             (cond b₂₄ (next (item (atLeast (x .a) (x .bytes))) left s)
             (cond b₂₅ (next (item (atMost (x .a) (x .bytes))) left s)
             (cond b₂₆ (next (item (present (x .a))) left s)
-            (cond b₂₇ (pieces true (x .b) left s (λ ps. next (item (substrings (x .a) ps)))) (refuse 23)))))))) ≡ accept a
+            (cond b₂₇ (pieces g true (x .b) left s (λ ps. next (item (substrings (x .a) ps)))) (refuse (g .refusals + 3))))))))) ≡ accept a
             → (f : Filter) × (l : ℕ) × (next f l (result b₂₀ b₂₁ b₂₂ b₂₃ b₂₄ b₂₅ b₂₆ .rest) ≡ accept a) × (result b₂₀ b₂₁ b₂₂ b₂₃ b₂₄ b₂₅ b₂₆ .truth ≡ evaluate m f)
         go true b₂₁ b₂₂ b₂₃ b₂₄ b₂₅ b₂₆ b₂₇ e = let r = and-read (x .a) left s True (λ fs. next (and fs)) e in (and (r .0), r .1, r .2, r .3)
         go false true b₂₂ b₂₃ b₂₄ b₂₅ b₂₆ b₂₇ e = let r = or-read (x .a) left s False (λ fs. next (or fs)) e in (or (r .0), r .1, r .2, r .3)
@@ -234,13 +164,13 @@ module _ {A : Type 0} (a : A) where
         go false false false false false false false true e =
             let r = pieces-read (x .b) true left s (λ ps. next (item (substrings (x .a) ps))) e in
             (item (substrings (x .a) (piecesOf (x .b) s)), r .0, r .1, refl)
-        go false false false false false false false false e = absurd (refused-not 23 a e)
+        go false false false false false false false false e = absurd (refused-not (g .refusals + 3) a e)
 
   -- a filter that was read has the truth that its lines evaluate to
-  pub filter-read : (m : Assertion → Truth) (depth : ℕ) → Tells (filter depth) m (evaluateLines m depth)
+  pub filter-read : (m : Assertion → Truth) (depth : ℕ) → Tells (filter g depth) m (evaluateLines m depth)
   unfolding filter evaluateLines evaluateSheet
-  filter-read m zero left s next e = absurd (misplaced-not requestGrammar s a e)
+  filter-read m zero left s next e = absurd (misplaced-not g s a e)
   filter-read m (suc depth) left s next e =
-      let t = line-taken left s (filterOf (filter depth) next) e in
-      let r = line-read m (filter depth) (evaluateLines m depth) (filter-read m depth) (t .0) (t .1) (t .2) next (t .4) in
+      let t = line-taken left s (filterOf g (filter g depth) next) e in
+      let r = line-read m (filter g depth) (evaluateLines m depth) (filter-read m depth) (t .0) (t .1) (t .2) next (t .4) in
       subst (λ (z : Sheet). (f : Filter) × (l : ℕ) × (next f l (evaluateLines m (suc depth) z .rest) ≡ accept a) × (evaluateLines m (suc depth) z .truth ≡ evaluate m f)) (sym (t .3)) r

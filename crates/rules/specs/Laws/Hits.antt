@@ -14,9 +14,12 @@ use Rattle.rules.specs.Directory.{Stored, blank, nameAt, entryOf}
 use Rattle.rules.specs.Permission.{Read, Browse, ReturnDN}
 use Rattle.rules.specs.Decision.{Setting, entry, granted}
 use Rattle.rules.specs.Answer.{listed, listHit, inSubset, candidate}
+use Rattle.rules.specs.Numbers.{walk, climbs, withinNumber}
 use Rattle.rules.specs.Laws.Tests.{and-right}
 use Rattle.rules.specs.Laws.Directory.{Accepted}
-use Rattle.rules.specs.Laws.ByNumber.{climbs, named-is, child-by-number, below-by-number}
+use Rattle.rules.specs.Laws.Resolve.{base-found}
+use Rattle.rules.specs.declared.Found.the-variants.{At}
+use Rattle.rules.specs.Laws.ByNumber.{named-is, child-by-number, below-by-number}
 
 same-length : (S : Schema) (a b : Name) → sameName S a b ≡ true → length a ≡ length b
 unfolding sameName
@@ -25,35 +28,29 @@ same-length S [] (y ∷ ys) e = absurd (false≢true e)
 same-length S (x ∷ xs) [] e = absurd (false≢true e)
 same-length S (x ∷ xs) (y ∷ ys) e = ap suc (same-length S xs ys (and-right (samePart S x y) _ e))
 
--- number `k` is in the subset `b` of base number `base`: the base alone, its children, or the base and all below
-unfoldable pub withinNumber : List Stored → ℕ → ℕ → ℕ → Bool
-withinNumber es b base k = cond (eqb b 0) (eqb k base) (cond (eqb b 1) (isChild k) (climbs es k base k))
-  where
-    isChild : ℕ → Bool
-    isChild zero = false
-    isChild (suc j) = eqb (getD es j blank .parent) base
+module _ (σ : Setting) (es : List Stored) (ok : Accepted (σ .schema) es) (n : Name) (b : ℕ) (walked : walk (σ .schema) es 0 n ≡ At b) (k : ℕ) (l : k < length es) where
+  base : (b ≤ length es) × (sameName (σ .schema) n (nameAt es b) ≡ true)
+  base = base-found (σ .schema) es ok n b walked
 
-module _ (σ : Setting) (es : List Stored) (ok : Accepted (σ .schema) es) (n : Name) (b : ℕ) (in-range : b ≤ length es) (base : sameName (σ .schema) n (nameAt es b) ≡ true)
-    (k : ℕ) (l : k < length es) where
   child : childOf (σ .schema) n (getD es k blank .name) ≡ eqb (getD es k blank .parent) b
-  child = child-by-number (σ .schema) es ok n b in-range base k l
+  child = child-by-number (σ .schema) es ok n b (base .0) (base .1) k l
 
-  pub same-number : sameName (σ .schema) n (getD es k blank .name) ≡ eqb (suc k) b
+  same-number : sameName (σ .schema) n (getD es k blank .name) ≡ eqb (suc k) b
   unfolding nameAt
-  same-number = named-is (σ .schema) es ok n b in-range base (suc k) l
+  same-number = named-is (σ .schema) es ok n b (base .0) (base .1) (suc k) l
 
   pub listed-number : listed σ n (entryOf (getD es k blank))
       ≡ (eqb (getD es k blank .parent) b && (granted σ (getD es k blank .name) entry Browse && granted σ (getD es k blank .name) entry ReturnDN))
   unfolding listed entryOf
   listed-number = ap (λ (c : Bool). c && (granted σ (getD es k blank .name) entry Browse && granted σ (getD es k blank .name) entry ReturnDN)) child
 
-  pub within-number : (s : ℕ) → inSubset σ s n (getD es k blank .name) ≡ withinNumber es s b (suc k)
+  within-number : (s : ℕ) → inSubset σ s n (getD es k blank .name) ≡ withinNumber es s b (suc k)
   unfolding inSubset withinNumber nameAt
   within-number s =
       λ i. cond (eqb s 0) (same-number i) (cond (eqb s 1) (child i) (below i))
     where
       below : covers (σ .schema) n (getD es k blank .name) ≡ climbs es (suc k) b (suc k)
-      below = below-by-number (σ .schema) es ok n b in-range base (suc k) (suc k) (omega arith) l
+      below = below-by-number (σ .schema) es ok n b (base .0) (base .1) (suc k) (suc k) (omega arith) l
 
   pub candidate-number : (s : ℕ) → candidate σ n s (entryOf (getD es k blank))
       ≡ (withinNumber es s b (suc k)
@@ -70,4 +67,4 @@ module _ (σ : Setting) (es : List Stored) (ok : Accepted (σ .schema) es) (n : 
       ap (λ (m : Name). map (λ p. line 32 (p .type) 0 0 (p .value)) m)
       (ap (drop (length n)) (ok .names k l)
       ∙ drop-at (nameAt es (getD es k blank .parent)) (getD es k blank .naming ∷ []) (length n)
-      (ap (λ (j : ℕ). length (nameAt es j)) (eqb-true (getD es k blank .parent) b e) ∙ sym (same-length (σ .schema) n (nameAt es b) base)))
+      (ap (λ (j : ℕ). length (nameAt es j)) (eqb-true (getD es k blank .parent) b e) ∙ sym (same-length (σ .schema) n (nameAt es b) (base .1))))

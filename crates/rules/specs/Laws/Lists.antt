@@ -5,14 +5,23 @@ use native.Mathlib.Nat.{le-of-suc-le-suc, not-suc-le-zero}
 use mathlib.Core.Path.{_≡_, refl, sym, ap, ap₂, _∙_}
 use mathlib.Core.Bool.{Bool, true, false, _||_, true≢false}
 use mathlib.Core.Option.{Option, none, some}
-use mathlib.Core.List.{List, [], _∷_, _++_}
+use mathlib.Core.List.{List, [], _∷_, _++_, map}
 use lib.ListN.{length, getD}
-use Rattle.rules.specs.Lists.{given, gather, any, first, firstOr, sift}
+use Rattle.rules.specs.Lists.{given, gather, any, first, firstOr, keep, sift}
 use Rattle.rules.specs.Laws.Tests.{contra, or-right}
 
 given-cong {ℓ} : {A : Type ℓ} (b : Bool) {xs ys : List A} → (b ≡ true → xs ≡ ys) → given b xs ≡ given b ys
 given-cong true h = h refl
 given-cong false h = refl
+
+map-keep {ℓ κ} : {A : Type ℓ} {B : Type κ} (f : A → B) (p : A → Bool) (xs : List A) → map f (keep p xs) ≡ gather (λ x. given (p x) (f x ∷ [])) xs
+map-keep f p [] = refl
+map-keep {B = B} f p (x ∷ xs) = go (p x) (map-keep f p xs)
+  where
+    go : (b : Bool) → map f (keep p xs) ≡ gather (λ x. given (p x) (f x ∷ [])) xs
+        → map f (given b (x ∷ []) ++ keep p xs) ≡ given b (f x ∷ []) ++ gather (λ x. given (p x) (f x ∷ [])) xs
+    go true ih = ap (λ (l : List B). f x ∷ l) ih
+    go false ih = ih
 
 -- ---- a sifted list
 
@@ -32,6 +41,15 @@ module _ {ℓ} {A : Type ℓ} (kept : A → Bool) (reduce : A → A) where
           let h : f′ (reduce x) ≡ f′ x = rw (same-p x e) (given-cong (p x) (same-f x)) in
           ap₂ (λ (l r : List B). l ++ r) h ih
       go false e ih = rw (contra (p x) (kept x) (covered x) e) ih
+
+  -- what is made of the elements that pass
+  pub map-sift {κ} : {B : Type κ} (p : A → Bool) (f : A → B) → ((x : A) → p x ≡ true → kept x ≡ true)
+      → ((x : A) → kept x ≡ true → p (reduce x) ≡ p x) → ((x : A) → p x ≡ true → f (reduce x) ≡ f x)
+      → (xs : List A) → map f (keep p (sift kept reduce xs)) ≡ map f (keep p xs)
+  map-sift {B = B} p f covered same-p same-f xs =
+      map-keep f p (sift kept reduce xs)
+      ∙ gather-sift p (λ x. f x ∷ []) covered same-p (λ x e. ap (λ (y : B). y ∷ []) (same-f x e)) xs
+      ∙ sym (map-keep f p xs)
 
   pub any-sift : (p : A → Bool) → ((x : A) → p x ≡ true → kept x ≡ true) → ((x : A) → kept x ≡ true → p (reduce x) ≡ p x)
       → (xs : List A) → any p (sift kept reduce xs) ≡ any p xs
@@ -124,16 +142,14 @@ module _ {A : Type 0} (p : A → Bool) (z : A) where
     once-by-index xs (λ i j l b. h (suc i) (suc j) (suc-le-suc l) (suc-le-suc b)),
   )
 
--- what no element passes gathers nothing
-pub gather-none : {A B : Type 0} (p : A → Bool) (f : A → List B) (q : A → Bool) → ((x : A) → p x ≡ true → q x ≡ true)
-    → (xs : List A) → any q xs ≡ false → gather (λ x. given (p x) (f x)) xs ≡ []
-gather-none p f q h [] e = refl
-gather-none {B = B} p f q h (x ∷ xs) e = go (q x) refl e (gather-none p f q h xs)
+-- what none passes keeps nothing
+pub keep-none : {A : Type 0} (p : A → Bool) (xs : List A) → any p xs ≡ false → keep p xs ≡ []
+keep-none p [] e = refl
+keep-none {A} p (x ∷ xs) e = go (p x) e (keep-none p xs)
   where
-    go : (b : Bool) → q x ≡ b → (b || any q xs) ≡ false → (any q xs ≡ false → gather (λ x. given (p x) (f x)) xs ≡ [])
-        → given (p x) (f x) ++ gather (λ x. given (p x) (f x)) xs ≡ []
-    go true i r ih = absurd (true≢false r)
-    go false i r ih = rw (contra (p x) (q x) (h x) i) (ih r)
+    go : (b : Bool) → (b || any p xs) ≡ false → (any p xs ≡ false → keep p xs ≡ []) → given b (x ∷ []) ++ keep p xs ≡ []
+    go true r ih = absurd (true≢false r)
+    go false r ih = ih r
 
 -- a stronger test finds no more
 pub any-weaken : {A : Type 0} (p q : A → Bool) → ((x : A) → p x ≡ true → q x ≡ true) → (xs : List A) → any q xs ≡ false → any p xs ≡ false

@@ -22,22 +22,9 @@ use Rattle.rules.specs.Laws.Lists.{Once, any-at, any-none, first-none, a
 use Rattle.rules.specs.Laws.Name.{sameName-join, snoc-snoc}
 use Rattle.rules.specs.Laws.Directory.{Accepted, one-number, once-named}
 use Rattle.rules.specs.Laws.Absent.{present′, above}
+use Rattle.rules.specs.Numbers.{onFound, childFrom, walk}
 use Rattle.rules.specs.declared.Found.{Found}
 use Rattle.rules.specs.declared.Found.the-variants.{At, Nothing}
-
-abbrev pub onFound : Found → (ℕ → Found) → Found
-onFound (At i) next = next i
-onFound Nothing next = Nothing
-
--- the number of the child of entry `parent` with the naming part `p`, among entries that count from `suc i`
-unfoldable pub childFrom : Schema → ℕ → Part → List Stored → ℕ → Found
-childFrom S parent p [] i = Nothing
-childFrom S parent p (e ∷ es) i = cond (eqb (e .parent) parent && samePart S p (e .naming)) (At (suc i)) (childFrom S parent p es (suc i))
-
--- the number of the entry reached from number `k` by the parts `ps`
-unfoldable pub walk : Schema → List Stored → ℕ → Name → Found
-walk S es k [] = At k
-walk S es k (p ∷ ps) = onFound (childFrom S k p es 0) (λ j. walk S es j ps)
 
 -- ---- children
 
@@ -111,6 +98,11 @@ module _ (S : Schema) (es : List Stored) (ok : Accepted S es) where
           → (b ≤ length es) × (sameName S (n ++ (p ∷ ps)) (nameAt es b) ≡ true)
       go (At j) q w ih = let c = child-named n k p j q h in let r = ih j (c .0) (c .1) w in (r .0, rw append-snoc at (r .1))
       go Nothing q w ih = absurd (found-not b w)
+
+  -- a base that the walk reaches: its number is in range, and it has the name
+  pub base-found : (n : Name) (b : ℕ) → walk S es 0 n ≡ At b → (b ≤ length es) × (sameName S n (nameAt es b) ≡ true)
+  unfolding nameAt sameName
+  base-found n b e = walk-found n [] 0 b zero-le refl e
 
   -- a name begins with a name's beginning
   beginning : (n ps m : Name) (p : Part) → sameName S (n ++ (p ∷ ps)) m ≡ true → covers S (n ++ (p ∷ [])) m ≡ true
@@ -242,10 +234,10 @@ module _ (σ : Setting) (es : List Stored) (ok : Accepted (σ .schema) es) where
       go : (f : Found) → walk (σ .schema) es 0 n ≡ f → named σ (map entryOf es) n ≡ entryBy es f
       go Nothing q = nobody n (λ k l e. walk-missing (σ .schema) es ok n [] 0 zero-le refl q (suc k) l e)
       go (At zero) q =
-          let r = walk-found (σ .schema) es ok n [] 0 0 zero-le refl q in
+          let r = base-found (σ .schema) es ok n 0 q in
           nobody n (λ k l e. let z : suc k ≡ 0 = only n 0 k (r .0) l (r .1) e in omega arith)
       go (At (suc k)) q =
-          let r = walk-found (σ .schema) es ok n [] 0 (suc k) zero-le refl q in
+          let r = base-found (σ .schema) es ok n (suc k) q in
           first-at (λ e. sameName (σ .schema) n (e .name)) (entryOf blank) (map entryOf es) k
           (subst (λ (m : ℕ). k < m) (sym (length-map es entryOf)) (r .0))
           (subst (λ (x : Entry). sameName (σ .schema) n (x .name) ≡ true) (sym (List·getD-map entryOf es k blank)) (r .1))

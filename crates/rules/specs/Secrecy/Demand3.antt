@@ -7,15 +7,17 @@ use mathlib.Core.List.{List, [], _∷_}
 use lib.Dec.{eqb}
 use borrow.Author.Tests.{eqb-true}
 use Rattle.rules.specs.Lists.{any}
-use Rattle.rules.specs.Sheet.{Bytes, Line, print}
+use Rattle.rules.specs.Sheet.{Bytes, Line, narrow, print}
+use Rattle.rules.specs.declared.Format.{Format}
 use Rattle.rules.specs.Name.{Schema, Name}
 use Rattle.rules.specs.Judge.{Verdict, accept, refuse, then}
 use Rattle.rules.specs.Directory.{Directory, entries}
 use Rattle.rules.specs.Permission.{Item, permissionsOf, Read, ReturnDN, DiscloseOnError, Compare, FilterMatch}
 use Rattle.rules.specs.Decision.{Setting, Requester, entry, ofType, ofValue, granted}
-use Rattle.rules.specs.Request.{Operation, Request, requestOf}
+use Rattle.rules.specs.Request.{Operation, read, compare, list, search, Request, requestOf}
 use Rattle.rules.specs.Answer.{answer}
-use Rattle.rules.specs.Serve.{settingOf, fitting, respond, serveAt, serve, width}
+use Rattle.rules.specs.Serve.{settingOf, ground, exchange, tighter, capped, within, fitting, respond, serveAt, serve}
+use Rattle.rules.specs.declared.Limits.{Limits}
 use Rattle.rules.specs.Shown.{ofEntries, ofTypes, ofValues, sight, shown, Alike}
 use Rattle.rules.specs.Laws.Tests.{or-right}
 use Rattle.rules.specs.Laws.Directory.{Accepted, accepted-means, once-named}
@@ -66,29 +68,46 @@ then-cong : {A B : Type 0} (v : Verdict A) (f g : A → Verdict B) → ((a : A) 
 then-cong (accept a) f g h = h a refl
 then-cong (refuse n) f g h = refl
 
--- the theorem: for every permission sheet `p`, request sheet `q` and buffer length `room`
-pub demand-3-at : (w : ℕ) (d₁ d₂ p q : Bytes) (room : ℕ) → Alike w p q d₁ d₂ → serveAt w d₁ p q room ≡ serveAt w d₂ p q room
-unfolding serveAt respond
-demand-3-at w d₁ d₂ p q room k = rw (k .accepted₁, k .accepted₂) inner
+-- the theorem: for every permission sheet `p`, request sheet `q`, program and buffer length `room`
+pub demand-3-at : (f : Format) (k : Limits) (d₁ d₂ p q : Bytes) (room : ℕ) → Alike f p q d₁ d₂ → serveAt f k d₁ p q room ≡ serveAt f k d₂ p q room
+unfolding serveAt ground
+demand-3-at f k d₁ d₂ p q room alike = rw (alike .accepted₁, alike .accepted₂) inner
   where
     D₁ : Directory
-    D₁ = k .first
+    D₁ = alike .first
 
     D₂ : Directory
-    D₂ = k .second
+    D₂ = alike .second
 
-    same : (is : List Item) → permissionsOf w (D₁ .schema) p ≡ accept is → (r : Request) → requestOf w q ≡ accept r → respond w D₁ is r room ≡ respond w D₂ is r room
-    same is e r h =
-        ap (λ (ls : List Line). fitting room (print w ls))
-        (answers-alike D₁ D₂ is (r .requester) (accepted-means w d₁ D₁ (k .accepted₁)) (accepted-means w d₂ D₂ (k .accepted₂)) (k .schema)
-        (k .same is r e h) (r .base) (r .operation))
+    from : (S : Schema) → Directory → Verdict Bytes
+    from S d = then (then (permissionsOf f S p) (λ is. accept (record { directory = d; items = is }))) (λ g. then (requestOf f q) (λ r. respond f g (within k r) room))
 
-    inner : then (permissionsOf w (D₁ .schema) p) (λ is. then (requestOf w q) (λ r. respond w D₁ is r room))
-        ≡ then (permissionsOf w (D₂ .schema) p) (λ is. then (requestOf w q) (λ r. respond w D₂ is r room))
-    inner =
-        then-cong (permissionsOf w (D₁ .schema) p) _ (λ is. then (requestOf w q) (λ r. respond w D₂ is r room))
-        (λ is e. then-cong (requestOf w q) (λ r. respond w D₁ is r room) (λ r. respond w D₂ is r room) (same is e))
-        ∙ ap (λ (S : Schema). then (permissionsOf w S p) (λ is. then (requestOf w q) (λ r. respond w D₂ is r room))) (k .schema)
+    same : (is : List Item) → permissionsOf f (D₁ .schema) p ≡ accept is → (r : Request) → requestOf f q ≡ accept r
+        → respond f (record { directory = D₁; items = is }) (within k r) room ≡ respond f (record { directory = D₂; items = is }) (within k r) room
+    same is e r h = unfold respond within in
+        ap (λ (ls : List Line). fitting room (print (f .width) ls))
+        (answers-alike D₁ D₂ is (r .requester) (accepted-means f d₁ D₁ (alike .accepted₁)) (accepted-means f d₂ D₂ (alike .accepted₂)) (alike .schema)
+        (alike .same is r e h) (r .base) (capped (k .entries) (r .operation)))
 
-pub demand-3 : (d₁ d₂ p q : Bytes) (room : ℕ) → Alike width p q d₁ d₂ → serve d₁ p q room ≡ serve d₂ p q room
-demand-3 = demand-3-at width
+    by : (v : Verdict (List Item)) → permissionsOf f (D₁ .schema) p ≡ v
+        → then (then v (λ is. accept (record { directory = D₁; items = is }))) (λ g. then (requestOf f q) (λ r. respond f g (within k r) room))
+        ≡ then (then v (λ is. accept (record { directory = D₂; items = is }))) (λ g. then (requestOf f q) (λ r. respond f g (within k r) room))
+    by (accept is) e = then-cong (requestOf f q) _ _ (same is e)
+    by (refuse n) e = refl
+
+    inner : from (D₁ .schema) D₁ ≡ from (D₂ .schema) D₂
+    inner = by (permissionsOf f (D₁ .schema) p) refl ∙ ap (λ (S : Schema). from S D₂) (alike .schema)
+
+pub demand-3 : (d₁ d₂ p q : Bytes) (room : ℕ) → Alike narrow p q d₁ d₂ → serve d₁ p q room ≡ serve d₂ p q room
+demand-3 = demand-3-at narrow exchange
+
+-- an exchange's request is asked as it stands
+pub within-exchange : (r : Request) → within exchange r ≡ r
+unfolding within capped tighter
+within-exchange r = ap (λ (o : Operation). record { requester = r .requester; base = r .base; operation = o }) (go (r .operation))
+  where
+    go : (o : Operation) → capped 0 o ≡ o
+    go (read s) = refl
+    go (compare t v) = refl
+    go (list limit) = refl
+    go (search s) = refl

@@ -20,7 +20,7 @@ use Rattle.rules.specs.Request.{Selection, Search, Operation, read, comp
 use Rattle.rules.specs.Answer.{bit, outcome, nameLines, entryLines, valueLines, limited, selected, orName, typeLines, information, readEntry, compareEntry, listed, candidate, found, inSubset, disclosed, listHit, searchHit, matchedName, noSuchObject, named, opened, returned, listHits, searchHits, answer}
 use Rattle.rules.specs.Shown.{Sight, shownHeld, shownEntry, shownBy}
 use Rattle.rules.specs.Laws.Tests.{contra, and-left, and-right, and-cong, and-cong-left, cond-cong}
-use Rattle.rules.specs.Laws.Lists.{gather-sift, any-sift, first-sift, once-sift, Once}
+use Rattle.rules.specs.Laws.Lists.{gather-sift, map-sift, any-sift, first-sift, once-sift, Once}
 use Rattle.rules.specs.declared.Truth.{Truth}
 
 -- ---- what an entry holds
@@ -141,32 +141,32 @@ module _ (σ : Setting) (g : Sight) where
             (λ e r. shows (e .name) (and-right (sameName (σ .schema) n (e .name)) _ r)) (λ e r. refl) es
 
     -- the entry of a read or compare
-    opened-shown : (op : ℕ) (n : Name) (f : Entry → List Line)
-        → ((m : Name) → granted σ m entry Read ≡ true → g .entries m ≡ true)
-        → ((e : Entry) → granted σ (e .name) entry Read ≡ true → f (shownEntry g e) ≡ f e)
+    opened-shown : (op q : ℕ) (n : Name) (f : Entry → List Line)
+        → ((m : Name) → granted σ m entry q ≡ true → g .entries m ≡ true)
+        → ((e : Entry) → granted σ (e .name) entry q ≡ true → f (shownEntry g e) ≡ f e)
         → Once (λ e. sameName (σ .schema) n (e .name)) es
-        → opened σ (shownBy g es) op n f (named σ (shownBy g es) n) ≡ opened σ es op n f (named σ es n)
+        → opened σ (shownBy g es) op q n f (named σ (shownBy g es) n) ≡ opened σ es op q n f (named σ es n)
     unfolding opened named shownBy shownEntry
-    opened-shown op n f readable same once = absent (first wanted (shownBy g es)) ∙ present′
+    opened-shown op q n f shown-open same once = absent (first wanted (shownBy g es)) ∙ present′
       where
         wanted : Entry → Bool
         wanted e = sameName (σ .schema) n (e .name)
 
         respond : Option Entry → List Line
-        respond = opened σ es op n f
+        respond = opened σ es op q n f
 
-        absent : (o : Option Entry) → opened σ (shownBy g es) op n f o ≡ respond o
+        absent : (o : Option Entry) → opened σ (shownBy g es) op q n f o ≡ respond o
         absent none = noSuchObject-shown op n
         absent (some e) =
-            ap (λ (l : List Line). cond (granted σ (e .name) entry Read) (f e) (cond (granted σ (e .name) entry DiscloseOnError) (outcome op 2) l)) (noSuchObject-shown op n)
+            ap (λ (l : List Line). cond (granted σ (e .name) entry q) (f e) (cond (granted σ (e .name) entry DiscloseOnError) (outcome op 2) l)) (noSuchObject-shown op n)
 
         hidden : (e : Entry) → g .entries (e .name) ≡ false → respond (some e) ≡ respond none
-        hidden e h = rw (contra (granted σ (e .name) entry Read) _ (readable (e .name)) h, contra (granted σ (e .name) entry DiscloseOnError) _ (shows (e .name)) h)
+        hidden e h = rw (contra (granted σ (e .name) entry q) _ (shown-open (e .name)) h, contra (granted σ (e .name) entry DiscloseOnError) _ (shows (e .name)) h)
 
         present′ : respond (first wanted (shownBy g es)) ≡ respond (first wanted es)
         present′ =
             once-sift (λ e. g .entries (e .name)) (shownEntry g) respond wanted hidden (λ e r. refl)
-            (λ e r. cond-cong (granted σ (e .name) entry Read) (same e) (λ q. refl)) es once
+            (λ e r. cond-cong (granted σ (e .name) entry q) (same e) (λ z. refl)) es once
 
   -- ---- read
 
@@ -203,7 +203,7 @@ module _ (σ : Setting) (g : Sight) where
   pub read-shown : EnoughToRead → (es : List Entry) (n : Name) (s : Selection) → Once (λ e. sameName (σ .schema) n (e .name)) es
       → answer σ (shownBy g es) n (read s) ≡ answer σ es n (read s)
   unfolding answer
-  read-shown k es n s once = opened-shown (k .entryDisclosed) es 1 n (readEntry σ s) (k .entryRead) (λ e m. readEntry-shown k s e m) once
+  read-shown k es n s once = opened-shown (k .entryDisclosed) es 1 Read n (readEntry σ s) (k .entryRead) (λ e m. readEntry-shown k s e m) once
 
   -- ---- compare, list and search
 
@@ -253,19 +253,19 @@ module _ (σ : Setting) (g : Sight) where
     listHits-shown : (es : List Entry) (n : Name) → listHits σ (shownBy g es) n ≡ listHits σ es n
     unfolding listHits listed listHit shownBy shownEntry
     listHits-shown es n =
-        gather-sift (λ e. g .entries (e .name)) (shownEntry g) (listed σ n) (λ e. listHit σ n e ∷ [])
+        map-sift (λ e. g .entries (e .name)) (shownEntry g) (listed σ n) (listHit σ n)
         (λ e r. k .entryReturned (e .name) (and-right (granted σ (e .name) entry Browse) _ (and-right (childOf (σ .schema) n (e .name)) _ r)))
         (λ e r. refl) (λ e r. refl) es
 
     searchHits-shown : (es : List Entry) (n : Name) (r : Search) → searchHits σ (shownBy g es) n r ≡ searchHits σ es n r
     unfolding searchHits searchHit found candidate shownBy shownEntry
     searchHits-shown es n r =
-        gather-sift (λ e. g .entries (e .name)) (shownEntry g) (found σ n r) (λ e. searchHit σ r e ∷ [])
+        map-sift (λ e. g .entries (e .name)) (shownEntry g) (found σ n r) (searchHit σ r)
         (λ e q. k .entryReturned (e .name)
         (and-right (granted σ (e .name) entry Browse || sameName (σ .schema) n (e .name) && granted σ (e .name) entry Read) _
         (and-right (inSubset σ (r .subset) n (e .name)) _ (and-left (candidate σ n (r .subset) e) _ q))))
         (λ e q. ap (λ (t : Truth). candidate σ n (r .subset) e && isTrue t) (filter-shown e (k .typeFiltered (e .name)) (k .valueFiltered (e .name)) (r .filter)))
-        (λ e q. ap (λ (i : List Line). (entryLines (e .name) ++ i) ∷ [])
+        (λ e q. ap (λ (i : List Line). entryLines (e .name) ++ i)
         (information-shown (r .selection) e (k .typeRead (e .name)) (λ t v m. k .valueRead (e .name) t v)))
         es
 
@@ -275,6 +275,6 @@ module _ (σ : Setting) (g : Sight) where
     unfolding answer
     answer-shown es n once (read s) = read-shown toRead es n s once
     answer-shown es n once (compare t v) =
-        opened-shown (k .entryDisclosed) es 2 n (compareEntry σ t v) (k .entryRead) (λ e m. compareEntry-shown t v e) once
+        opened-shown (k .entryDisclosed) es 2 Read n (compareEntry σ t v) (k .entryRead) (λ e m. compareEntry-shown t v e) once
     answer-shown es n once (list limit) = returned-shown (k .entryDisclosed) es 3 n limit (listHits-shown es n)
     answer-shown es n once (search r) = returned-shown (k .entryDisclosed) es 4 n (r .limit) (searchHits-shown es n r)

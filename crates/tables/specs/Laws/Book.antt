@@ -5,7 +5,7 @@ use mathlib.Core.List.{List}
 use native.Mathlib.Omega.{arith}
 use lib.ListN.{length, getD, take, drop, length-drop}
 use lib.Seq.{length-take-le, getD-take, getD-drop}
-use Rattle.tables.specs.Book.{Fits, types, entries, schema, positions, parents, naming, lengths, firstAt}
+use Rattle.tables.specs.Book.{Fits, types, entries, schema, parentAt, parents, firstAt}
 
 cut-length : (b : List ℕ) (at n : ℕ) → at + n ≤ length b → length (take n (drop at b)) ≡ n
 cut-length b at n h = length-take-le n (drop at b) (simp length-drop (omega (arith, h)))
@@ -30,32 +30,11 @@ module _ {b : List ℕ} (h : Fits b) where
   unfolding parents
   parents-length = cut-length b 328 (entries b) (omega (arith, h .size, h .few-entries))
 
-  pub naming-length : length (naming b) ≡ entries b
-  unfolding naming
-  naming-length = cut-length b 584 (entries b) (omega (arith, h .size, h .few-entries))
-
-  pub lengths-length : length (lengths b) ≡ entries b
-  unfolding lengths
-  lengths-length = cut-length b 840 (entries b) (omega (arith, h .size, h .few-entries))
-
 module _ (b : List ℕ) (k : ℕ) where
   pub type-at : k < types b → getD (schema b) k 0 ≡ getD b (8 + k) 0
   unfolding schema
   type-at l = cut-at b 8 (types b) k l
 
-  module _ (l : k < entries b) where
-    pub position-at : getD (positions b) k 0 ≡ getD b (72 + k) 0
-    unfolding positions
-    position-at = cut-at b 72 (entries b) k l
-
-    pub parent-at : getD (parents b) k 0 ≡ getD b (328 + k) 0
-    unfolding parents
-    parent-at = cut-at b 328 (entries b) k l
-
-    pub naming-at : getD (naming b) k 0 ≡ getD b (584 + k) 0
-    unfolding naming
-    naming-at = cut-at b 584 (entries b) k l
-
-    pub length-at : getD (lengths b) k 0 ≡ getD b (840 + k) 0
-    unfolding lengths
-    length-at = cut-at b 840 (entries b) k l
+  pub parent-at : k < entries b → getD (parents b) k 0 ≡ parentAt b k
+  unfolding parents
+  parent-at l = cut-at b 328 (entries b) k l

@@ -1,6 +1,6 @@
 -- Laws of `World`: what single numbers of the tables stand for.
 use Prim.Native.Nat.{ℕ, suc, _+_, _-_, _≤_, _<_}
-use mathlib.Core.Path.{_≡_, sym, _∙_}
+use mathlib.Core.Path.{_≡_}
 use mathlib.Core.List.{List}
 use native.Mathlib.Omega.{arith}
 use native.Mathlib.Numerals.{add-one}
@@ -8,11 +8,11 @@ use lib.ListN.{length, getD}
 use Rattle.rules.specs.Sheet.{Bytes}
 use Rattle.rules.specs.Directory.{Stored, blank}
 use Rattle.rules.specs.Decision.{Setting, Thing, granted}
-use Rattle.tables.specs.Book.{types, entries, schema, firstAt}
+use Rattle.tables.specs.Book.{types, entries, schema, parentAt, firstAt}
 use Rattle.tables.specs.Held.{rankAt, placeAt, sizeAt, HeldAt}
 use Rattle.tables.specs.Sets.{grantedAt}
-use Rattle.tables.specs.World.{Entries}
-use Rattle.tables.specs.Laws.Book.{schema-length, parent-at}
+use Rattle.tables.specs.World.{EntryAt, Entries}
+use Rattle.tables.specs.Laws.Book.{schema-length}
 use Rattle.tables.specs.Laws.Held.{row-at}
 
 -- a permission on the entry of index `k`, by its number as the code has it
@@ -24,8 +24,15 @@ module _ {σ : Setting} {es : List Stored} {d : Bytes} {book held : List ℕ} (h
   pub inside : k < length es
   inside = omega (arith, l, h .count)
 
-  pub parent-is : getD book (328 + k) 0 ≡ getD es k blank .parent
-  parent-is = sym (parent-at book k l) ∙ h .listed .entry k inside .parent
+  pub entry-at : EntryAt d (getD es k blank) book k
+  entry-at = h .listed k inside
+
+  pub parent-is : parentAt book k ≡ getD es k blank .parent
+  parent-is = entry-at .parent
+
+  -- "a parent number that is not below the entry's own" is refused
+  pub parent-falls : parentAt book k ≤ k
+  parent-falls = omega (arith, parent-is, h .accepted .parents k inside)
 
   -- the rows of the entry's values
   pub rows-of : HeldAt (schema book) d (getD es k blank .values) held (firstAt book k) (firstAt book (suc k))

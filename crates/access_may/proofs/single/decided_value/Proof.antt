@@ -1,12 +1,13 @@
 use denote.Ref.{now}
 use mathlib.Core.Path.{_∙_}
 use mathlib.Core.Bool.{_&&_}
+use Rattle.tables.specs.Laws.Sets.{slot-small}
 use Rattle.access_set.specs.Member.{member}
 use native.Mathlib.Omega.{arith}
 use Rattle.access_may.specs.Single.{agreesAt, sameAt}
-use Rattle.value.specs.Digest.{digest-bound}
+use Rattle.value_syntax.specs.Digest.{digest-bound}
 use Rattle.access_may.specs.Laws.Decided.{row-member, decided-all, decided-one}
-use Rattle.access_may.specs.Laws.Single.{slotted, slot-small}
+use Rattle.access_may.specs.Laws.Single.{slotted}
 use borrow.Author.Needs.{needs}
 use Rattle.access_may.proofs.single.decided_value.Statement.{statement}
 use Rattle.access_may.proofs.single.decided_value.Tie as tie

@@ -1,16 +1,16 @@
 use denote.Ref.{now}
 use native.Mathlib.Omega.{arith}
-use mathlib.Core.Path.{_≡_, subst}
+use mathlib.Core.Path.{_≡_, ap, subst}
 use mathlib.Core.List.{List}
 use Prim.Native.Nat.{ℕ, _+_, _-_, _*_, _≤_, _^_}
-use lib.ListN.{length, take, drop}
+use lib.ListN.{length}
 use Rattle.rules.specs.Directory.{Stored, nameAt}
 use Rattle.rules.specs.Decision.{Setting}
 use Rattle.tables.specs.Book.{width, schema}
 use Rattle.tables.specs.Held.{placeAt, sizeAt, typeAt}
 use Rattle.tables.specs.World.{World}
 use Rattle.answer_information.specs.Laws.Values.{values-none, values-on}
-use Rattle.answer_information.specs.Laws.Rows.{rows-of, row-within, row-part, part-few}
+use Rattle.answer_information.specs.Laws.Rows.{rows-of, row-within, part-few}
 use Rattle.answer_information.specs.Information.{rowValues, readable, Counted}
 use borrow.Author.Needs.{needs}
 use Rattle.answer_information.proofs.values.emit_values.Statement.{statement}
@@ -29,112 +29,47 @@ loop-holds : tie.Need-loop-holds Inv-loop μ-loop
 loop-holds c = let a = c .before .before .before .args in
     (omega arith, c .before .before .before .pre .1 .rising, omega arith, omega arith, λ σ es W. values-none (width (now (a .book))) (now (a .out)) (now (a .d)) (now (a .held)) σ (nameAt es (a .e)) (typeAt (schema (now (a .book))) (a .run .rank)) (a .run .first) _ (a .run .first - a .run .first) (omega arith), search needs)
 
-add-from : tie.Need-add-from Inv-loop μ-loop
-add-from c = let P = c .before .before .before .before .before .pre in
-    let a = c .before .before .before .before .before .args in
-    let L = c .before .loop in
-    let l = c .loop-test .taken in
-    let X = P .1 in
-    let E = P .0 .2 .entries in
-    let room = rows-of E (a .e) (X .some) (X .entry) .room in
-    omega (arith, l, X .until, room)
-
-mul-from : tie.Need-mul-from Inv-loop μ-loop
-mul-from c = let P = c .before .before .before .before .before .pre in
-    let a = c .before .before .before .before .before .args in
-    let L = c .before .loop in
-    let l = c .loop-test .taken in
-    let X = P .1 in
-    let E = P .0 .2 .entries in
-    let room = rows-of E (a .e) (X .some) (X .entry) .room in
-    omega (arith, l, X .until, room)
-
-element-copy-out-from : tie.Need-element-copy-out-from Inv-loop μ-loop
-element-copy-out-from c = let P = c .before .before .before .before .before .pre in
-    let a = c .before .before .before .before .before .args in
-    let L = c .before .loop in
-    let l = c .loop-test .taken in
-    let X = P .1 in
-    let E = P .0 .2 .entries in
-    let room = rows-of E (a .e) (X .some) (X .entry) .room in
-    omega (arith, l, X .until, room)
-
-add-to : tie.Need-add-to Inv-loop μ-loop
-add-to c = let P = c .before .before .before .before .before .before .pre in
+bytes-requires : tie.Need-bytes-requires Inv-loop μ-loop
+bytes-requires c κs =
+    let P = c .before .before .before .before .before .before .pre in
     let a = c .before .before .before .before .before .before .args in
     let L = c .before .before .loop in
     let l = c .before .loop-test .taken in
     let X = P .1 in
     let E = P .0 .2 .entries in
     let room = rows-of E (a .e) (X .some) (X .entry) .room in
-    omega (arith, l, X .until, room)
+    (omega (arith, l, X .until, room), row-within E (a .e) (X .some) (X .entry) (L .i) (omega (arith, X .from, L .inv .0)) (omega (arith, l, X .until)))
 
-mul-to : tie.Need-mul-to Inv-loop μ-loop
-mul-to c = let P = c .before .before .before .before .before .before .pre in
-    let a = c .before .before .before .before .before .before .args in
-    let L = c .before .before .loop in
-    let l = c .before .loop-test .taken in
-    let X = P .1 in
-    let E = P .0 .2 .entries in
-    let room = rows-of E (a .e) (X .some) (X .entry) .room in
-    omega (arith, l, X .until, room)
-
-element-copy-out-to : tie.Need-element-copy-out-to Inv-loop μ-loop
-element-copy-out-to c = let P = c .before .before .before .before .before .before .pre in
-    let a = c .before .before .before .before .before .before .args in
-    let L = c .before .before .loop in
-    let l = c .before .loop-test .taken in
-    let X = P .1 in
-    let E = P .0 .2 .entries in
-    let room = rows-of E (a .e) (X .some) (X .entry) .room in
-    omega (arith, l, X .until, room)
-
-add-to-2 : tie.Need-add-to-2 Inv-loop μ-loop
-add-to-2 c = let P = c .before .before .before .before .before .before .before .pre in
+emit-value-requires : tie.Need-emit-value-requires Inv-loop μ-loop
+emit-value-requires c κs =
+    let P = c .before .before .before .before .before .before .before .pre in
     let a = c .before .before .before .before .before .before .before .args in
     let L = c .before .before .before .loop in
     let l = c .before .before .loop-test .taken in
     let X = P .1 in
     let E = P .0 .2 .entries in
     let room = rows-of E (a .e) (X .some) (X .entry) .room in
-    omega (arith, row-within E (a .e) (X .some) (X .entry) (L .i) (omega (arith, X .from, L .inv .0)) (omega (arith, l, X .until)), E .small)
-
-part-emit-value-end : tie.Need-part-emit-value-end Inv-loop μ-loop
-part-emit-value-end c = let P = c .before .before .before .before .before .before .before .before .pre in
-    let a = c .before .before .before .before .before .before .before .before .args in
-    let L = c .before .before .before .before .loop in
-    let l = c .before .before .before .loop-test .taken in
-    let X = P .1 in
-    let E = P .0 .2 .entries in
-    let room = rows-of E (a .e) (X .some) (X .entry) .room in
-    omega (arith, row-within E (a .e) (X .some) (X .entry) (L .i) (omega (arith, X .from, L .inv .0)) (omega (arith, l, X .until)), E .small)
-
-emit-value-requires : tie.Need-emit-value-requires Inv-loop μ-loop
-emit-value-requires c κs = let P = c .before .before .before .before .before .before .before .before .before .pre in
-    let a = c .before .before .before .before .before .before .before .before .before .args in
-    let L = c .before .before .before .before .before .loop in
-    let l = c .before .before .before .before .loop-test .taken in
-    let X = P .1 in
-    let E = P .0 .2 .entries in
-    let room = rows-of E (a .e) (X .some) (X .entry) .room in
     let d = now (a .d) in
     let h = now (a .held) in
-    ((d, h, P .0), X .some, X .entry, X .rank, omega (arith, part-few d (placeAt h (L .i)) (placeAt h (L .i) + sizeAt h (L .i) - placeAt h (L .i)), E .small), omega (arith, P .2, l, L .inv .2, X .until, room), omega (arith, l, L .inv .3, X .until, room))
+    let few = part-few d (placeAt h (L .i)) (sizeAt h (L .i)) in
+    ((d, h, P .0), X .some, X .entry, X .rank, omega (arith, ap length (c .bytes .ensures), few, E .small), omega (arith, P .2, l, L .inv .2, X .until, room), omega (arith, l, L .inv .3, X .until, room))
 
 add-i : tie.Need-add-i Inv-loop μ-loop
-add-i c = let P = c .before .before .before .before .before .before .before .before .before .before .before .before .pre in
-    let a = c .before .before .before .before .before .before .before .before .before .before .before .before .args in
-    let L = c .before .before .before .before .before .before .before .before .loop in
-    let l = c .before .before .before .before .before .before .before .loop-test .taken in
+add-i c =
+    let P = c .before .before .before .before .before .before .before .before .before .before .pre in
+    let a = c .before .before .before .before .before .before .before .before .before .before .args in
+    let L = c .before .before .before .before .before .before .loop in
+    let l = c .before .before .before .before .before .loop-test .taken in
     let X = P .1 in
     let E = P .0 .2 .entries in
     let room = rows-of E (a .e) (X .some) (X .entry) .room in
     omega (arith, l, X .until, room)
 
 loop-again : tie.Need-loop-again Inv-loop μ-loop
-loop-again c = let a = c .before .before .before .before .before .before .before .before .before .before .before .before .args in
-    let L = c .before .before .before .before .before .before .before .before .loop in
-    let l = c .before .before .before .before .before .before .before .loop-test .taken in
+loop-again c =
+    let a = c .before .before .before .before .before .before .before .before .before .before .args in
+    let L = c .before .before .before .before .before .before .loop in
+    let l = c .before .before .before .before .before .loop-test .taken in
     let r = c .before .before .emit-value .ensures in
     let d = now (a .d) in
     let h = now (a .held) in (
@@ -143,7 +78,7 @@ loop-again c = let a = c .before .before .before .before .before .before .before
       omega (arith, L .inv .0, L .inv .2, r .0),
       omega (arith, L .inv .0, L .inv .3, r .1),
       λ σ es W. values-on (width (now (a .book))) (now (a .out)) d h σ (nameAt es (a .e)) (typeAt (schema (now (a .book))) (a .run .rank)) (a .run .first) _ (L .i - a .run .first) (L .i + 1 - a .run .first) (L .i) (omega (arith, L .inv .0)) (omega (arith, L .inv .0))
-          (take (placeAt h (L .i) + sizeAt h (L .i) - placeAt h (L .i)) (drop (placeAt h (L .i)) d)) (row-part d h (L .i)) (L .st) _ (L .inv .4 σ es W) (r .2 σ es d h W),
+          _ (c .before .before .before .bytes .ensures) (L .st) _ (L .inv .4 σ es W) (r .2 σ es d h W),
       search needs,
     )
 
@@ -156,5 +91,4 @@ returns c = let a = c .before .before .before .before .before .args in
 pub emit-values-spec : {M : Type 1} → statement M
 emit-values-spec =
     tie.close
-    (tie.spec Inv-loop μ-loop loop-holds add-from mul-from element-copy-out-from add-to mul-to element-copy-out-to add-to-2 (λ c. search needs)
-    (λ c. search needs) part-emit-value-end emit-value-requires add-i (λ c. search needs) loop-again (λ c. search needs) returns)
+    (tie.spec Inv-loop μ-loop loop-holds bytes-requires emit-value-requires add-i (λ c. search needs) loop-again (λ c. search needs) returns)

@@ -1,6 +1,6 @@
 use denote.Ref.{now}
 use mathlib.Core.Path.{sym, _∙_}
-use Rattle.name.specs.Schema.{equal-apart}
+use Rattle.name.specs.Laws.Schema.{equal-apart}
 use borrow.Author.Needs.{needs}
 use Rattle.filter_item.proofs.rows.equal.Statement.{statement}
 use Rattle.filter_item.proofs.rows.equal.Tie as tie

@@ -9,19 +9,19 @@ use Rattle.filter_lines.proofs.lines.note_line.Statement.{statement}
 use Rattle.filter_lines.proofs.lines.note_line.Tie as tie
 
 slice-write-rows-2 : tie.Need-slice-write-rows-2
-slice-write-rows-2 c = let a = c .args in let h : a .at + 1 < length (set (now (a .rows)) (a .at) (a .kind)) = omega (arith, c .pre, length-set (now (a .rows)) (a .at) (a .kind)) in h
+slice-write-rows-2 c = let a = c .args in let h : a .at + 1 < length (set (now (a .rows)) (a .at) (a .x .kind)) = omega (arith, c .pre, length-set (now (a .rows)) (a .at) (a .x .kind)) in h
 
 slice-write-rows-3 : tie.Need-slice-write-rows-3
-slice-write-rows-3 c = let a = c .args in let h : a .at + 2 < length (set (set (now (a .rows)) (a .at) (a .kind)) (a .at + 1) (a .a)) = omega (arith, c .pre, length-set (now (a .rows)) (a .at) (a .kind), length-set (set (now (a .rows)) (a .at) (a .kind)) (a .at + 1) (a .a)) in h
+slice-write-rows-3 c = let a = c .args in let h : a .at + 2 < length (set (set (now (a .rows)) (a .at) (a .x .kind)) (a .at + 1) (a .x .a)) = omega (arith, c .pre, length-set (now (a .rows)) (a .at) (a .x .kind), length-set (set (now (a .rows)) (a .at) (a .x .kind)) (a .at + 1) (a .x .a)) in h
 
 slice-write-rows-4 : tie.Need-slice-write-rows-4
-slice-write-rows-4 c = let a = c .args in let h : a .at + 4 < length (set (set (set (now (a .rows)) (a .at) (a .kind)) (a .at + 1) (a .a)) (a .at + 2) (a .b)) = omega (arith, c .pre, length-set (now (a .rows)) (a .at) (a .kind), length-set (set (now (a .rows)) (a .at) (a .kind)) (a .at + 1) (a .a), length-set (set (set (now (a .rows)) (a .at) (a .kind)) (a .at + 1) (a .a)) (a .at + 2) (a .b)) in h
+slice-write-rows-4 c = let a = c .args in let h : a .at + 4 < length (set (set (set (now (a .rows)) (a .at) (a .x .kind)) (a .at + 1) (a .x .a)) (a .at + 2) (a .x .b)) = omega (arith, c .pre, length-set (now (a .rows)) (a .at) (a .x .kind), length-set (set (now (a .rows)) (a .at) (a .x .kind)) (a .at + 1) (a .x .a), length-set (set (set (now (a .rows)) (a .at) (a .x .kind)) (a .at + 1) (a .x .a)) (a .at + 2) (a .x .b)) in h
 
 slice-write-rows-5 : tie.Need-slice-write-rows-5
-slice-write-rows-5 c = let a = c .args in let h : a .at + 5 < length (set (set (set (set (now (a .rows)) (a .at) (a .kind)) (a .at + 1) (a .a)) (a .at + 2) (a .b)) (a .at + 4) (a .len)) = omega (arith, c .pre, length-set (now (a .rows)) (a .at) (a .kind), length-set (set (now (a .rows)) (a .at) (a .kind)) (a .at + 1) (a .a), length-set (set (set (now (a .rows)) (a .at) (a .kind)) (a .at + 1) (a .a)) (a .at + 2) (a .b), length-set (set (set (set (now (a .rows)) (a .at) (a .kind)) (a .at + 1) (a .a)) (a .at + 2) (a .b)) (a .at + 4) (a .len)) in h
+slice-write-rows-5 c = let a = c .args in let h : a .at + 5 < length (set (set (set (set (now (a .rows)) (a .at) (a .x .kind)) (a .at + 1) (a .x .a)) (a .at + 2) (a .x .b)) (a .at + 4) (a .x .place)) = omega (arith, c .pre, length-set (now (a .rows)) (a .at) (a .x .kind), length-set (set (now (a .rows)) (a .at) (a .x .kind)) (a .at + 1) (a .x .a), length-set (set (set (now (a .rows)) (a .at) (a .x .kind)) (a .at + 1) (a .x .a)) (a .at + 2) (a .x .b), length-set (set (set (set (now (a .rows)) (a .at) (a .x .kind)) (a .at + 1) (a .x .a)) (a .at + 2) (a .x .b)) (a .at + 4) (a .x .place)) in h
 
 slice-write-rows-6 : tie.Need-slice-write-rows-6
-slice-write-rows-6 c = let a = c .args in let h : a .at + 9 < length (set (set (set (set (set (now (a .rows)) (a .at) (a .kind)) (a .at + 1) (a .a)) (a .at + 2) (a .b)) (a .at + 4) (a .len)) (a .at + 5) (a .place)) = omega (arith, c .pre, length-set (now (a .rows)) (a .at) (a .kind), length-set (set (now (a .rows)) (a .at) (a .kind)) (a .at + 1) (a .a), length-set (set (set (now (a .rows)) (a .at) (a .kind)) (a .at + 1) (a .a)) (a .at + 2) (a .b), length-set (set (set (set (now (a .rows)) (a .at) (a .kind)) (a .at + 1) (a .a)) (a .at + 2) (a .b)) (a .at + 4) (a .len), length-set (set (set (set (set (now (a .rows)) (a .at) (a .kind)) (a .at + 1) (a .a)) (a .at + 2) (a .b)) (a .at + 4) (a .len)) (a .at + 5) (a .place)) in h
+slice-write-rows-6 c = let a = c .args in let h : a .at + 9 < length (set (set (set (set (set (now (a .rows)) (a .at) (a .x .kind)) (a .at + 1) (a .x .a)) (a .at + 2) (a .x .b)) (a .at + 4) (a .x .place)) (a .at + 5) (a .rank)) = omega (arith, c .pre, length-set (now (a .rows)) (a .at) (a .x .kind), length-set (set (now (a .rows)) (a .at) (a .x .kind)) (a .at + 1) (a .x .a), length-set (set (set (now (a .rows)) (a .at) (a .x .kind)) (a .at + 1) (a .x .a)) (a .at + 2) (a .x .b), length-set (set (set (set (now (a .rows)) (a .at) (a .x .kind)) (a .at + 1) (a .x .a)) (a .at + 2) (a .x .b)) (a .at + 4) (a .x .place), length-set (set (set (set (set (now (a .rows)) (a .at) (a .x .kind)) (a .at + 1) (a .x .a)) (a .at + 2) (a .x .b)) (a .at + 4) (a .x .place)) (a .at + 5) (a .rank)) in h
 
 returns : tie.Need-returns
 returns c = unfold noted in refl

@@ -1,30 +1,31 @@
+-- The pieces from here stand in what is left of the text where all stand in it; none is left at the last line.
 use Prim.Native.Nat.{_-_, _≤_}
 use mathlib.Core.Path.{_≡_, sym, _∙_}
 use native.Mathlib.Omega.{arith}
 use lib.ListN.{length}
 use denote.Ref.{now}
-use Rattle.rules.specs.Places.{linesAt}
-use Rattle.rules.specs.Laws.Filter.{piecesOf}
 use Rattle.rules.specs.Value.{text, contains}
 use Rattle.rules.specs.Laws.Value.{used-fits}
-use Rattle.filter_lines.specs.Lines.{positionAt}
-use Rattle.filter_lines.specs.Laws.Lines.{line-fits}
-use Rattle.filter_lines.specs.Laws.Pieces.{standFrom, stand-start, stand-done, stand-over, stand-row-lost, stand-row-on}
+use Rattle.filter_lines.specs.Laws.Pieces.{piecesFrom, from-none, from-over, from-on, standFrom, stand-start, stand-none, stand-lost, stand-on}
 use borrow.Author.Needs.{needs}
 use Rattle.filter_lines.proofs.pieces.substrings.Statement.{statement}
 use Rattle.filter_lines.proofs.pieces.substrings.Tie as tie
 
 abbrev Inv-loop : tie.InvT-loop
-Inv-loop w q rows lines k n v from₀ j₀ left₀ from j left = (j ≤ lines) × (from ≤ length v) × (standFrom v from w q (positionAt rows j) left ≡ contains text (piecesOf n (linesAt w q (positionAt rows k))) v)
+Inv-loop q rows lines k n v from₀ j₀ left₀ from j left = (j ≤ lines) × (from ≤ length v)
+    × (standFrom v from (piecesFrom q rows lines j left) ≡ contains text (piecesFrom q rows lines k n) v)
 
 abbrev μ-loop : tie.MeasureT-loop
-μ-loop w q rows lines k n v from₀ j₀ left₀ from j left = left
+μ-loop q rows lines k n v from₀ j₀ left₀ from j left = left
 
 loop-holds : tie.Need-loop-holds Inv-loop μ-loop
-loop-holds c = let a = c .before .before .before .args in (c .before .before .before .pre .1, omega arith, stand-start (now (a .v)) (a .w) (now (a .q)) (positionAt (now (a .rows)) (a .k)) (a .n))
+loop-holds c = let a = c .before .before .before .args in (c .before .before .before .pre .1, omega arith, stand-start (now (a .v)) (piecesFrom (now (a .q)) (now (a .rows)) (a .lines) (a .k) (a .n)))
 
 returns : tie.Need-returns Inv-loop μ-loop
-returns c = let a = c .before .before .before .before .before .before .args in let L = c .before .before .loop in sym (stand-over (c .before .before .before .before .before .before .pre .0) (now (a .v)) (L .from) (L .j) (L .left) (c .if1 .taken) (L .inv .0)) ∙ L .inv .2
+returns c =
+    let a = c .before .before .before .before .before .before .args in
+    let L = c .before .before .loop in
+    sym (stand-none (now (a .v)) (L .from) (from-over (now (a .q)) (now (a .rows)) (a .lines) (L .j) (L .left) (c .if1 .taken))) ∙ L .inv .2
 
 mul-piece-end : tie.Need-mul-piece-end Inv-loop μ-loop
 mul-piece-end c = omega (arith, c .if1 .left, c .before .before .before .before .before .before .pre .0 .room)
@@ -36,23 +37,38 @@ shared-slice-read-piece-end : tie.Need-shared-slice-read-piece-end Inv-loop μ-l
 shared-slice-read-piece-end c = omega (arith, c .before .if1 .left, c .before .before .before .before .before .before .before .pre .0 .room)
 
 value-of-requires : tie.Need-value-of-requires Inv-loop μ-loop
-value-of-requires c κs = let L = c .before .before .before .loop in let h = c .before .before .before .before .before .before .before .pre .0 in let l = c .before .if1 .left in (omega (arith, l, h .room), line-fits (h .line (L .j) l))
+value-of-requires c κs =
+    let h = c .before .before .before .before .before .before .before .pre .0 in
+    let j = c .before .before .before .loop .j in
+    let l = c .before .if1 .left in
+    (omega (arith, l, h .room), h .begins j l, h .within j l)
 
 returns-2 : tie.Need-returns-2 Inv-loop μ-loop
-returns-2 c = let a = c .before .before .before .before .before .before .before .before .before .before .before .args in let L = c .before .before .before .before .before .before .before .loop in sym (stand-row-lost (c .before .before .before .before .before .before .before .before .before .before .before .pre .0) (now (a .v)) (L .from) (L .j) (L .left) (c .before .before .before .before .before .if1 .left) _ (c .before .before .before .value-of .ensures) (c .before .before .before .before .before .before .loop-test .taken) (sym (c .before .before .piece-end .ensures) ∙ c .enum-told .given .1)) ∙ L .inv .2
+returns-2 c =
+    let a = c .before .before .before .before .before .before .before .before .before .before .before .args in
+    let L = c .before .before .before .before .before .before .before .loop in
+    let e = from-on (now (a .q)) (now (a .rows)) (a .lines) (L .j) (L .left) (c .before .before .before .before .before .if1 .left) (c .before .before .before .before .before .before .loop-test .taken) _ (c .before .before .before .value-of .ensures) in
+    sym (stand-lost (now (a .v)) (L .from) _ _ e (sym (c .before .before .piece-end .ensures) ∙ c .enum-told .given .1)) ∙ L .inv .2
 
 add-from : tie.Need-add-from Inv-loop μ-loop
-add-from c = let a = c .before .before .before .before .before .before .before .before .before .before .before .before .args in let L = c .before .before .before .before .before .before .before .before .loop in omega (arith, used-fits _ _ text (now (a .v)) (L .from) _ (L .inv .1) (sym (c .before .before .before .piece-end .ensures) ∙ c .before .used .given .1))
+add-from c =
+    let a = c .before .before .before .before .before .before .before .before .before .before .before .before .args in
+    let L = c .before .before .before .before .before .before .before .before .loop in
+    omega (arith, used-fits _ _ text (now (a .v)) (L .from) _ (L .inv .1) (sym (c .before .before .before .piece-end .ensures) ∙ c .before .used .given .1))
 
 loop-again : tie.Need-loop-again Inv-loop μ-loop
-loop-again c = let a = c .before .before .before .before .before .before .before .before .before .before .before .before .args in let L = c .before .before .before .before .before .before .before .before .loop in (
-  omega (arith, c .before .before .before .before .before .before .if1 .left),
-  used-fits _ _ text (now (a .v)) (L .from) _ (L .inv .1) (sym (c .before .before .before .piece-end .ensures) ∙ c .before .used .given .1),
-  sym (stand-row-on (c .before .before .before .before .before .before .before .before .before .before .before .before .pre .0) (now (a .v)) (L .from) (L .j) (L .left) (c .before .before .before .before .before .before .if1 .left) _ (c .before .before .before .before .value-of .ensures) (c .before .before .before .before .before .before .before .loop-test .taken) _ (sym (c .before .before .before .piece-end .ensures) ∙ c .before .used .given .1)) ∙ L .inv .2,
-)
+loop-again c =
+    let a = c .before .before .before .before .before .before .before .before .before .before .before .before .args in
+    let L = c .before .before .before .before .before .before .before .before .loop in
+    let u = sym (c .before .before .before .piece-end .ensures) ∙ c .before .used .given .1 in
+    let e = from-on (now (a .q)) (now (a .rows)) (a .lines) (L .j) (L .left) (c .before .before .before .before .before .before .if1 .left) (c .before .before .before .before .before .before .before .loop-test .taken) _ (c .before .before .before .before .value-of .ensures) in
+    (omega (arith, c .before .before .before .before .before .before .if1 .left), used-fits _ _ text (now (a .v)) (L .from) _ (L .inv .1) u, sym (stand-on (now (a .v)) (L .from) _ _ e _ u) ∙ L .inv .2)
 
 returns-3 : tie.Need-returns-3 Inv-loop μ-loop
-returns-3 c = let a = c .before .before .before .before .before .args in let L = c .before .loop in sym (stand-done (now (a .v)) (L .from) (a .w) (now (a .q)) (positionAt (now (a .rows)) (L .j)) (L .left) (c .loop-test .left)) ∙ L .inv .2
+returns-3 c =
+    let a = c .before .before .before .before .before .args in
+    let L = c .before .loop in
+    sym (stand-none (now (a .v)) (L .from) (from-none (now (a .q)) (now (a .rows)) (a .lines) (L .j) (L .left) (c .loop-test .left))) ∙ L .inv .2
 
 pub substrings-spec : {M : Type 1} → statement M
 substrings-spec =

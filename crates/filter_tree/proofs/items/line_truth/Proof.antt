@@ -2,7 +2,7 @@ use denote.Ref.{now}
 use mathlib.Core.Path.{sym, ap, _∙_}
 use native.Mathlib.Omega.{arith}
 use mathlib.Core.Bool.{true≢false}
-use Rattle.filter_lines.specs.Lines.{placeAt}
+use Rattle.filter_lines.specs.Lines.{typeRank}
 use Rattle.filter_item.specs.Laws.Mask.{occurs-own, operator-none}
 use Rattle.filter_tree.specs.Truths.{truthOf}
 use Rattle.filter_tree.specs.Laws.Truths.{truth-number}
@@ -20,7 +20,7 @@ item-requires : tie.Need-item-requires
 item-requires c κs = c .before .before .before .before .before .pre
 
 returns-3 : tie.Need-returns-3
-returns-3 c = λ σ es asked e s m. record { told = λ ne g. ap truthOf (c .number-of .ensures) ∙ truth-number _ ∙ c .before .item .ensures σ es asked e s (λ l. m .rank (placeAt (now (c .before .before .before .before .before .before .before .args .rows)) (c .before .before .before .before .before .before .before .args .line)) (omega (arith, l, e .fits .few-types)) ∙ occurs-own (now (c .before .before .before .before .before .before .before .args .rows)) (c .before .before .before .before .before .before .before .args .lines) (c .before .before .before .before .before .before .before .args .line) (c .before .before .before .before .before .before .before .pre .4) (operator-none (now (c .before .before .before .before .before .before .before .args .rows)) (c .before .before .before .before .before .before .before .args .line) g ne)) }
+returns-3 c = λ σ es asked e s m. record { told = λ ne g. ap truthOf (c .number-of .ensures) ∙ truth-number _ ∙ c .before .item .ensures σ es asked e s (λ l. m .rank (typeRank (now (c .before .before .before .before .before .before .before .args .rows)) (c .before .before .before .before .before .before .before .args .line)) (omega (arith, l, e .fits .few-types)) ∙ occurs-own (now (c .before .before .before .before .before .before .before .args .rows)) (c .before .before .before .before .before .before .before .args .lines) (c .before .before .before .before .before .before .before .args .line) (c .before .before .before .before .before .before .before .pre .4) (operator-none (now (c .before .before .before .before .before .before .before .args .rows)) (c .before .before .before .before .before .before .before .args .line) g ne)) }
 
 pub line-truth-spec : {M : Type 1} → statement M
 line-truth-spec =

@@ -6,7 +6,7 @@ use Rattle.rules.specs.Directory.{blank, entryOf}
 use Rattle.rules.specs.Filter.{isTrue}
 use Rattle.rules.specs.FilterItem.{itemTruth}
 use Rattle.rules.specs.Places.{linesAt}
-use Rattle.rules.specs.Laws.Filter.{Evaluated}
+use Rattle.rules.specs.FilterLines.{Evaluated}
 use Rattle.tables.specs.Book.{width}
 use Rattle.filter_lines.specs.Lines.{positionAt}
 use Rattle.filter_tree.specs.Tree.{matchesAt}
@@ -19,14 +19,14 @@ ask-requires : tie.Need-ask-requires
 ask-requires c κs = (c .before .before .before .pre .0, c .before .before .before .pre .3)
 
 note-truths-requires : tie.Need-note-truths-requires
-note-truths-requires c κs = ((c .before .before .before .before .before .before .pre .0 .0, c .before .before .before .before .before .before .pre .0 .1, c .before .before .before .before .before .before .pre .0 .2 .entries), c .before .before .before .before .before .before .pre .3, c .before .before .before .before .before .before .pre .1, c .before .before .before .before .before .before .pre .2)
+note-truths-requires c κs = ((c .before .before .before .before .before .before .pre .0 .0, c .before .before .before .before .before .before .pre .0 .1, c .before .before .before .before .before .before .pre .0 .2 .entries), c .before .before .before .before .before .before .pre .3, c .before .before .before .before .before .before .pre .1 .placed, c .before .before .before .before .before .before .pre .2)
 
 evaluate-requires : tie.Need-evaluate-requires
-evaluate-requires c κs = (c .before .before .before .before .before .before .before .before .before .pre .1 .room, omega arith)
+evaluate-requires c κs = (c .before .before .before .before .before .before .before .before .before .pre .1 .placed .room, omega arith)
 
 returns : tie.Need-returns
 unfolding matchesAt
-returns c = λ σ es f w read. c .is-true .ensures ∙ ap isTrue (ap (λ (r : Evaluated). r .truth) (c .before .evaluate .ensures .1 (width (now (c .before .before .before .before .before .before .before .before .before .before .before .args .book))) (now (c .before .before .before .before .before .before .before .before .before .before .before .args .q)) (itemTruth σ (entryOf (getD es (c .before .before .before .before .before .before .before .before .before .before .before .args .k) blank))) (c .before .before .before .before .before .before .before .before .before .before .before .pre .1) (c .before .before .before .before .note-truths .ensures σ es (c .before .before .before .before .before .before .before .before .before .before .before .args .asked) (w .entries) (c .before .before .before .before .before .before .before .ask .ensures σ es w) (c .before .before .before .before .before .before .before .before .before .before .before .pre .4))) ∙ whole-read (itemTruth σ (entryOf (getD es (c .before .before .before .before .before .before .before .before .before .before .before .args .k) blank))) (linesAt (width (now (c .before .before .before .before .before .before .before .before .before .before .before .args .book))) (now (c .before .before .before .before .before .before .before .before .before .before .before .args .q)) (positionAt (now (c .before .before .before .before .before .before .before .before .before .before .before .args .rows)) 0)) f read)
+returns c = λ σ es g f w read. c .is-true .ensures ∙ ap isTrue (ap (λ (r : Evaluated). r .truth) (c .before .evaluate .ensures .1 (width (now (c .before .before .before .before .before .before .before .before .before .before .before .args .book))) (now (c .before .before .before .before .before .before .before .before .before .before .before .args .q)) (itemTruth σ (entryOf (getD es (c .before .before .before .before .before .before .before .before .before .before .before .args .k) blank))) (c .before .before .before .before .before .before .before .before .before .before .before .pre .1) (c .before .before .before .before .note-truths .ensures σ es (c .before .before .before .before .before .before .before .before .before .before .before .args .asked) (w .entries) (c .before .before .before .before .before .before .before .ask .ensures σ es w) (c .before .before .before .before .before .before .before .before .before .before .before .pre .4))) ∙ whole-read g (itemTruth σ (entryOf (getD es (c .before .before .before .before .before .before .before .before .before .before .before .args .k) blank))) (linesAt (width (now (c .before .before .before .before .before .before .before .before .before .before .before .args .book))) (now (c .before .before .before .before .before .before .before .before .before .before .before .args .q)) (positionAt (now (c .before .before .before .before .before .before .before .before .before .before .before .args .rows)) 0)) f read)
 
 pub matches-spec : {M : Type 1} → statement M
 matches-spec =

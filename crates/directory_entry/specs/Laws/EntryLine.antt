@@ -1,0 +1,169 @@
+-- Laws of `EntryLine`: what the code decides is what the rules decide.
+use Prim.Native.Nat.{ℕ, _+_, _≤_, _<_}
+use mathlib.Core.Path.{_≡_, refl, sym, _∙_}
+use mathlib.Core.Logic.{_⊎_, inl, inr}
+use mathlib.Core.Bool.{Bool, true, false, _||_, not, cond}
+use mathlib.Core.Option.{Option, none, some}
+use mathlib.Core.List.{List, [], _∷_, _++_}
+use native.Mathlib.Omega.{arith}
+use native.Mathlib.Decide.{ℕ-discrete}
+use lib.Dec.{eqb, leb, ltb}
+use lib.ListN.{length, getD, length-append}
+use borrow.Author.Tests.{eqb-true, eqb-false, ltb-false, leb-true, leb-false, lt-ltb, le-ltb}
+use Rattle.rules.specs.Lists.{isEmpty}
+use Rattle.rules.specs.Sheet.{Bytes}
+use Rattle.rules.specs.Columns.{directoryForms, inForm}
+use Rattle.rules.specs.Name.{part, allowed}
+use Rattle.rules.specs.Judge.{Verdict, accept, refuse, refuseIf}
+use Rattle.rules.specs.Directory.{Stored, Reading, entriesOf, nameAt, newEntry, lacksNaming, clashes, typeLine, entryLine, valueLine, step}
+use Rattle.rules.specs.Places.{schemaOf}
+use Rattle.sheet_line.specs.declared.Line.{Line}
+use Rattle.sheet_line.specs.Line.{bytesOf}
+use Rattle.sheet_line.specs.Laws.{lineOf}
+use Rattle.directory_schema.specs.Lines.{columnsFit}
+use Rattle.directory_schema.specs.Laws.Lines.{step-form, step-type, step-entry, step-value, other-columns}
+use Rattle.directory_ruling.specs.Mark.{Mark}
+use Rattle.directory_ruling.specs.Twins.{twins, Named}
+use Rattle.directory_ruling.specs.declared.Ruling.{Ruling}
+use Rattle.directory_ruling.specs.Rulings.{reading, refusing, marking, ruledOf}
+use Rattle.directory_ruling.specs.Laws.Rulings.{Refused}
+use Rattle.directory_entry.specs.EntryLine.{placeNumber, placeRefusal, entryRuling}
+
+-- ---- what the code decides
+
+-- a line that is not refused so has a parent
+pub place-low : (depths : List ℕ) (count : ℕ) (lacks : Bool) (a : ℕ) → placeRefusal depths count lacks a ≡ 0 → a ≤ count
+unfolding placeRefusal
+place-low depths count lacks a z = go (ltb count a) refl z
+  where
+    go : (t : Bool) → ltb count a ≡ t → placeNumber t lacks (leb 256 count) (leb 8 (getD depths a 0)) ≡ 0 → a ≤ count
+    go true e q = absurd (omega arith)
+    go false e q = ltb-false count a e
+
+-- ---- what the rules decide
+
+-- lines of these kinds have been taken already
+abbrev pub Elsewhere : Option Stored → ℕ → Type 0
+Elsewhere none k = k ≡ 1 → ⊥
+Elsewhere (some e) k = k ≡ 3 → ⊥
+
+-- what the code has of the entries `es` so far
+pub record EntriesCounted (s : Bytes) (ks depths : List ℕ) (count : ℕ) (lacks : Bool) (es : List Stored) (current : Option Stored) (ms : List Mark) : Type 0 where
+  pub number : count ≡ length es
+  pub most : count ≤ 256
+  pub lacking : lacks ≡ lacksNaming (schemaOf ks) current
+  pub levels : (k : ℕ) → k ≤ count → getD depths k 0 ≡ length (nameAt es k)
+  pub named : Named s ks es ms
+
+-- an entry line that was taken
+pub record EntryTaken (top : ℕ) (s : Bytes) (ks depths table : List ℕ) (count : ℕ) (x : Line) (r : Ruling) : Type 0 where
+  pub kind : x .kind ≡ 2
+  pub form : columnsFit top x ≡ true
+  pub parent : x .a ≤ count
+  pub room : count < 256
+  pub level : getD depths (x .a) 0 < 8
+  pub fit : allowed (schemaOf ks) (x .b) (bytesOf s x) ≡ true
+  pub ruling : r ≡ marking s ks table (x .a) (x .b) x
+
+-- the line, refused or taken
+abbrev pub EntryOutcome : ℕ → Bytes → List ℕ → List ℕ → List ℕ → ℕ → List Stored → Option Stored → Line → Ruling → Type 0
+EntryOutcome top s ks depths table count complete current x r =
+    let es = entriesOf (reading ks complete current) in
+    Refused top (reading ks complete current) (lineOf s x) r
+    ⊎ (EntryTaken top s ks depths table count x r × (step top (reading ks complete current) (lineOf s x) ≡ accept (reading ks es (some (newEntry es (lineOf s x))))))
+
+-- the line, where its form is known
+module _ (top : ℕ) (s : Bytes) (ks : List ℕ) (complete : List Stored) (current : Option Stored) (x : Line) (formed : columnsFit top x ≡ inForm (directoryForms top) (lineOf s x)) (form : columnsFit top x ≡ true) where
+  abbrev es : List Stored
+  es = entriesOf (reading ks complete current)
+
+  abbrev v : Bytes
+  v = bytesOf s x
+
+  abbrev added : Stored
+  added = newEntry es (lineOf s x)
+
+  -- a kind that is out of its place
+  misplaced : Elsewhere current (x .kind) → (x .kind ≡ 2 → ⊥) → step top (reading ks complete current) (lineOf s x) ≡ refuse 3
+  misplaced = go current
+    where
+      go : (o : Option Stored) → Elsewhere o (x .kind) → (x .kind ≡ 2 → ⊥) → step top (reading ks complete o) (lineOf s x) ≡ refuse 3
+      go none h z = step-value top (reading ks complete none) (lineOf s x) (sym formed ∙ form) h z ∙ (unfold valueLine in refl)
+      go (some d) h z = by (ℕ-discrete (x .kind) 1)
+        where
+          some-entry : (ds : List Stored) → isEmpty (ds ++ (d ∷ [])) ≡ false
+          some-entry [] = refl
+          some-entry (y ∷ ys) = refl
+
+          by : Dec (x .kind ≡ 1) → step top (reading ks complete (some d)) (lineOf s x) ≡ refuse 3
+          by (yes q) = step-type top (reading ks complete (some d)) (lineOf s x) (sym formed ∙ form) q ∙ (unfold typeLine entriesOf in (rw (some-entry complete)))
+          by (no q) = absurd (h (other-columns top x form q z))
+
+  -- the rules' tests, one after the other
+  abbrev entryVerdict : Bool → Bool → Bool → Bool → Bool → Verdict Reading
+  entryVerdict high lacks many allows clash =
+      refuseIf high 2 (refuseIf lacks 6 (refuseIf many 3 (refuseIf (not allows) 4 (refuseIf clash 5 (accept (reading ks es (some added)))))))
+
+  -- one level below its parent
+  level-is : (d : ℕ) → d ≡ length (nameAt es (x .a)) → ltb 8 (length (added .name)) ≡ leb 8 d
+  level-is d h = go (leb 8 d) refl
+    where
+      more : length (added .name) ≡ d + 1
+      more = length-append (nameAt es (x .a)) _ ∙ rw (← h)
+
+      go : (t : Bool) → leb 8 d ≡ t → ltb 8 (length (added .name)) ≡ t
+      go true q = lt-ltb 8 (length (added .name)) (omega (arith, more, leb-true 8 d q))
+      go false q = le-ltb 8 (length (added .name)) (omega (arith, more, leb-false 8 d q))
+
+  module _ (depths table : List ℕ) (count : ℕ) (lacks : Bool) (ms : List Mark) (known : EntriesCounted s ks depths count lacks es current ms) (two : x .kind ≡ 2) where
+    entry-same : step top (reading ks complete current) (lineOf s x)
+        ≡ entryVerdict (ltb count (x .a)) lacks (leb 256 count || ltb 8 (length (added .name))) (allowed (schemaOf ks) (x .b) v) (clashes (schemaOf ks) es (x .a) (part (x .b) v))
+    unfolding entryLine
+    entry-same = step-entry top (reading ks complete current) (lineOf s x) (sym formed ∙ form) two ∙ rw (← known .number, ← known .lacking)
+
+    entry-by : (high lk many deep al tw : Bool) → ltb count (x .a) ≡ high → lacks ≡ lk → leb 256 count ≡ many → leb 8 (getD depths (x .a) 0) ≡ deep
+        → allowed (schemaOf ks) (x .b) v ≡ al → twins s ks (x .a) (x .b) v ms ≡ tw
+        → EntryOutcome top s ks depths table count complete current x
+        (cond (eqb (placeNumber high lk many deep) 0) (cond al (cond tw (refusing 5) (marking s ks table (x .a) (x .b) x)) (refusing 4)) (refusing (placeNumber high lk many deep)))
+    entry-by true lk many deep al tw p₁ p₂ p₃ p₄ p₅ p₆ = inl (record { not = λ z. omega arith; is = entry-same ∙ rw p₁ })
+    entry-by false true many deep al tw p₁ p₂ p₃ p₄ p₅ p₆ = inl (record { not = λ z. omega arith; is = entry-same ∙ rw (p₁, p₂) })
+    entry-by false false true deep al tw p₁ p₂ p₃ p₄ p₅ p₆ = inl (record { not = λ z. omega arith; is = entry-same ∙ rw (p₁, p₂, p₃) })
+    entry-by false false false deep al tw p₁ p₂ p₃ p₄ p₅ p₆ = rest deep al tw p₄ p₅ p₆
+      where
+        low : x .a ≤ count
+        low = ltb-false count (x .a) p₁
+
+        level : ltb 8 (length (added .name)) ≡ leb 8 (getD depths (x .a) 0)
+        level = level-is (getD depths (x .a) 0) (known .levels (x .a) low)
+
+        rest : (deep al tw : Bool) → leb 8 (getD depths (x .a) 0) ≡ deep → allowed (schemaOf ks) (x .b) v ≡ al → twins s ks (x .a) (x .b) v ms ≡ tw
+            → EntryOutcome top s ks depths table count complete current x
+            (cond (eqb (placeNumber false false false deep) 0) (cond al (cond tw (refusing 5) (marking s ks table (x .a) (x .b) x)) (refusing 4)) (refusing (placeNumber false false false deep)))
+        rest true al tw p₄ p₅ p₆ = inl (record { not = λ z. omega arith; is = entry-same ∙ rw (p₁, p₂, p₃, level, p₄) })
+        rest false false tw p₄ p₅ p₆ = inl (record { not = λ z. omega arith; is = entry-same ∙ rw (p₁, p₂, p₃, level, p₄, p₅) })
+        rest false true true p₄ p₅ p₆ =
+            inl (record { not = λ z. omega arith; is = entry-same ∙ rw (p₁, p₂, p₃, level, p₄, p₅, ← known .named .siblings (x .a) (x .b) v (omega (arith, low, known .most)) p₅, p₆) })
+        rest false true false p₄ p₅ p₆ =
+            inr (
+              record { kind = two; form = form; parent = low; room = leb-false 256 count p₃; level = leb-false 8 (getD depths (x .a) 0) p₄; fit = p₅; ruling = refl },
+              entry-same ∙ rw (p₁, p₂, p₃, level, p₄, p₅, ← known .named .siblings (x .a) (x .b) v (omega (arith, low, known .most)) p₅, p₆),
+            )
+
+-- a line after the entries: refused as the rules refuse it, or taken as they take it
+pub entry-outcome : (top : ℕ) (s : Bytes) (ks depths table : List ℕ) (count : ℕ) (lacks : Bool) (complete : List Stored) (current : Option Stored) (ms : List Mark)
+    → EntriesCounted s ks depths count lacks (entriesOf (reading ks complete current)) current ms
+    → (x : Line) → columnsFit top x ≡ inForm (directoryForms top) (lineOf s x) → Elsewhere current (x .kind)
+    → EntryOutcome top s ks depths table count complete current x (entryRuling top depths count lacks x s ks table ms)
+unfolding entryRuling placeRefusal ruledOf
+entry-outcome top s ks depths table count lacks complete current ms known x formed elsewhere = go (columnsFit top x) (eqb (x .kind) 2) refl refl
+  where
+    go : (f two : Bool) → columnsFit top x ≡ f → eqb (x .kind) 2 ≡ two
+        → EntryOutcome top s ks depths table count complete current x
+        (cond f (cond two (cond (eqb (placeNumber (ltb count (x .a)) lacks (leb 256 count) (leb 8 (getD depths (x .a) 0))) 0)
+        (cond (allowed (schemaOf ks) (x .b) (bytesOf s x)) (cond (twins s ks (x .a) (x .b) (bytesOf s x) ms) (refusing 5) (marking s ks table (x .a) (x .b) x)) (refusing 4))
+        (refusing (placeNumber (ltb count (x .a)) lacks (leb 256 count) (leb 8 (getD depths (x .a) 0))))) (refusing 3)) (refusing 2))
+    go false two p q = inl (record { not = λ z. omega arith; is = step-form top (reading ks complete current) (lineOf s x) (sym formed ∙ p) })
+    go true false p q = inl (record { not = λ z. omega arith; is = misplaced top s ks complete current x formed p elsewhere (eqb-false (x .kind) 2 q) })
+    go true true p q =
+        entry-by top s ks complete current x formed p depths table count lacks ms known (eqb-true (x .kind) 2 q)
+        (ltb count (x .a)) lacks (leb 256 count) (leb 8 (getD depths (x .a) 0)) (allowed (schemaOf ks) (x .b) (bytesOf s x)) (twins s ks (x .a) (x .b) (bytesOf s x) ms) refl refl refl refl refl refl

@@ -1,0 +1,4 @@
+pub mod Mark
+pub mod Twins
+pub mod Rulings
+pub mod Laws

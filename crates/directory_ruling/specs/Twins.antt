@@ -1,0 +1,35 @@
+-- What the marks tell: an entry line's mark has its parent for an owner, a value's mark its entry, so that siblings of one name and
+-- one value twice in a type are marks of one key with equal values.
+use Prim.Native.Nat.{ℕ, _+_, _*_, _≤_, _<_}
+use mathlib.Core.Path.{_≡_}
+use mathlib.Core.Bool.{Bool, true, false}
+use mathlib.Core.List.{List}
+use lib.ListN.{length}
+use Rattle.rules.specs.Lists.{any}
+use Rattle.rules.specs.Sheet.{Bytes}
+use Rattle.rules.specs.Name.{Part, part, allowed, samePart}
+use Rattle.rules.specs.Directory.{Stored, clashes}
+use Rattle.rules.specs.Places.{schemaOf}
+use Rattle.directory_ruling.specs.Mark.{Mark, twin}
+use Rattle.directory_schema.specs.Schema.{rankOf, syntaxOf}
+
+-- the owner of an entry's values, by the entry's number; an entry line's owner is its parent's number
+abbrev pub ownerOf : ℕ → ℕ
+ownerOf number = 257 + number
+
+-- the owner and the rank of a type as one number, of which the rank has 6 bits
+abbrev pub keyOf : List ℕ → ℕ → ℕ → ℕ
+keyOf ks owner t = owner * 64 + rankOf ks t
+
+-- a mark of this owner and type has an equal value
+abbrev pub twins : Bytes → List ℕ → ℕ → ℕ → Bytes → List Mark → Bool
+twins s ks owner t v ms = any (twin s (syntaxOf ks t) (keyOf ks owner t) v) ms
+
+-- the marks of the entries `es`, and none of a later entry's values
+pub record Named (s : Bytes) (ks : List ℕ) (es : List Stored) (ms : List Mark) : Type 0 where
+  pub siblings : (p t : ℕ) (v : Bytes) → p ≤ 256 → allowed (schemaOf ks) t v ≡ true → twins s ks p t v ms ≡ clashes (schemaOf ks) es p (part t v)
+  pub later : (o t : ℕ) (v : Bytes) → ownerOf (length es) < o → allowed (schemaOf ks) t v ≡ true → twins s ks o t v ms ≡ false
+
+-- the marks of one owner's values `vs`
+pub record Valued (s : Bytes) (ks : List ℕ) (owner : ℕ) (vs : List Part) (ms : List Mark) : Type 0 where
+  pub repeated : (t : ℕ) (v : Bytes) → allowed (schemaOf ks) t v ≡ true → twins s ks owner t v ms ≡ any (samePart (schemaOf ks) (part t v)) vs

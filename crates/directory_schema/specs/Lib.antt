@@ -1,0 +1,4 @@
+pub mod Lines
+pub mod Schema
+pub mod Types
+pub mod Laws

@@ -1,0 +1,26 @@
+-- The judge of a directory at a position of the sheet.
+use Prim.Native.Nat.{ℕ}
+use mathlib.Core.Path.{_≡_}
+use mathlib.Core.Bool.{Bool}
+use Rattle.rules.specs.Sheet.{Bytes}
+use Rattle.rules.specs.declared.Format.{Format}
+use Rattle.rules.specs.Columns.{directoryForms}
+use Rattle.rules.specs.Judge.{Verdict, fold}
+use Rattle.rules.specs.Directory.{Reading, Directory, step, finish}
+use Rattle.rules.specs.Places.{linesAt}
+use Rattle.sheet_form.specs.Columns.{columnsIn}
+use Rattle.sheet_line.specs.declared.Line.{Line}
+use Rattle.sheet_line.specs.declared.Taken.{Taken}
+use Rattle.sheet_line.specs.declared.Taken.the-variants as Taken
+
+-- the rest of the sheet from position `i` on, judged with what was read before
+abbrev pub judgedFrom : Format → Bytes → Reading → ℕ → Verdict Directory
+judgedFrom f s st i = fold (step (f .top)) finish 2 st (linesAt (f .width) s i)
+
+-- the columns of a line are in form, where `top` is the highest type
+abbrev pub columnsFit : ℕ → Line → Bool
+columnsFit top x = columnsIn (directoryForms top) x
+
+-- no line of kind `k` was taken
+abbrev pub Other : ℕ → Taken → Type 0
+Other k t = (x : Line) → t ≡ Taken.Line x → x .kind ≡ k → ⊥

@@ -1,0 +1,47 @@
+-- The K 1 lines: what is known of the sheet after some of them, and where they end.
+use Prim.Native.Nat.{ℕ, _≤_}
+use mathlib.Core.Path.{_≡_}
+use mathlib.Core.Bool.{Bool, cond}
+use mathlib.Core.Option.{none}
+use mathlib.Core.List.{List, []}
+use lib.Dec.{leb}
+use lib.ListN.{length, take}
+use Rattle.rules.specs.Sheet.{Bytes, lines}
+use Rattle.rules.specs.declared.Format.{Format}
+use Rattle.rules.specs.Judge.{refuse, fold}
+use Rattle.rules.specs.Directory.{Reading, lastType, step, finish, nothing}
+use Rattle.rules.specs.Places.{schemaOf}
+use Rattle.sheet_line.specs.declared.Line.{Line}
+use Rattle.sheet_line.specs.Line.{takenAt}
+use Rattle.directory_schema.specs.Lines.{judgedFrom, columnsFit, Other}
+use Rattle.directory_schema.specs.Schema.{Rising}
+use Rattle.directory_schema.specs.declared.TypeLines.{TypeLines}
+
+-- the types read so far, as numbers, and no entry
+abbrev pub typed : List ℕ → Reading
+typed ks = record { schema = schemaOf ks; complete = []; current = none }
+
+-- a line's refusal, by its form, its number and the count before it
+abbrev pub typeNumber : Bool → Bool → Bool → ℕ
+typeNumber form low full = cond form (cond low 3 (cond full 3 0)) 2
+
+-- the refusal of a K 1 line after `n` types, of which the last has number `last`, where `top` is the highest type; 0 where there is none
+unfoldable pub typeRefusal : ℕ → Line → ℕ → ℕ → ℕ
+typeRefusal top x last n = typeNumber (columnsFit top x) (leb (x .a) last) (leb 64 n)
+
+-- `n` types have been read, up to position `i`
+pub record TypesRead (f : Format) (s : Bytes) (schema : List ℕ) (n last i : ℕ) : Type 0 where
+  pub room : length schema ≡ 64
+  pub most : n ≤ 64
+  pub within : i ≤ length s
+  pub rising : Rising 0 (take n schema)
+  pub newest : last ≡ lastType (schemaOf (take n schema))
+  pub same : fold (step (f .top)) finish 2 nothing (lines (f .width) s) ≡ judgedFrom f s (typed (take n schema)) i
+
+-- the K 1 lines that were read, and where they end: at a refusal, or at another line
+pub record TypesJudged (f : Format) (s : Bytes) (schema : List ℕ) (r : TypeLines) : Type 0 where
+  pub last : ℕ
+  pub read : TypesRead f s schema (r .count) last (r .at)
+  pub stands : r .taken ≡ takenAt (f .width) s (r .at)
+  pub other : r .refusal ≡ 0 → Other 1 (r .taken)
+  pub refused : (r .refusal ≡ 0 → ⊥) → fold (step (f .top)) finish 2 nothing (lines (f .width) s) ≡ refuse (r .refusal)

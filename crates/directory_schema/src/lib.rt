@@ -1,0 +1,109 @@
+// The schema: the K 1 lines, noted as one number for each attribute type (its number times 4, and its syntax), and looked up.
+use rules::Format;
+use sheet_form::columns::directory_columns;
+use sheet_line::Line;
+use sheet_line::Taken;
+ghost use mathlib.Core.Path.{_≡_};
+ghost use Prim.Native.Nat.{_≤_};
+ghost use lib.ListN.{length};
+ghost use Rattle.rules.specs.Sheet.{Usable};
+ghost use Rattle.rules.specs.Name as Name;
+ghost use Rattle.rules.specs.Places.{schemaOf};
+ghost use Rattle.directory_schema.specs.Schema.{rankOf, Rising};
+ghost use Rattle.directory_schema.specs.Types.{typeRefusal, TypesJudged};
+
+// How the K 1 lines ended: the refusal or 0, how many there are, and what stands after them, with its position.
+pub struct TypeLines {
+    pub refusal: u64,
+    pub count: usize,
+    pub at: usize,
+    pub taken: Taken,
+}
+
+// How many types of the schema are below `t`, of which at least `from` are.
+pub fn rank(schema: &[u64], from: usize, t: u64) -> usize
+    requires { ⌜ from ≤ rankOf (now schema) t ⌝ }
+    ensures { λ r. ⌜ r ≡ rankOf (now (schema .entry)) t ⌝ }
+{
+    let mut i = from;
+    while i < schema.len() {
+        if t <= schema[i] / 4 {
+            return i;
+        }
+        i += 1;
+    }
+    i
+}
+
+// Whether the schema allows the value of the type `t`, of this rank.
+pub fn allowed(schema: &[u64], rank: usize, t: u64, v: &[u8]) -> bool
+    requires { ⌜ (rank ≡ rankOf (now schema) t) × Rising 0 (now schema) ⌝ }
+    ensures { λ r. ⌜ r ≡ Name.allowed (schemaOf (now (schema .entry))) t (now (v .entry)) ⌝ }
+{
+    if rank == schema.len() {
+        return false;
+    }
+    let k = schema[rank];
+    if k / 4 != t {
+        return false;
+    }
+    value_syntax::fits(k % 4, v)
+}
+
+// A K 1 line after `n` types, of which the last has the number `last`, where `top` is the highest type: its refusal, or 0.
+fn type_line(line: Line, top: u64, last: u64, n: usize) -> u64
+    ensures { λ r. ⌜ r ≡ typeRefusal top line last n ⌝ }
+{
+    if !directory_columns(line, top) {
+        return 2;
+    }
+    if line.a <= last {
+        return 3;
+    }
+    if 64 <= n {
+        return 3;
+    }
+    0
+}
+
+// The K 1 lines of a sheet.
+pub fn types(s: &[u8], f: Format, schema: &mut [u64; 64]) -> TypeLines
+    requires { ⌜ Usable f × (length (now schema) ≡ 64) ⌝ }
+    ensures { λ r. ⌜ TypesJudged f (now (s .entry)) (now (schema .exit)) r ⌝ }
+{
+    let mut n: usize = 0;
+    let mut last: u64 = 0;
+    let mut at: usize = 0;
+    loop {
+        let taken = sheet_line::take(s, at, f.width);
+        let Taken::Line(line) = taken else {
+            return TypeLines {
+                refusal: 0,
+                count: n,
+                at,
+                taken,
+            };
+        };
+        if line.kind != 1 {
+            return TypeLines {
+                refusal: 0,
+                count: n,
+                at,
+                taken,
+            };
+        }
+        let refusal = type_line(line, f.top, last, n);
+        if refusal != 0 {
+            return TypeLines {
+                refusal,
+                count: n,
+                at,
+                taken,
+            };
+        }
+        schema[n] = line.a * 4 + line.b;
+        n += 1;
+        last = line.a;
+        at = line.next;
+    }
+}

@@ -1,0 +1,416 @@
+-- Laws of `Entries`: what is known of the sheet before each line after the K 1 lines that is no value line, and what such a line makes of it.
+use Prim.Native.Nat.{ℕ, zero, suc, _+_, _*_, _≤_, _<_}
+use mathlib.Core.Path.{_≡_, refl, sym, ap, ap₂, _∙_, subst}
+use mathlib.Core.Logic.{inl, inr}
+use mathlib.Core.Bool.{Bool, true, false, _&&_, not}
+use mathlib.Core.Option.{Option, none, some}
+use mathlib.Core.List.{List, [], _∷_, _++_}
+use native.Mathlib.Omega.{arith}
+use native.Mathlib.Numerals.{add-one}
+use native.Mathlib.Decide.{ℕ-discrete}
+use lib.Dec.{eqb}
+use lib.ListN.{length, getD, take, drop, set, length-append, length-set, List·getD-append, replicate, length-replicate, getD-replicate}
+use lib.Seq.{drop-drop, getD-at, getD-set-same, getD-set-other, length-take-le}
+use borrow.Author.Tests.{le-ltb, lt-ltb}
+use Rattle.rules.specs.Sheet.{Bytes, Usable, frontOf, valueOf, lines}
+use Rattle.rules.specs.declared.Format.{Format}
+use Rattle.rules.specs.Name.{Part, part, samePart}
+use Rattle.rules.specs.Judge.{accept, refuse, refuseIf, refusalOf, fold}
+use Rattle.rules.specs.Directory.{Stored, blank, Directory, entriesOf, nameAt, newEntry, clashes, lacksNaming, step, finish, nothing, directoryOf, withValues}
+use Rattle.rules.specs.Places.{linesAt, valuesOf, schemaOf}
+use Rattle.rules.specs.Laws.Judge.{refused-not, accepted-is}
+use Rattle.rules.specs.declared.Front.{Front}
+use Rattle.rules.specs.declared.Front.the-variants as Front
+use Rattle.sheet_line.specs.declared.Line.{Line}
+use Rattle.sheet_line.specs.declared.Taken.{Taken}
+use Rattle.sheet_line.specs.declared.Taken.the-variants as Taken
+use Rattle.sheet_line.specs.Line.{takenBy, takenAt, bytesOf}
+use Rattle.sheet_line.specs.Laws.{lineOf, Fits, taken-fits-line}
+use Rattle.directory_schema.specs.Lines.{judgedFrom}
+use Rattle.directory_schema.specs.Laws.Lines.{formed, judged-refused, judged-on, judged-broken, judged-end, entry-columns}
+use Rattle.directory_schema.specs.Types.{TypesJudged}
+use Rattle.directory_ruling.specs.Mark.{Mark, mark, MarkWithin, Room, withMark, lastIn}
+use Rattle.directory_ruling.specs.Twins.{Named}
+use Rattle.directory_ruling.specs.Laws.Twins.{any-snoc, named-start, named-entry, valued-none}
+use Rattle.directory_ruling.specs.Rulings.{Ready, markOf, reading}
+use Rattle.directory_ruling.specs.Laws.Rulings.{line-within, ready-room, ready-more}
+use Rattle.directory_ruling.specs.declared.Ruling.{Ruling}
+use Rattle.directory_entry.specs.EntryLine.{entryRuling}
+use Rattle.directory_entry.specs.Laws.EntryLine.{Elsewhere, EntriesCounted, EntryTaken, EntryOutcome, entry-outcome}
+use Rattle.directory_values.specs.declared.Current.{Current}
+use Rattle.directory_values.specs.declared.ValueLines.{ValueLines}
+use Rattle.directory_values.specs.Values.{Begun, ValuesJudged}
+use Rattle.directory_values.specs.Laws.Values.{values-all}
+use Rattle.directory_schema.specs.declared.TypeLines.{TypeLines}
+use Rattle.directory_sheet.specs.Judged.{EntryNoted, DirectoryNoted, DirectoryJudged}
+use Rattle.directory_sheet.specs.Entries.{Sized, endNumber, refusedWith, nothingNoted, Opened}
+use Rattle.directory_sheet.specs.Rows.{AllHeld}
+use Rattle.directory_sheet.specs.Laws.Rows.{held-none, held-more}
+use Rattle.directory_sheet.specs.declared.Notes.{Notes}
+
+-- the entries are noted, each with its values
+abbrev pub AllNoted : ℕ → Bytes → Notes → List Stored → Type 0
+AllNoted w s notes es = (k : ℕ) → k < notes .count
+    → EntryNoted w s (getD es k blank) (getD (notes .at) k 0) (getD (notes .parents) k 0) (getD (notes .naming) k 0) (getD (notes .lengths) k 0)
+
+-- all lines before position `i` have been taken
+pub record EntriesRead (f : Format) (s : Bytes) (ks : List ℕ) (notes : Notes) (depths table held : List ℕ) (n : ℕ) (lacks : Bool) (i : ℕ) (taken : Taken)
+    (complete : List Stored) (current : Option Stored) (ms : List Mark) : Type 0 where
+  pub ready : Ready s ks table ms
+  pub usable : Usable f
+  pub sized : Sized ks notes depths
+  pub marked : length ms ≡ n
+  pub space : 31 * n ≤ i
+  pub within : i ≤ length s
+  pub stands : taken ≡ takenAt (f .width) s i
+  pub elsewhere : (x : Line) → taken ≡ Taken.Line x → Elsewhere current (x .kind)
+  pub counted : EntriesCounted s ks depths (notes .count) lacks (entriesOf (reading ks complete current)) current ms
+  pub noted : AllNoted (f .width) s notes (entriesOf (reading ks complete current))
+  pub rows : AllHeld ks s (entriesOf (reading ks complete current)) (notes .first) held (notes .count)
+  pub fewer : getD (notes .first) (notes .count) 0 ≤ n
+  pub judged : fold (step (f .top)) finish 2 nothing (lines (f .width) s) ≡ judgedFrom f s (reading ks complete current) i
+
+-- ---- the answer
+
+module _ (f : Format) (s : Bytes) (fits : length s ≤ 65536) where
+  short : directoryOf f s ≡ fold (step (f .top)) finish 2 nothing (lines (f .width) s)
+  unfolding directoryOf
+  short = rw (le-ltb 65536 (length s) fits)
+
+  pub answer-refused : (r : Notes) (held : List ℕ) (n : ℕ) → r .refusal ≡ n → fold (step (f .top)) finish 2 nothing (lines (f .width) s) ≡ refuse n → DirectoryJudged f s r held
+  answer-refused r held n e h = record {
+    refusal = e ∙ sym (ap refusalOf (short ∙ h));
+    noted = λ d q. absurd (refused-not n d (sym (short ∙ h) ∙ q));
+  }
+
+  pub answer-accepted : (r : Notes) (held : List ℕ) (d : Directory) → r .refusal ≡ 0 → fold (step (f .top)) finish 2 nothing (lines (f .width) s) ≡ accept d → DirectoryNoted (f .width) s d r held → DirectoryJudged f s r held
+  answer-accepted r held d e h n = record {
+    refusal = e ∙ sym (ap refusalOf (short ∙ h));
+    noted = λ d′ q. subst (λ (x : Directory). DirectoryNoted (f .width) s x r held) (accepted-is (sym (short ∙ h) ∙ q)) n;
+  }
+
+pub answer-long : (f : Format) (s : Bytes) (r : Notes) (held : List ℕ) → r .refusal ≡ 1 → 65536 < length s → DirectoryJudged f s r held
+answer-long f s r held e h = record {
+  refusal = e ∙ sym (ap refusalOf long);
+  noted = λ d q. absurd (refused-not 1 d (sym long ∙ q));
+}
+  where
+    long : directoryOf f s ≡ refuse 1
+    long = unfold directoryOf in (rw (lt-ltb 65536 (length s) h))
+
+-- ---- a line that was taken, as the front of the rest
+
+module _ (w : ℕ) (s : Bytes) (i : ℕ) {x : Line} where
+  by-front : (f : Front) → takenBy w i f ≡ Taken.Line x → f ≡ Front.Taken (x .kind) (x .a) (x .b) (x .c) (x .length)
+  by-front (Front.Taken k a b c l) e = cc
+  by-front Front.NotInForm e = absurd (let z : _≡_ {A = ℕ} 0 1 = cc in omega arith)
+  by-front Front.End e = absurd (let z : _≡_ {A = ℕ} 0 1 = cc in omega arith)
+
+  taken-front : takenAt w s i ≡ Taken.Line x → frontOf w (drop i s) ≡ Front.Taken (x .kind) (x .a) (x .b) (x .c) (x .length)
+  unfolding takenAt
+  taken-front e = by-front (frontOf w (drop i s)) e
+
+  taken-value : Fits w s i x → valueOf w (x .length) (drop i s) ≡ bytesOf s x
+  taken-value f = ap (take (x .length)) (drop-drop (5 * w) i s ∙ ap (λ (p : ℕ). drop p s) (sym (f .place)))
+
+-- ---- one entry more
+
+-- the entry line `x` at `i` noted, with the row after its last value
+abbrev pub noting : Notes → ℕ → Line → ℕ → Notes
+noting notes i x to = record {
+  refusal = notes .refusal;
+  types = notes .types;
+  schema = notes .schema;
+  count = notes .count + 1;
+  at = set (notes .at) (notes .count) i;
+  parents = set (notes .parents) (notes .count) (x .a);
+  naming = set (notes .naming) (notes .count) (x .b);
+  lengths = set (notes .lengths) (notes .count) (x .length);
+  first = set (notes .first) (notes .count + 1) to;
+}
+
+module _ (ks : List ℕ) (es : List Stored) (d : Stored) (vs : List Part) where
+  -- values do not count among siblings
+  named-filled : {s : Bytes} {ms : List Mark} → Named s ks (es ++ (d ∷ [])) ms → Named s ks (es ++ (withValues d vs ∷ [])) ms
+  unfolding clashes
+  named-filled named = record {
+    siblings = λ p t v h a. named .siblings p t v h a ∙ any-snoc (λ x. eqb (x .parent) p && samePart (schemaOf ks) (x .naming) (part t v)) es d
+        ∙ sym (any-snoc (λ x. eqb (x .parent) p && samePart (schemaOf ks) (x .naming) (part t v)) es (withValues d vs));
+    later = λ o t v h a. named .later o t v (omega (arith, length-append es (d ∷ []), length-append es (withValues d vs ∷ []))) a;
+  }
+
+  name-before : (k : ℕ) → k ≤ length es → nameAt (es ++ (withValues d vs ∷ [])) k ≡ nameAt es k
+  unfolding nameAt
+  name-before zero h = refl
+  name-before (suc k) h = ap (λ (x : Stored). x .name) (List·getD-append es (withValues d vs ∷ []) blank k h)
+
+  name-last : nameAt (es ++ (withValues d vs ∷ [])) (length es + 1) ≡ d .name
+  unfolding nameAt
+  name-last = rw (add-one) (ap (λ (x : Stored). x .name) (getD-at es (withValues d vs) [] blank (length es) refl))
+
+module _ {f : Format} {s : Bytes} {ks : List ℕ} {notes : Notes} {depths table held : List ℕ} {n : ℕ} {lacks : Bool} {i : ℕ} {taken : Taken}
+    {complete : List Stored} {current : Option Stored} {ms : List Mark} (st : EntriesRead f s ks notes depths table held n lacks i taken complete current ms)
+    {x : Line} (is : taken ≡ Taken.Line x) {r : Ruling} (ruled : r ≡ entryRuling (f .top) depths (notes .count) lacks x s ks table ms) where
+  abbrev es : List Stored
+  es = entriesOf (reading ks complete current)
+
+  abbrev d : Stored
+  d = newEntry es (lineOf s x)
+
+  here : takenAt (f .width) s i ≡ Taken.Line x
+  here = sym (st .stands) ∙ is
+
+  fits : Fits (f .width) s i x
+  fits = taken-fits-line (f .width) s i here
+
+  outcome : EntryOutcome (f .top) s ks depths table (notes .count) complete current x r
+  outcome =
+      subst (λ (q : Ruling). EntryOutcome (f .top) s ks depths table (notes .count) complete current x q) (sym ruled)
+      (entry-outcome (f .top) s ks depths table (notes .count) lacks complete current ms (st .counted) x (formed f s i here) (st .elsewhere x is))
+
+  pub standing-refused : (r .refusal ≡ 0 → ⊥) → fold (step (f .top)) finish 2 nothing (lines (f .width) s) ≡ refuse (r .refusal)
+  standing-refused z = go outcome
+    where
+      go : EntryOutcome (f .top) s ks depths table (notes .count) complete current x r → fold (step (f .top)) finish 2 nothing (lines (f .width) s) ≡ refuse (r .refusal)
+      go (inl q) = st .judged ∙ judged-refused f s i here (reading ks complete current) (r .refusal) (q .is)
+      go (inr q) = absurd (z (ap (λ (y : Ruling). y .refusal) (q .0 .ruling)))
+
+  module _ (z : r .refusal ≡ 0) where
+    abbrev m : Mark
+    m = markOf ks (x .a) (x .b) x
+
+    abbrev e : Current
+    e = record { number = notes .count + 1; line = x; first = getD (notes .first) (notes .count) 0 }
+
+    taking : EntryTaken (f .top) s ks depths table (notes .count) x r × (step (f .top) (reading ks complete current) (lineOf s x) ≡ accept (reading ks es (some d)))
+    taking = go outcome
+      where
+        go : EntryOutcome (f .top) s ks depths table (notes .count) complete current x r
+            → EntryTaken (f .top) s ks depths table (notes .count) x r × (step (f .top) (reading ks complete current) (lineOf s x) ≡ accept (reading ks es (some d)))
+        go (inl q) = absurd (q .not z)
+        go (inr q) = q
+
+    inside : MarkWithin s (mark 0 (x .place) (x .length))
+    inside = line-within fits
+
+    low : x .a ≤ 256
+    low = omega (arith, taking .0 .parent, taking .0 .room)
+
+    -- the entry and its mark have their places
+    pub standing-room : (notes .count < 256) × (x .a ≤ notes .count) × (getD depths (x .a) 0 < 8) × (n < 2115) × Room table n r
+    standing-room =
+        let t = taking .0 in
+        (t .room, t .parent, t .level, omega (arith, st .marked, st .ready .room), ready-room (st .ready) (x .a) (x .b) (omega (arith, low)) x inside n (st .marked) (t .ruling))
+
+    -- its value lines follow
+    pub standing-begun : {table′ : List ℕ} → table′ ≡ withMark table n r → Begun f s ks table′ held (n + 1) e es d (m ∷ ms)
+    standing-begun noted =
+        let t = taking .0 in
+        let rising = st .ready .rising in
+        let few = st .ready .few in
+        let number : notes .count + 1 ≡ length (es ++ (d ∷ [])) = ap (λ (q : ℕ). q + 1) (st .counted .number) ∙ sym (length-append es (d ∷ [])) in
+        record {
+          ready = rw noted (ready-more (st .ready) (x .a) (x .b) (omega (arith, low)) x inside n (st .marked) (t .ruling) (omega (arith, st .space, fits .place, fits .next, fits .within, st .ready .sheet, st .usable .least)));
+          usable = st .usable;
+          count = omega (arith, st .marked);
+          number = number;
+          most = omega (arith, t .room);
+          type = refl;
+          value = refl;
+          fit = t .fit;
+          bytes = omega (arith, inside .bytes);
+          within = fits .within;
+          space = omega (arith, st .space, fits .place, fits .next, st .usable .least);
+          named = named-entry ks rising few s m (x .a) (x .b) (bytesOf s x) refl refl (t .fit) (st .counted .named) low d refl refl;
+          valued = rw number (valued-none ks rising few s m (x .a) (x .b) (bytesOf s x) refl refl (t .fit) (st .counted .named) low d refl refl);
+          rows = st .rows .table;
+          fewer = omega (arith, st .fewer);
+        }
+
+    module _ {table′ held′ : List ℕ} {run : ValueLines} (v : ValuesJudged f s ks table′ held held′ e es d run) where
+      pub standing-lost : (run .refusal ≡ 0 → ⊥) → fold (step (f .top)) finish 2 nothing (lines (f .width) s) ≡ refuse (run .refusal)
+      standing-lost q = st .judged ∙ judged-on f s i here (reading ks complete current) (reading ks es (some d)) (taking .1) ∙ v .refused q
+
+      abbrev vs : List Part
+      vs = v .values
+
+      next-levels : (j : ℕ) → j ≤ notes .count + 1 → getD (set depths (notes .count + 1) (getD depths (x .a) 0 + 1)) j 0 ≡ length (nameAt (es ++ (withValues d vs ∷ [])) j)
+      next-levels j h = go (ℕ-discrete j (notes .count + 1))
+        where
+          go : Dec (j ≡ notes .count + 1) → getD (set depths (notes .count + 1) (getD depths (x .a) 0 + 1)) j 0 ≡ length (nameAt (es ++ (withValues d vs ∷ [])) j)
+          go (yes q) =
+              let room : notes .count + 1 < length depths = omega (arith, taking .0 .room, st .sized .levels) in
+              rw (q, getD-set-same depths (notes .count + 1) (getD depths (x .a) 0 + 1) 0 room, st .counted .levels (x .a) (taking .0 .parent))
+              (sym (length-append (nameAt es (x .a)) _) ∙ ap length (sym (name-last ks es d vs)) ∙ ap (λ (y : ℕ). length (nameAt (es ++ (withValues d vs ∷ [])) (y + 1))) (sym (st .counted .number)))
+          go (no q) =
+              getD-set-other depths (notes .count + 1) j (getD depths (x .a) 0 + 1) 0 q
+              ∙ st .counted .levels j (omega arith)
+              ∙ ap length (sym (name-before ks es d vs j (omega (arith, st .counted .number))))
+
+      next-room : notes .count + 1 < length (notes .first)
+      next-room = omega (arith, taking .0 .room, st .sized .first)
+
+      module _ (ended : run .refusal ≡ 0) where
+        entry-noted : EntryNoted (f .width) s (withValues d vs) i (x .a) (x .b) (x .length)
+        entry-noted =
+            let t = taking .0 in
+            let next : x .next ≡ i + (5 * f .width + 1 + x .length) = omega (arith, fits .place, fits .next) in
+            record {
+              line = taken-front (f .width) s i here ∙ ap₂ (λ (p q : ℕ). Front.Taken p (x .a) (x .b) q (x .length)) (t .kind) (entry-columns (f .top) x (t .form) (t .kind));
+              value = taken-value (f .width) s i fits;
+              within = omega (arith, next, fits .within);
+              values = ap (λ (p : ℕ). valuesOf (linesAt (f .width) s p)) (sym next) ∙ values-all v ended;
+              above = refl;
+              type = refl;
+            }
+
+        next-noted : AllNoted (f .width) s (noting notes i x (run .to)) (es ++ (withValues d vs ∷ []))
+        next-noted j h = go (ℕ-discrete j (notes .count))
+          where
+            go : Dec (j ≡ notes .count) → EntryNoted (f .width) s (getD (es ++ (withValues d vs ∷ [])) j blank) (getD (set (notes .at) (notes .count) i) j 0)
+                (getD (set (notes .parents) (notes .count) (x .a)) j 0) (getD (set (notes .naming) (notes .count) (x .b)) j 0) (getD (set (notes .lengths) (notes .count) (x .length)) j 0)
+            go (yes q) =
+                let room = taking .0 .room in
+                let size = st .sized in
+                rw (q, getD-set-same (notes .at) (notes .count) i 0 (omega (arith, room, size)), getD-set-same (notes .parents) (notes .count) (x .a) 0 (omega (arith, room, size)), getD-set-same (notes .naming) (notes .count) (x .b) 0 (omega (arith, room, size)), getD-set-same (notes .lengths) (notes .count) (x .length) 0 (omega (arith, room, size)), getD-at es (withValues d vs) [] blank (notes .count) (sym (st .counted .number)))
+                entry-noted
+            go (no q) =
+                rw (getD-set-other (notes .at) (notes .count) j i 0 q, getD-set-other (notes .parents) (notes .count) j (x .a) 0 q, getD-set-other (notes .naming) (notes .count) j (x .b) 0 q, getD-set-other (notes .lengths) (notes .count) j (x .length) 0 q, List·getD-append es (withValues d vs ∷ []) blank j (omega (arith, st .counted .number)))
+                (st .noted j (omega arith))
+
+        -- the next line that is no value line
+        pub standing-on : EntriesRead f s ks (noting notes i x (run .to)) (set depths (notes .count + 1) (getD depths (x .a) 0 + 1)) table′ held′ (run .marks) (not (run .found)) (run .at) (run .taken)
+            es (some (withValues d vs)) (v .all)
+        unfolding entriesOf lacksNaming
+        standing-on = record {
+          ready = v .read .ready;
+          usable = st .usable;
+          sized = record {
+            types = st .sized .types;
+            list = st .sized .list;
+            schema = st .sized .schema;
+            at = simp length-set (st .sized .at);
+            parents = simp length-set (st .sized .parents);
+            naming = simp length-set (st .sized .naming);
+            lengths = simp length-set (st .sized .lengths);
+            first = simp length-set (st .sized .first);
+            levels = simp length-set (st .sized .levels);
+          };
+          marked = v .read .count;
+          space = v .read .space;
+          within = v .read .within;
+          stands = v .stands;
+          elsewhere = v .other ended;
+          counted = record {
+            number = ap (λ (q : ℕ). q + 1) (st .counted .number) ∙ sym (length-append es (withValues d vs ∷ []));
+            most = omega (arith, taking .0 .room);
+            lacking = ap not (v .read .holds);
+            levels = next-levels;
+            named = named-filled ks es d vs (v .read .named);
+          };
+          noted = next-noted;
+          rows = held-more (st .rows) (withValues d vs) (v .read .rows) (st .counted .number) next-room;
+          fewer = rw (getD-set-same (notes .first) (notes .count + 1) (run .to) 0 next-room) (v .read .fewer);
+          judged = st .judged ∙ judged-on f s i here (reading ks complete current) (reading ks es (some d)) (taking .1) ∙ v .read .judged;
+        }
+
+-- ---- no line stands there
+
+module _ {f : Format} {s : Bytes} {ks : List ℕ} {notes : Notes} {depths table held : List ℕ} {n : ℕ} {lacks : Bool} {i : ℕ} {taken : Taken}
+    {complete : List Stored} {current : Option Stored} {ms : List Mark} (st : EntriesRead f s ks notes depths table held n lacks i taken complete current ms) where
+  ends : taken ≡ Taken.End → fold (step (f .top)) finish 2 nothing (lines (f .width) s) ≡ refuseIf lacks 6 (accept (record { schema = schemaOf ks; entries = entriesOf (reading ks complete current) }))
+  unfolding finish
+  ends is = st .judged ∙ judged-end f s i _ (sym (st .stands) ∙ is) ∙ rw (← st .counted .lacking)
+
+  all-noted : DirectoryNoted (f .width) s (record { schema = schemaOf ks; entries = entriesOf (reading ks complete current) }) (refusedWith notes 0) held
+  all-noted = record {
+    types = st .sized .types;
+    schema = ap schemaOf (st .sized .list);
+    rising = rw (st .sized .list) (st .ready .rising);
+    count = st .counted .number;
+    most = st .counted .most;
+    schema-length = st .sized .schema;
+    at-length = st .sized .at;
+    parents-length = st .sized .parents;
+    naming-length = st .sized .naming;
+    lengths-length = st .sized .lengths;
+    first-length = st .sized .first;
+    held-length = st .rows .table;
+    entry = st .noted;
+    values = rw (st .sized .list) (st .rows .values);
+  }
+
+  pub standing-ended : ((x : Line) → taken ≡ Taken.Line x → ⊥) → DirectoryJudged f s (refusedWith notes (endNumber taken lacks)) held
+  standing-ended none-there = go taken refl lacks refl
+    where
+      go : (t : Taken) → taken ≡ t → (b : Bool) → lacks ≡ b → DirectoryJudged f s (refusedWith notes (endNumber t b)) held
+      go (Taken.Line x) is b q = absurd (none-there x is)
+      go Taken.NotInForm is b q = answer-refused f s (st .ready .sheet) (refusedWith notes 2) held 2 refl (st .judged ∙ judged-broken f s i _ (sym (st .stands) ∙ is))
+      go Taken.End is true q = answer-refused f s (st .ready .sheet) (refusedWith notes 6) held 6 refl (ends is ∙ rw q)
+      go Taken.End is false q = answer-accepted f s (st .ready .sheet) (refusedWith notes 0) held _ refl (ends is ∙ rw q) all-noted
+
+-- ---- before the first entry
+
+module _ {f : Format} {s : Bytes} {ks : List ℕ} {notes : Notes} {held : List ℕ} {i : ℕ} {taken : Taken} (o : Opened f s ks notes held i taken) where
+  pub standing-start : EntriesRead f s ks notes (replicate 257 0) (replicate 4419 0) held 0 false i taken [] none []
+  unfolding entriesOf lacksNaming lastIn nameAt
+  standing-start = record {
+    ready = record {
+      sheet = o .sheet;
+      rising = o .rising;
+      few = o .few;
+      chain = record { table = length-replicate {A = ℕ} 4419 0; chained = tt; newest = λ b h. getD-replicate 4419 (2115 + b) 0 0 (omega arith); slots = tt };
+      room = omega arith;
+    };
+    usable = o .usable;
+    sized = o .sized;
+    marked = refl;
+    space = omega arith;
+    within = o .within;
+    stands = o .stands;
+    elsewhere = o .other;
+    counted = record {
+      number = o .none-yet;
+      most = omega (arith, o .none-yet);
+      lacking = refl;
+      levels = λ k h. level k (omega (arith, o .none-yet));
+      named = named-start s ks;
+    };
+    noted = λ k h. absurd (omega (arith, o .none-yet));
+    rows = held-none ks s (notes .first) held (notes .count) (o .none-yet) (o .table);
+    fewer = rw (o .none-yet) (omega (arith, o .none-held));
+    judged = o .judged;
+  }
+    where
+      level : (k : ℕ) → k ≤ 0 → getD (replicate 257 0) k 0 ≡ length (nameAt [] k)
+      level zero h = getD-replicate 257 0 0 0 (omega arith)
+      level (suc k) h = absurd (omega arith)
+
+-- after the K 1 lines, with nothing else noted
+pub opened : (f : Format) (s : Bytes) (schema held : List ℕ) (r : TypeLines) (b : Notes) → length s ≤ 65536 → Usable f × (length held ≡ 6345) → b ≡ nothingNoted → TypesJudged f s schema r → r .refusal ≡ 0
+    → Opened f s (take (r .count) schema)
+    (record { refusal = b .refusal; types = r .count; schema = schema; count = b .count; at = b .at; parents = b .parents; naming = b .naming; lengths = b .lengths; first = b .first }) held (r .at) (r .taken)
+opened f s schema held r b fits asked is t z = record {
+  sheet = fits;
+  usable = asked .0;
+  rising = t .read .rising;
+  few = rw (length-take-le (r .count) schema (omega (arith, t .read .most, t .read .room))) (t .read .most);
+  sized = record {
+    types = t .read .most;
+    list = refl;
+    schema = t .read .room;
+    at = ap (λ (x : Notes). length (x .at)) is ∙ length-replicate {A = ℕ} 256 0;
+    parents = ap (λ (x : Notes). length (x .parents)) is ∙ length-replicate {A = ℕ} 256 0;
+    naming = ap (λ (x : Notes). length (x .naming)) is ∙ length-replicate {A = ℕ} 256 0;
+    lengths = ap (λ (x : Notes). length (x .lengths)) is ∙ length-replicate {A = ℕ} 256 0;
+    first = ap (λ (x : Notes). length (x .first)) is ∙ length-replicate {A = ℕ} 257 0;
+    levels = length-replicate {A = ℕ} 257 0;
+  };
+  none-yet = ap (λ (x : Notes). x .count) is;
+  none-held = ap (λ (x : Notes). getD (x .first) 0 0) is ∙ getD-replicate 257 0 0 0 (omega arith);
+  table = asked .1;
+  within = t .read .within;
+  stands = t .stands;
+  other = t .other z;
+  judged = t .read .same;
+}

@@ -1,0 +1,36 @@
+use Rattle.directory_values.specs.ValueLine.{valueRuling}
+use Rattle.directory_schema.specs.Laws.Schema.{rank-rises}
+use borrow.Author.Tests.{lt-ltb, le-ltb, not-true, not-false}
+use mathlib.Core.Path.{sym, _∙_}
+use native.Mathlib.Omega.{arith}
+use Prim.Native.Nat.{_-_}
+use denote.Ref.{now}
+use borrow.Author.Needs.{needs}
+use Rattle.directory_values.proofs.value_line.Statement.{statement}
+use Rattle.directory_values.proofs.value_line.Tie as tie
+
+returns : tie.Need-returns
+unfolding valueRuling
+returns c = λ ms ready. rw (sym (c .before .before .directory-columns .ensures) ∙ not-true _ (c .before .if1 .taken)) (c .refusing .ensures)
+
+returns-2 : tie.Need-returns-2
+unfolding valueRuling
+returns-2 c = λ ms ready. rw (sym (c .before .before .before .before .directory-columns .ensures) ∙ not-false _ (c .before .before .before .if1 .left), lt-ltb _ _ (c .before .if2 .taken)) (c .refusing2 .ensures)
+
+rank-requires : tie.Need-rank-requires
+rank-requires c κs = omega (arith, c .before .before .before .before .before .before .pre .2, rank-rises (now (c .before .before .before .before .before .before .args .schema)) (c .before .before .before .before .before .before .args .last) (c .before .before .before .before .before .before .args .line .a) (c .if2 .left))
+
+add-ruled : tie.Need-add-ruled
+add-ruled c = omega (arith, c .before .before .before .before .before .before .before .pre .1)
+
+ruled-requires : tie.Need-ruled-requires
+ruled-requires c κs = record { sought = c .before .before .before .before .before .before .before .pre .0; ranked = c .rank .ensures; low = omega (arith, c .before .before .before .before .before .before .before .pre .1) }
+
+returns-3 : tie.Need-returns-3
+unfolding valueRuling
+returns-3 c = λ ms ready. rw (sym (c .before .before .before .before .before .directory-columns .ensures) ∙ not-false _ (c .before .before .before .before .if1 .left), le-ltb _ _ (c .before .before .if2 .left)) (c .ruled .ensures ms ready)
+
+pub value-line-spec : {M : Type 1} → statement M
+value-line-spec =
+    tie.close
+    (tie.spec (λ c κs. search needs) (λ c κs. search needs) returns (λ c κs. search needs) returns-2 rank-requires add-ruled ruled-requires returns-3)

@@ -1,0 +1,85 @@
+-- The value lines of one entry: what is known before them, and after some of them.
+use Prim.Native.Nat.{ℕ, _+_, _*_, _≤_}
+use mathlib.Core.Path.{_≡_}
+use mathlib.Core.Bool.{Bool, true}
+use mathlib.Core.Option.{some}
+use mathlib.Core.List.{List, [], _∷_, _++_}
+use lib.ListN.{length}
+use Rattle.rules.specs.Lists.{any, lastOr}
+use Rattle.rules.specs.Sheet.{Bytes, Usable}
+use Rattle.rules.specs.declared.Format.{Format}
+use Rattle.rules.specs.Name.{Part, part, allowed, samePart}
+use Rattle.rules.specs.Judge.{Verdict, refuse}
+use Rattle.rules.specs.Directory.{Stored, Directory, withValues}
+use Rattle.rules.specs.Places.{linesAt, valuesOf, schemaOf}
+use Rattle.sheet_line.specs.Line.{takenAt, bytesOf}
+use Rattle.directory_schema.specs.Lines.{judgedFrom, Other}
+use Rattle.directory_schema.specs.Schema.{rankOf}
+use Rattle.directory_ruling.specs.Mark.{Mark}
+use Rattle.directory_ruling.specs.Twins.{ownerOf, Named, Valued}
+use Rattle.directory_ruling.specs.Rulings.{Ready, reading}
+use Rattle.directory_values.specs.Rows.{RowsWritten}
+use Rattle.directory_values.specs.declared.Current.{Current}
+use Rattle.directory_values.specs.declared.ValueLines.{ValueLines}
+
+-- the entry `d` stands at `e`, after the entries `complete`, with `n` marks
+pub record Begun (f : Format) (s : Bytes) (ks table held : List ℕ) (n : ℕ) (e : Current) (complete : List Stored) (d : Stored) (ms : List Mark) : Type 0 where
+  pub ready : Ready s ks table ms
+  pub usable : Usable f
+  pub count : length ms ≡ n
+  pub number : e .number ≡ length (complete ++ (d ∷ []))
+  pub most : e .number ≤ 256
+  pub type : e .line .b ≡ d .naming .type
+  pub value : bytesOf s (e .line) ≡ d .naming .value
+  pub fit : allowed (schemaOf ks) (d .naming .type) (d .naming .value) ≡ true
+  pub bytes : e .line .place + e .line .length ≤ length s
+  pub within : e .line .next ≤ length s
+  pub space : 31 * n ≤ e .line .next
+  pub named : Named s ks (complete ++ (d ∷ [])) ms
+  pub valued : Valued s ks (ownerOf (e .number)) [] ms
+  pub rows : length held ≡ 6345
+  pub fewer : e .first ≤ n
+
+-- some entry stands there
+pub record ValuesAsked (f : Format) (s : Bytes) (ks table held : List ℕ) (n : ℕ) (e : Current) : Type 0 where
+  pub complete : List Stored
+  pub entry : Stored
+  pub all : List Mark
+  pub begun : Begun f s ks table held n e complete entry all
+
+-- the entry with the values `vs`, and the rest of the sheet from position `i` on
+abbrev pub judgedWith : Format → Bytes → List ℕ → List Stored → Stored → List Part → ℕ → Verdict Directory
+judgedWith f s ks complete d vs i = judgedFrom f s (reading ks complete (some (withValues d vs))) i
+
+-- the values `vs` have been read, up to position `i`, and written to the rows up to `to`
+pub record ValuesRead (f : Format) (s : Bytes) (ks table before held : List ℕ) (n : ℕ) (found : Bool) (last from i to : ℕ) (e : Current) (complete : List Stored) (d : Stored) (vs : List Part) (ms : List Mark) : Type 0 where
+  pub ready : Ready s ks table ms
+  pub count : length ms ≡ n
+  pub space : 31 * n ≤ i
+  pub start : e .line .next ≤ i
+  pub within : i ≤ length s
+  pub newest : last ≡ (lastOr (part 0 []) vs) .type
+  pub low : from ≤ rankOf ks last
+  pub holds : found ≡ any (samePart (schemaOf ks) (d .naming)) vs
+  pub named : Named s ks (complete ++ (d ∷ [])) ms
+  pub valued : Valued s ks (ownerOf (e .number)) vs ms
+  pub sofar : valuesOf (linesAt (f .width) s (e .line .next)) ≡ vs ++ valuesOf (linesAt (f .width) s i)
+  pub judged : judgedWith f s ks complete d [] (e .line .next) ≡ judgedWith f s ks complete d vs i
+  pub rows : RowsWritten ks s vs before held (e .first) to
+  pub fewer : to ≤ n
+
+-- the values that were read, and where they end: at a refusal, or at another line
+pub record ValuesJudged (f : Format) (s : Bytes) (ks table before held : List ℕ) (e : Current) (complete : List Stored) (d : Stored) (r : ValueLines) : Type 0 where
+  pub values : List Part
+  pub all : List Mark
+  pub last : ℕ
+  pub from : ℕ
+  pub read : ValuesRead f s ks table before held (r .marks) (r .found) last from (r .at) (r .to) e complete d values all
+  pub stands : r .taken ≡ takenAt (f .width) s (r .at)
+  pub other : r .refusal ≡ 0 → Other 3 (r .taken)
+  pub refused : (r .refusal ≡ 0 → ⊥) → judgedWith f s ks complete d [] (e .line .next) ≡ refuse (r .refusal)
+
+-- whatever stood before the run
+abbrev pub ValuesAnswered : Format → Bytes → List ℕ → List ℕ → List ℕ → ℕ → Current → List ℕ → List ℕ → ValueLines → Type 0
+ValuesAnswered f s ks table held n e table′ held′ r =
+    (complete : List Stored) (d : Stored) (ms : List Mark) → Begun f s ks table held n e complete d ms → ValuesJudged f s ks table′ held held′ e complete d r

@@ -1,4 +1,0 @@
-pub mod Names
-pub mod Entry
-pub mod Find
-pub mod Climb

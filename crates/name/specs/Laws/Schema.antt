@@ -1,0 +1,141 @@
+-- Laws of `Schema`: what the rules ask of a type, by the syntax found.
+use Prim.Native.Nat.{ℕ, zero, suc, _+_, _/_, _%_, _<_, _≤_}
+use mathlib.Core.Path.{_≡_, refl, sym, ap, _∙_}
+use mathlib.Core.Bool.{Bool, true, false, _&&_, cond}
+use mathlib.Core.List.{List, [], _∷_}
+use native.Mathlib.Numerals.{add-one}
+use native.Mathlib.Nat.{le-of-suc-le-suc, not-suc-le-zero}
+use native.Mathlib.Omega.{arith}
+use lib.Dec.{eqb, ltb, leb·suc-suc}
+use lib.ListN.{length, getD, drop, drop-of-length-le}
+use lib.Seq.{drop-cons}
+use borrow.Author.Tests.{eq-eqb, ne-eqb, eqb-true, lt-ltb, le-ltb}
+use Rattle.rules.specs.Lists.{first, firstOr}
+use Rattle.rules.specs.Sheet.{Bytes}
+use Rattle.rules.specs.Value.{fits, same, byFound}
+use Rattle.rules.specs.Name.{AttributeType, bySyntax, ofSyntax, known, allowed, equal}
+use Rattle.rules.specs.Places.{attributeOf, schemaOf}
+use Rattle.rules.specs.declared.Found.the-variants.{At, Nothing}
+use Rattle.name.specs.Schema.{rankIn, syntaxIn, equalBy}
+
+-- ---- the rank
+
+pub rank-most : (ks : List ℕ) (t : ℕ) → rankIn ks t ≤ length ks
+unfolding rankIn
+rank-most [] t = omega arith
+rank-most (k ∷ ks) t = go (eqb (k / 4) t) (rank-most ks t)
+  where
+    go : (b : Bool) → rankIn ks t ≤ length ks → cond b 0 (suc (rankIn ks t)) ≤ suc (length ks)
+    go true h = omega arith
+    go false h = omega arith
+
+pub rank-type : (ks : List ℕ) (t : ℕ) → rankIn ks t < length ks → getD ks (rankIn ks t) 0 / 4 ≡ t
+unfolding rankIn
+rank-type [] t h = absurd (not-suc-le-zero h)
+rank-type (k ∷ ks) t h = go (eqb (k / 4) t) refl h (rank-type ks t)
+  where
+    go : (b : Bool) → eqb (k / 4) t ≡ b → cond b 0 (suc (rankIn ks t)) < suc (length ks) → (rankIn ks t < length ks → getD ks (rankIn ks t) 0 / 4 ≡ t)
+        → getD (k ∷ ks) (cond b 0 (suc (rankIn ks t))) 0 / 4 ≡ t
+    go true e h ih = eqb-true (k / 4) t e
+    go false e h ih = ih (le-of-suc-le-suc h)
+
+-- no type stands before its rank
+pub rank-first : (ks : List ℕ) (t r : ℕ) → r < length ks → getD ks r 0 / 4 ≡ t → rankIn ks t ≤ r
+unfolding rankIn
+rank-first [] t r h e = absurd (not-suc-le-zero h)
+rank-first (k ∷ ks) t zero h e = rw (eq-eqb (k / 4) t e) (omega arith)
+rank-first (k ∷ ks) t (suc r) h e = go (eqb (k / 4) t) (rank-first ks t r (le-of-suc-le-suc h) e)
+  where
+    go : (b : Bool) → rankIn ks t ≤ r → cond b 0 (suc (rankIn ks t)) ≤ suc r
+    go true i = omega arith
+    go false i = omega arith
+
+-- ---- the syntax, by the rank
+
+module _ (ks : List ℕ) (t : ℕ) where
+  pub syntax-known : rankIn ks t < length ks → syntaxIn ks t ≡ At (getD ks (rankIn ks t) 0 % 4)
+  unfolding syntaxIn
+  syntax-known h = rw (lt-ltb (rankIn ks t) (length ks) h)
+
+  pub syntax-unknown : length ks ≤ rankIn ks t → syntaxIn ks t ≡ Nothing
+  unfolding syntaxIn
+  syntax-unknown h = rw (le-ltb (rankIn ks t) (length ks) h)
+
+-- ---- the rules by the syntax found
+
+pub by-syntax : (ks : List ℕ) (test : ℕ → Bool) (t : ℕ) → ofSyntax (schemaOf ks) test t ≡ byFound (syntaxIn ks t) test
+unfolding ofSyntax schemaOf attributeOf syntaxIn rankIn
+by-syntax [] test t = refl
+by-syntax (k ∷ ks) test t = go (eqb (k / 4) t) (by-syntax ks test t)
+  where
+    go : (b : Bool) → ofSyntax (schemaOf ks) test t ≡ byFound (syntaxIn ks t) test
+        → bySyntax test (firstOr b (attributeOf k) (first (λ x. eqb (x .number) t) (schemaOf ks)))
+        ≡ byFound (cond (ltb (cond b 0 (suc (rankIn ks t))) (suc (length ks))) (At (getD (k ∷ ks) (cond b 0 (suc (rankIn ks t))) 0 % 4)) Nothing) test
+    go true ih = rw (lt-ltb 0 (suc (length ks)) (omega arith))
+    go false ih = rw (leb·suc-suc (suc (rankIn ks t)) (length ks)) ih
+
+module _ (ks : List ℕ) (t : ℕ) where
+  module _ (s : ℕ) (e : syntaxIn ks t ≡ At s) where
+    pub known-at : known (schemaOf ks) t ≡ true
+    unfolding known
+    known-at = by-syntax ks (λ s. true) t ∙ rw e
+
+    pub allowed-at : (v : Bytes) → allowed (schemaOf ks) t v ≡ fits s v
+    unfolding allowed
+    allowed-at v = by-syntax ks (λ s. fits s v) t ∙ rw e
+
+    pub equal-at : (v u : Bytes) → equal (schemaOf ks) t v u ≡ equalBy s v u
+    unfolding equal equalBy
+    equal-at v u = by-syntax ks (λ s. fits s v && (fits s u && same s v u)) t ∙ rw e
+
+  module _ (e : syntaxIn ks t ≡ Nothing) where
+    pub known-none : known (schemaOf ks) t ≡ false
+    unfolding known
+    known-none = by-syntax ks (λ s. true) t ∙ rw e
+
+    pub allowed-none : (v : Bytes) → allowed (schemaOf ks) t v ≡ false
+    unfolding allowed
+    allowed-none v = by-syntax ks (λ s. fits s v) t ∙ rw e
+
+    pub equal-none : (v u : Bytes) → equal (schemaOf ks) t v u ≡ false
+    unfolding equal
+    equal-none v u = by-syntax ks (λ s. fits s v && (fits s u && same s v u)) t ∙ rw e
+
+-- ---- the loop
+
+module _ (ks : List ℕ) (t i : ℕ) where
+  pub rank-here : i < length ks → getD ks i 0 / 4 ≡ t → rankIn (drop i ks) t ≡ 0
+  unfolding rankIn
+  rank-here h e = rw (drop-cons ks i 0, eq-eqb (getD ks i 0 / 4) t e)
+
+  pub rank-on : i < length ks → (getD ks i 0 / 4 ≡ t → ⊥) → rankIn (drop i ks) t ≡ suc (rankIn (drop (i + 1) ks) t)
+  unfolding rankIn
+  rank-on h e = rw (add-one, drop-cons ks i 0, ne-eqb (getD ks i 0 / 4) t e)
+
+  pub rank-end : length ks ≤ i → rankIn (drop i ks) t ≡ 0
+  unfolding rankIn
+  rank-end h = rw drop-of-length-le
+
+-- ---- equality, told apart first
+
+module _ (s : ℕ) (v u : Bytes) where
+  pub equal-apart : same s v u ≡ false → equalBy s v u ≡ false
+  unfolding equalBy
+  equal-apart e = go (fits s v) (fits s u) (same s v u) e
+    where
+      go : (a b c : Bool) → c ≡ false → (a && (b && c)) ≡ false
+      go true true c e = e
+      go true false c e = refl
+      go false b c e = refl
+
+  pub equal-unfit : fits s v ≡ false → equalBy s v u ≡ false
+  unfolding equalBy
+  equal-unfit e = rw e
+
+  pub equal-fit : same s v u ≡ true → fits s v ≡ true → equalBy s v u ≡ fits s u
+  unfolding equalBy
+  equal-fit e h = rw (h, e) (go (fits s u))
+    where
+      go : (b : Bool) → (b && true) ≡ b
+      go true = refl
+      go false = refl

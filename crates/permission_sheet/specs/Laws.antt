@@ -1,0 +1,4 @@
+pub mod End
+pub mod Rows
+pub mod ItemRows
+pub mod Reading

@@ -1,0 +1,3 @@
+pub mod Noted
+pub mod Rows
+pub mod Laws

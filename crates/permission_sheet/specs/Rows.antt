@@ -1,0 +1,37 @@
+-- The rows of an item, and their places among all rows: the definitions that the contracts of this crate cite. That they are what the rules give
+-- is proved in `Laws`.
+use Prim.Native.Nat.{ℕ, _+_}
+use mathlib.Core.List.{List, [], _∷_, _++_}
+use lib.ListN.{length, take, drop}
+use Rattle.rules.specs.Sheet.{Bytes}
+use Rattle.value_syntax.specs.Digest.{digest}
+use Rattle.sheet_line.specs.Line.{bytesOf}
+use Rattle.permission_item.specs.declared.Lines.{Lines}
+use Rattle.permission_weight.specs.Weight.{weightOf, scoreOf}
+
+unfoldable pub rightsRow : Bytes → Lines → List ℕ
+rightsRow p i =
+    scoreOf (weightOf (i .head .a) (i .user .a) (i .target .a)) (i .head .c)
+    ∷ digest 0 (bytesOf p (i .target))
+    ∷ i .head .c
+    ∷ i .target .a
+    ∷ i .target .b
+    ∷ i .mask .a
+    ∷ i .target .place
+    ∷ i .target .length
+    ∷ []
+
+unfoldable pub scopesRow : Lines → List ℕ
+scopesRow i =
+    i .base .a
+    ∷ i .base .next
+    ∷ i .base .b
+    ∷ i .user .a
+    ∷ i .user .next
+    ∷ i .user .b
+    ∷ i .head .b
+    ∷ []
+
+-- `row` in the place of what stands in `rows` from `at` on
+unfoldable pub putAt : List ℕ → ℕ → List ℕ → List ℕ
+putAt rows at row = (take at rows ++ row) ++ drop (at + length row) rows

@@ -1,0 +1,101 @@
+// The permission sheet, judged in one pass: its refusal number, or its items as rows of numbers. Names and values are noted by their
+// positions on the sheet, a value by its digest too, so that a question about a permission reads numbers and seldom bytes.
+mod row;
+
+use rules::Format;
+use sheet_due::grammar::Grammar;
+use sheet_due::misplaced_by;
+use sheet_due::seen_at;
+ghost use mathlib.Core.Path.{_≡_};
+ghost use Rattle.rules.specs.Sheet.{Usable};
+ghost use Rattle.permission_sheet.specs.Noted.{Judged};
+ghost use Rattle.permission_sheet.specs.Noted as Noted;
+
+// The places of an item's numbers in its row of rights, and the length of the row.
+pub const SCORE: usize = 0;
+
+pub const DIGEST: usize = 1;
+
+pub const GRANTS: usize = 2;
+
+pub const WHAT: usize = 3;
+
+pub const TYPE: usize = 4;
+
+pub const PERMISSIONS: usize = 5;
+
+pub const VALUE: usize = 6;
+
+pub const LENGTH: usize = 7;
+
+pub const RIGHTS: usize = 8;
+
+// The places of its numbers in its row of scopes, and the length of the row.
+pub const BELOW: usize = 0;
+
+pub const BASE: usize = 1;
+
+pub const BASE_PARTS: usize = 2;
+
+pub const WHO: usize = 3;
+
+pub const USER: usize = 4;
+
+pub const USER_PARTS: usize = 5;
+
+pub const LEVEL: usize = 6;
+
+pub const SCOPES: usize = 7;
+
+// The refusal number (0: none), and the items: 256 rows of rights and 256 rows of scopes.
+pub struct Items {
+    pub refusal: u64,
+    pub count: usize,
+    pub rights: [u64; 2048],
+    pub scopes: [u64; 1792],
+}
+
+// No items, but a refusal number.
+fn refused(number: u64) -> Items
+    ensures { λ r. ⌜ r ≡ Noted.refused number ⌝ }
+{
+    Items {
+        refusal: number,
+        count: 0,
+        rights: [0; 2048],
+        scopes: [0; 1792],
+    }
+}
+
+// The permission sheet `p`, in the format `f`, judged against the schema.
+pub fn judge(p: &[u8], f: Format, schema: &[u64]) -> Items
+    requires { ⌜ Usable f ⌝ }
+    ensures { λ r. ⌜ Judged f (now (p .entry)) (now (schema .entry)) r ⌝ }
+{
+    if 65536 < p.len() {
+        return refused(11);
+    }
+    let mut rights: [u64; 2048] = [0; 2048];
+    let mut scopes: [u64; 1792] = [0; 1792];
+    let mut count: usize = 0;
+    let mut at: usize = 0;
+    while at < p.len() {
+        if 256 <= count {
+            let g = Grammar::Permissions;
+            return refused(misplaced_by(g, seen_at(p, f, g, at)));
+        }
+        let lines = permission_item::item_at(p, f, schema, at);
+        if lines.refusal != 0 {
+            return refused(lines.refusal);
+        }
+        row::note(p, &mut rights, &mut scopes, count, lines);
+        count += 1;
+        at = lines.mask.next;
+    }
+    Items {
+        refusal: 0,
+        count,
+        rights,
+        scopes,
+    }
+}

@@ -1,5 +1,0 @@
-pub mod Noted
-pub mod Steps
-pub mod Rows
-pub mod ItemRows
-pub mod Reading

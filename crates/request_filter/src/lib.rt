@@ -1,0 +1,136 @@
+// A filter of a request, an operator before its parts: read line by line, each line once, with the depth and the lines that
+// are still allowed counted down.
+use request_piece::Step;
+use request_piece::pieces_at;
+use rules::Format;
+use sheet_due::Seen;
+use sheet_due::grammar::Grammar;
+use sheet_due::misplaced_by;
+use sheet_due::seen_at;
+use sheet_line::Line;
+ghost use mathlib.Core.Path.{_≡_};
+ghost use Rattle.rules.specs.Sheet.{Usable};
+ghost use Rattle.rules.specs.Columns.{requestForms};
+ghost use Rattle.rules.specs.Request.{requestGrammar};
+ghost use Rattle.sheet_due.specs.Lines.{seenAt, misplacedBy};
+ghost use Rattle.request_piece.specs.declared.Step.the-variants as Step;
+ghost use Rattle.request_filter.specs.Filters.{itemOf, nodeOf, nodeBy, nodeAt, filterAt};
+
+// What a line of a filter begins: an operator with its number of parts, "not" having one, or an item.
+pub enum Node {
+    Operator { count: u64, next: usize, left: u64 },
+    Item { next: usize, left: u64 },
+    Refused(u64),
+}
+
+// Pieces that were read make an item.
+fn item_of(step: Step) -> Node
+    ensures { λ r. ⌜ r ≡ itemOf step ⌝ }
+{
+    match step {
+        Step::Read { next, left } => Node::Item { next, left },
+        Step::Refused(number) => Node::Refused(number),
+    }
+}
+
+// By the kind of a filter's line.
+fn node_of(q: &[u8], f: Format, left: u64, line: Line) -> Node
+    requires { ⌜ Usable f ⌝ }
+    ensures { λ r. ⌜ r ≡ nodeOf (requestGrammar (f .top)) (f .width) (now (q .entry)) left line ⌝ }
+{
+    let next = line.next;
+    let kind = line.kind;
+    match kind {
+        20 => Node::Operator {
+            count: line.a,
+            next,
+            left,
+        },
+        21 => Node::Operator {
+            count: line.a,
+            next,
+            left,
+        },
+        22 => Node::Operator {
+            count: 1,
+            next,
+            left,
+        },
+        23 => Node::Item { next, left },
+        24 => Node::Item { next, left },
+        25 => Node::Item { next, left },
+        26 => Node::Item { next, left },
+        27 => item_of(pieces_at(q, next, f, line.b, left)),
+        _ => Node::Refused(23),
+    }
+}
+
+// What was seen where a filter is due.
+fn node_by(q: &[u8], f: Format, left: u64, seen: Seen) -> Node
+    requires { ⌜ Usable f ⌝ }
+    ensures { λ r. ⌜ r ≡ nodeBy (requestGrammar (f .top)) (f .width) (now (q .entry)) left seen ⌝ }
+{
+    match seen {
+        Seen::Line(line) => {
+            if left == 0 {
+                Node::Refused(23)
+            } else {
+                node_of(q, f, left - 1, line)
+            }
+        }
+        Seen::NotAllowed => Node::Refused(22),
+        Seen::Missing => Node::Refused(23),
+    }
+}
+
+// What a filter's line at a position begins.
+fn node_at(q: &[u8], at: usize, f: Format, left: u64) -> Node
+    requires { ⌜ Usable f ⌝ }
+    ensures { λ r. ⌜ r ≡ nodeAt (requestGrammar (f .top)) (f .width) (now (q .entry)) at left ⌝ }
+{
+    node_by(q, f, left, seen_at(q, f, Grammar::Request, at))
+}
+
+// No filter may stand at a position.
+fn too_deep(q: &[u8], at: usize, f: Format) -> Step
+    requires { ⌜ Usable f ⌝ }
+    ensures { λ r. ⌜ r ≡ Step.Refused (misplacedBy 20 (seenAt (requestForms (f .top)) (f .width) (now (q .entry)) at)) ⌝ }
+{
+    let g = Grammar::Request;
+    Step::Refused(misplaced_by(g, seen_at(q, f, g, at)))
+}
+
+// The filter at a position, with `depth` more levels and `left` more lines allowed.
+pub fn filter_at(q: &[u8], at: usize, f: Format, depth: u64, left: u64) -> Step
+    requires { ⌜ Usable f ⌝ }
+    ensures { λ r. ⌜ r ≡ filterAt (requestGrammar (f .top)) (f .width) (now (q .entry)) depth at left ⌝ }
+{
+    if depth == 0 {
+        return too_deep(q, at, f);
+    }
+    match node_at(q, at, f, left) {
+        Node::Refused(number) => Step::Refused(number),
+        Node::Item { next, left } => Step::Read { next, left },
+        Node::Operator { count, next, left } => {
+            let mut pos = next;
+            let mut room = left;
+            let mut n = count;
+            while 0 < n {
+                match filter_at(q, pos, f, depth - 1, room) {
+                    Step::Read { next, left } => {
+                        pos = next;
+                        room = left;
+                    }
+                    Step::Refused(number) => {
+                        return Step::Refused(number);
+                    }
+                }
+                n -= 1;
+            }
+            Step::Read {
+                next: pos,
+                left: room,
+            }
+        }
+    }
+}

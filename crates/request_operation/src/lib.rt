@@ -1,0 +1,115 @@
+// The lines of a request after its base, by its operation: what is selected, compared, or searched for.
+use request_filter::filter_at;
+use request_piece::Step;
+use rules::Format;
+use sheet_due::Reached;
+use sheet_due::after_due;
+use sheet_due::after_group;
+use sheet_due::due_at;
+use sheet_due::grammar::Grammar;
+use sheet_due::group_at;
+use sheet_due::no_line;
+use sheet_due::reached_at;
+use sheet_line::Line;
+ghost use mathlib.Core.Path.{_≡_};
+ghost use Rattle.rules.specs.Sheet.{Usable};
+ghost use Rattle.rules.specs.Request.{requestGrammar};
+ghost use Rattle.request_operation.specs.Operations.{bodyOf, reachedBy, filterFrom, readAt, compareAt, listAt, searchAt, bodyAt};
+
+// The lines, each 0 where the operation has none, and the position after them; or the refusal (0: none).
+pub struct Body {
+    pub refusal: u64,
+    // K 12, which its K 13 follow.
+    pub selection: Line,
+    // K 14.
+    pub assertion: Line,
+    // K 15, which the filter follows.
+    pub subset: Line,
+    pub next: usize,
+}
+
+// The lines up to `end`.
+fn body_of(end: Reached, selection: Line, assertion: Line, subset: Line) -> Body
+    ensures { λ r. ⌜ r ≡ bodyOf end selection assertion subset ⌝ }
+{
+    Body {
+        refusal: end.refusal,
+        selection,
+        assertion,
+        subset,
+        next: end.next,
+    }
+}
+
+// The position after a filter, or its refusal.
+fn reached_by(step: Step) -> Reached
+    ensures { λ r. ⌜ r ≡ reachedBy step ⌝ }
+{
+    match step {
+        Step::Read { next, .. } => reached_at(next),
+        Step::Refused(number) => Reached {
+            refusal: number,
+            next: 0,
+        },
+    }
+}
+
+// The filter, unless there is a refusal already.
+fn filter_from(q: &[u8], f: Format, from: Reached) -> Reached
+    requires { ⌜ Usable f ⌝ }
+    ensures { λ r. ⌜ r ≡ filterFrom (requestGrammar (f .top)) (f .width) (now (q .entry)) from ⌝ }
+{
+    if from.refusal != 0 {
+        return from;
+    }
+    reached_by(filter_at(q, from.next, f, 16, 128))
+}
+
+// A read: K 12 with its K 13.
+fn read_at(q: &[u8], f: Format, at: usize) -> Body
+    requires { ⌜ Usable f ⌝ }
+    ensures { λ r. ⌜ r ≡ readAt (requestGrammar (f .top)) (f .width) (now (q .entry)) at ⌝ }
+{
+    let group = group_at(q, f, Grammar::Request, &[], reached_at(at), 12, 13);
+    body_of(after_group(group), group.line, no_line(), no_line())
+}
+
+// A compare: K 14.
+fn compare_at(q: &[u8], f: Format, at: usize) -> Body
+    requires { ⌜ Usable f ⌝ }
+    ensures { λ r. ⌜ r ≡ compareAt (requestGrammar (f .top)) (f .width) (now (q .entry)) at ⌝ }
+{
+    let due = due_at(q, f, Grammar::Request, &[], reached_at(at), 14);
+    body_of(after_due(due), no_line(), due.line, no_line())
+}
+
+// A list has no more lines.
+fn list_at(at: usize) -> Body
+    ensures { λ r. ⌜ r ≡ listAt at ⌝ }
+{
+    body_of(reached_at(at), no_line(), no_line(), no_line())
+}
+
+// A search: K 12 with its K 13, K 15, and the filter.
+fn search_at(q: &[u8], f: Format, at: usize) -> Body
+    requires { ⌜ Usable f ⌝ }
+    ensures { λ r. ⌜ r ≡ searchAt (requestGrammar (f .top)) (f .width) (now (q .entry)) at ⌝ }
+{
+    let group = group_at(q, f, Grammar::Request, &[], reached_at(at), 12, 13);
+    let due = due_at(q, f, Grammar::Request, &[], after_group(group), 15);
+    let end = filter_from(q, f, after_due(due));
+    body_of(end, group.line, no_line(), due.line)
+}
+
+// The lines of the operation `op`, from a position on.
+pub fn body_at(q: &[u8], f: Format, at: usize, op: u64) -> Body
+    requires { ⌜ Usable f ⌝ }
+    ensures { λ r. ⌜ r ≡ bodyAt (requestGrammar (f .top)) (f .width) (now (q .entry)) at op ⌝ }
+{
+    match op {
+        1 => read_at(q, f, at),
+        2 => compare_at(q, f, at),
+        3 => list_at(at),
+        _ => search_at(q, f, at),
+    }
+}

@@ -1,0 +1,133 @@
+-- Laws of `Whole`: what the code makes of a sheet is what `judge` promises.
+use Prim.Native.Nat.{ℕ, _+_, _≤_}
+use mathlib.Core.Path.{_≡_, refl, sym, _∙_, subst}
+use mathlib.Core.Bool.{Bool, true, false, cond}
+use native.Mathlib.Omega.{arith}
+use lib.Dec.{ltb, eqb}
+use lib.ListN.{length}
+use borrow.Author.Tests.{eqb-true, eqb-false, ltb-false}
+use Rattle.rules.specs.Sheet.{Bytes, Sheet}
+use Rattle.rules.specs.declared.Format.{Format}
+use Rattle.rules.specs.Judge.{Verdict, accept, refuse, refusalOf, refuseIf, Grammar, misplaced, atEnd, due, dueLines, nameOf}
+use Rattle.rules.specs.Laws.Judge.{refused-not, accepted-is}
+use Rattle.rules.specs.Request.{Operation, Request, requestGrammar, operation, request, requestOf}
+use Rattle.rules.specs.Places.{linesAt}
+use Rattle.sheet_line.specs.Laws.{lineOf}
+use Rattle.sheet_line.specs.declared.Line.{Line}
+use Rattle.sheet_due.specs.Lines.{seenAt, reachedAt, afterGroup}
+use Rattle.sheet_due.specs.Laws.Lines.{onSeen, by-seen, after, group-is, followers, first-parts, name-length, took-columns, TookGroup, took-group}
+use Rattle.sheet_due.specs.declared.Seen.{Seen}
+use Rattle.sheet_due.specs.declared.Seen.the-variants as Seen
+use Rattle.sheet_due.specs.declared.Reached.{Reached}
+use Rattle.sheet_due.specs.declared.Group.{Group}
+use Rattle.request_operation.specs.Operations.{bodyAt}
+use Rattle.request_operation.specs.declared.Body.{Body}
+use Rattle.request_sheet.specs.declared.Asked.{Asked}
+use Rattle.request_sheet.specs.Noted.{NotedName, Noted, refused, Judged}
+use Rattle.request_sheet.specs.Whole.{asked, endBy, orRefused, withBody, requesterAt, baseAt, askedOf}
+use Rattle.request_sheet.specs.Laws.Bounds.{Bounds, request-bounds}
+use Rattle.request_sheet.specs.Laws.Operations.{Leads, body-leads}
+
+-- `Judged`, of any verdict
+record Meets (G : Grammar) (w : ℕ) (q : Bytes) (v : Verdict Request) (r : Asked) : Type 0 where
+  refusal : r .refusal ≡ refusalOf v
+  noted : (x : Request) → v ≡ accept x → Noted G w q x r
+  accepted : r .refusal ≡ 0 → (x : Request) × (v ≡ accept x)
+  nothing : (r .refusal ≡ 0 → ⊥) → r ≡ refused (r .refusal)
+
+module _ (G : Grammar) (bounds : Bounds G) (w : ℕ) (q : Bytes) where
+  -- a refusal
+  meets-refused : (n : ℕ) → (n ≡ 0 → ⊥) → Meets G w q (refuse n) (refused n)
+  meets-refused n h = record { refusal = refl; noted = λ x e. absurd (refused-not n x e); accepted = λ z. absurd (h z); nothing = λ z. refl }
+
+  -- a refusal, or what follows
+  meets-after : (n : ℕ) {v : Verdict Request} {r : Asked} → (n ≡ 0 → Meets G w q v r) → Meets G w q (after n v) (orRefused n r)
+  meets-after n {v} {r} h = by (eqb n 0) refl
+    where
+      by : (t : Bool) → eqb n 0 ≡ t → Meets G w q (after n v) (orRefused n r)
+      by true e = rw e (h (eqb-true n 0 e))
+      by false e = rw e (meets-refused n (eqb-false n 0 e))
+
+  -- the end of the sheet
+  module _ (x : Request) (requester base : Line) (b : Body) (h : Noted G w q x (asked requester base b)) where
+    end-seen : (s : Seen) → Meets G w q (onSeen w q (accept x) (refuse (G .refusals + 2)) (λ y rest. refuse (G .refusals + 3)) s) (endBy (G .refusals) requester base b s)
+    end-seen (Seen.Line y) = meets-refused (G .refusals + 3) (λ z. omega arith)
+    end-seen Seen.NotAllowed = meets-refused (G .refusals + 2) (λ z. omega arith)
+    end-seen Seen.Missing = record { refusal = refl; noted = λ y e. subst (λ y. Noted G w q y (asked requester base b)) (accepted-is e) h; accepted = λ z. (x, refl); nothing = λ z. absurd (z refl) }
+
+    end-meets : Meets G w q (atEnd x (linesAt w q (b .next)) (misplaced G (linesAt w q (b .next)))) (endBy (G .refusals) requester base b (seenAt (G .forms) w q (b .next)))
+    unfolding misplaced
+    end-meets =
+        rw (by-seen (G .forms) w q (b .next) (λ s. atEnd x s (misplaced G s)) (accept x) (refuse (G .refusals + 2)) (λ y rest. refuse (G .refusals + 3)) refl refl (λ y rest e. rw e) (λ y rest e. rw e))
+        (end-seen (seenAt (G .forms) w q (b .next)))
+
+  -- a name of a group that was taken
+  name-noted : {r : Reached} {k : ℕ} (g : Group) → TookGroup G w q r k g → g .line .b ≤ 8 → NotedName w q (nameOf (followers w q g)) (g .line .next) (g .line .b)
+  name-noted g t h = record { parts = sym (first-parts (g .line .b) (linesAt w q (g .line .next))); count = name-length (followers w q g) ∙ t .count; most = h }
+
+  abbrev requester : Group
+  requester = requesterAt G w q
+
+  abbrev base : Group
+  base = baseAt G w q
+
+  abbrev body : Body
+  body = bodyAt G w q (base .next) (base .line .a)
+
+  -- the request with this operation
+  requestWith : Operation → Request
+  requestWith o =
+      record {
+        requester = record { level = requester .line .a; name = nameOf (followers w q requester) };
+        base = nameOf (followers w q base);
+        operation = o;
+      }
+
+  -- what the rules do after the operation's lines
+  ending : Operation → Sheet → Verdict Request
+  ending o s = atEnd (requestWith o) s (misplaced G s)
+
+  -- the operation's lines and the end
+  body-meets : length q ≤ 8192 → base .refusal ≡ 0 → Meets G w q (operation G (lineOf q (base .line)) (linesAt w q (base .next)) ending) (withBody G w q (requester .line) (base .line) body)
+  unfolding ending requestWith withBody
+  body-meets short z =
+      rw (leads .is Request ending)
+      (meets-after (body .refusal) (λ y. end-meets (requestWith (leads .asks)) (requester .line) (base .line) body
+      (record {
+        level = refl;
+        requester = name-noted requester t₁ (bounds .requester _ _ _ _ (took-columns (t₁ .head)));
+        base = name-noted base t₂ (columns .0);
+        operation = leads .noted y (requester .line);
+        short = short;
+      })))
+    where
+      t₂ : TookGroup G w q (afterGroup requester) 11 base
+      t₂ = took-group G w q (afterGroup requester) 11 9 z
+
+      t₁ : TookGroup G w q (reachedAt 0) 10 requester
+      t₁ = took-group G w q (reachedAt 0) 10 9 (t₂ .head .clear)
+
+      columns : (base .line .b ≤ 8) × (1 ≤ base .line .a) × (base .line .a ≤ 4) × (base .line .a ≤ 2 → base .line .c ≡ 0)
+      columns = bounds .base _ _ _ _ (took-columns (t₂ .head))
+
+      leads : Leads G w q (base .next) (base .line) body
+      leads = body-leads G bounds w q (base .next) (base .line) (columns .3) (columns .1) (columns .2)
+
+  -- the rules, part by part
+  request-is : request G (linesAt w q 0) ≡ after (base .refusal) (operation G (lineOf q (base .line)) (linesAt w q (base .next)) ending)
+  unfolding request ending requestWith
+  request-is =
+      group-is G w q (reachedAt 0) 10 9 (λ x name s. due G 11 s λ y s. dueLines G 9 (y .b) s λ base s. operation G y s λ o s.
+      atEnd (record { requester = record { level = x .a; name = nameOf name }; base = nameOf base; operation = o }) s (misplaced G s))
+      ∙ group-is G w q (afterGroup requester) 11 9 (λ y base s. operation G y s λ o s.
+      atEnd (record { requester = record { level = requester .line .a; name = nameOf (followers w q requester) }; base = nameOf base; operation = o }) s (misplaced G s))
+
+  asked-by : (t : Bool) → ltb 8192 (length q) ≡ t
+      → Meets G w q (refuseIf t 21 (request G (linesAt w q 0))) (cond t (refused 21) (orRefused (base .refusal) (withBody G w q (requester .line) (base .line) body)))
+  asked-by true e = meets-refused 21 (λ z. omega arith)
+  asked-by false e = rw request-is (meets-after (base .refusal) (body-meets (ltb-false 8192 (length q) e)))
+
+-- what the code does is what `judge` promises
+pub asked-judged : (f : Format) (q : Bytes) → Judged f q (askedOf (requestGrammar (f .top)) (f .width) q)
+unfolding askedOf requestOf
+asked-judged f q = let m = asked-by (requestGrammar (f .top)) (request-bounds (f .top)) (f .width) q (ltb 8192 (length q)) refl in record { refusal = m .refusal; noted = m .noted; accepted = m .accepted; nothing = m .nothing }

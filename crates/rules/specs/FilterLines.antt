@@ -1,0 +1,84 @@
+-- A filter evaluated while its lines are read, an operator before its parts: for the contracts of a program that builds no tree. `serve` does not
+-- rest on these.
+use Prim.Native.Nat.{ℕ, zero, suc}
+use mathlib.Core.Bool.{_||_, cond}
+use mathlib.Core.List.{List, [], _∷_}
+use lib.Dec.{eqb}
+use Rattle.rules.specs.Sheet.{Line, Sheet, end, broken, row}
+use Rattle.rules.specs.Value.{Piece}
+use Rattle.rules.specs.Filter.{Assertion, equality, atLeast, atMost, present, substrings, negation}
+use Rattle.rules.specs.declared.Truth.{Truth}
+use Rattle.rules.specs.declared.Truth.the-variants.{True, False, Undefined}
+
+-- ---- and, or: one part at a time
+
+abbrev pub both : Truth → Truth → Truth
+both False u = False
+both True u = u
+both Undefined False = False
+both Undefined True = Undefined
+both Undefined Undefined = Undefined
+
+abbrev pub either : Truth → Truth → Truth
+either True u = True
+either False u = u
+either Undefined True = True
+either Undefined False = Undefined
+either Undefined Undefined = Undefined
+
+-- ---- lines
+
+-- the first `n` lines as pieces, and what follows them
+unfoldable pub piecesOf : ℕ → Sheet → List Piece
+piecesOf zero s = []
+piecesOf (suc n) end = []
+piecesOf (suc n) broken = []
+piecesOf (suc n) (row x rest) = record { place = x .a; bytes = x .bytes } ∷ piecesOf n rest
+
+unfoldable pub afterLines : ℕ → Sheet → Sheet
+afterLines zero s = s
+afterLines (suc n) end = end
+afterLines (suc n) broken = broken
+afterLines (suc n) (row x rest) = afterLines n rest
+
+-- the item of a line K 23 to 27, and what follows it
+unfoldable pub assertionOf : Line → Sheet → Assertion
+assertionOf x rest =
+    cond (eqb (x .kind) 23) (equality (x .a) (x .bytes))
+    (cond (eqb (x .kind) 24) (atLeast (x .a) (x .bytes))
+    (cond (eqb (x .kind) 25) (atMost (x .a) (x .bytes))
+    (cond (eqb (x .kind) 26) (present (x .a))
+    (substrings (x .a) (piecesOf (x .b) rest)))))
+
+unfoldable pub afterItem : Line → Sheet → Sheet
+afterItem x rest = cond (eqb (x .kind) 23 || (eqb (x .kind) 24 || (eqb (x .kind) 25 || eqb (x .kind) 26))) rest (afterLines (x .b) rest)
+
+pub record Evaluated : Type 0 where
+  pub truth : Truth
+  pub rest : Sheet
+
+abbrev pub evaluated : Truth → Sheet → Evaluated
+evaluated t s = record { truth = t; rest = s }
+
+-- `n` parts joined to what came before
+unfoldable pub partsFrom : (Truth → Truth → Truth) → (Sheet → Evaluated) → ℕ → Truth → Sheet → Evaluated
+partsFrom join one zero t s = evaluated t s
+partsFrom join one (suc n) t s = partsFrom join one n (join t (one s .truth)) (one s .rest)
+
+module _ (m : Assertion → Truth) where
+  unfoldable pub evaluateLine : (Sheet → Evaluated) → Line → Sheet → Evaluated
+  evaluateLine one x rest =
+      cond (eqb (x .kind) 20) (partsFrom both one (x .a) True rest)
+      (cond (eqb (x .kind) 21) (partsFrom either one (x .a) False rest)
+      (cond (eqb (x .kind) 22) (evaluated (negation (one rest .truth)) (one rest .rest))
+      (evaluated (m (assertionOf x rest)) (afterItem x rest))))
+
+  unfoldable pub evaluateSheet : (Line → Sheet → Evaluated) → Sheet → Evaluated
+  evaluateSheet f end = evaluated Undefined end
+  evaluateSheet f broken = evaluated Undefined broken
+  evaluateSheet f (row x rest) = f x rest
+
+  -- the filter at the front of a sheet, at most `depth` levels deep
+  unfoldable pub evaluateLines : ℕ → Sheet → Evaluated
+  evaluateLines zero s = evaluated Undefined s
+  evaluateLines (suc depth) s = evaluateSheet (evaluateLine (evaluateLines depth)) s

@@ -1,3 +1,0 @@
-pub mod Lines
-pub mod Schema
-pub mod Types

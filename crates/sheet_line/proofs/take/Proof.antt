@@ -1,0 +1,41 @@
+-- What stands at the front decides; a line that was taken fits the sheet, so that the positions in it do not wrap.
+use Prim.Native.Nat.{_+_, _*_, _≤_}
+use mathlib.Core.Path.{sym, _∙_}
+use lib.ListN.{length}
+use native.Mathlib.Omega.{arith}
+use borrow.Author.Needs.{needs}
+use denote.Ref.{now}
+use Rattle.rules.specs.Laws.Sheet.{taken-fits}
+use Rattle.sheet_line.specs.Line.{takenAt}
+use Rattle.sheet_line.proofs.take.Statement.{statement}
+use Rattle.sheet_line.proofs.take.Tie as tie
+
+-- a line that was taken fits the sheet
+fits : (c : tie.After-known-told) → let A = c .before .before .before .before .before .args in A .at + (5 * A .w + 1 + c .before .kind .given .0 .1 .1 .1 .1 .0) ≤ length (now (A .s))
+fits c = let A = c .before .before .before .before .before .args in taken-fits (A .w) (now (A .s)) (A .at) (sym (c .before .before .before .front-at .ensures) ∙ c .before .kind .given .1) .1
+
+add-place : tie.Need-add-place
+add-place c = omega (arith, fits c)
+
+add-t12 : tie.Need-add-t12
+add-t12 c = omega (arith, fits c)
+
+add-t13 : tie.Need-add-t13
+add-t13 c = omega (arith, fits c)
+
+returns : tie.Need-returns
+unfolding takenAt
+returns c = rw (sym (c .before .before .before .front-at .ensures) ∙ c .before .kind .given .1)
+
+returns-2 : tie.Need-returns-2
+unfolding takenAt
+returns-2 c = rw (sym (c .before .before .front-at .ensures) ∙ c .enum-told .given .1)
+
+returns-3 : tie.Need-returns-3
+unfolding takenAt
+returns-3 c = rw (sym (c .before .before .front-at .ensures) ∙ c .enum-told2 .given .1)
+
+pub take-spec : {M : Type 1} → statement M
+take-spec =
+    tie.close
+    (tie.spec (λ c κs. search needs) (λ c. search needs) (λ c. search needs) add-place add-t12 add-t13 (λ c. search needs) (λ c. search needs) returns returns-2 returns-3)

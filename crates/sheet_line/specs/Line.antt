@@ -1,0 +1,23 @@
+-- A line taken from a sheet, by numbers: its columns, where its bytes begin, how many they are, and where the next line begins.
+use Prim.Native.Nat.{ℕ, _+_, _*_}
+use lib.ListN.{take, drop}
+use Rattle.rules.specs.Sheet.{Bytes, frontOf}
+use Rattle.rules.specs.declared.Front.{Front}
+use Rattle.rules.specs.declared.Front.the-variants as Front
+use Rattle.sheet_line.specs.declared.Line.{Line}
+use Rattle.sheet_line.specs.declared.Taken.{Taken}
+use Rattle.sheet_line.specs.declared.Taken.the-variants as Taken
+
+-- what stands at the position `at`, where this is at the front of the rest
+abbrev pub takenBy : ℕ → ℕ → Front → Taken
+takenBy w at (Front.Taken k a b c l) = Taken.Line (record { kind = k; a = a; b = b; c = c; place = at + 5 * w; length = l; next = at + 5 * w + l + 1 })
+takenBy w at Front.NotInForm = Taken.NotInForm
+takenBy w at Front.End = Taken.End
+
+-- what stands at the position `at` of the sheet `s`
+unfoldable pub takenAt : ℕ → Bytes → ℕ → Taken
+takenAt w s at = takenBy w at (frontOf w (drop at s))
+
+-- the bytes of a line of the sheet `s`
+abbrev pub bytesOf : Bytes → Line → Bytes
+bytesOf s x = take (x .length) (drop (x .place) s)

@@ -1,0 +1,93 @@
+// A line written into a lent buffer. Nothing but the line's own bytes changes.
+ghost use mathlib.Core.Path.{_≡_};
+ghost use Prim.Native.Nat.{_+_, _*_, _≤_};
+ghost use lib.ListN.{length};
+ghost use Rattle.rules.specs.Sheet.{line, leading, column, numbers, lineBytes};
+ghost use Rattle.sheet_write.specs.Put.{putAt};
+
+// Spaces in the `w` bytes from `at` on.
+fn put_spaces(out: &mut [u8], at: usize, w: usize)
+    requires { ⌜ at + w ≤ length (now out) ⌝ }
+    ensures { λ _. ⌜ now (out .exit) ≡ putAt (now (out .entry)) at (leading w 0) ⌝ }
+{
+    let mut i = w;
+    while 0 < i {
+        i -= 1;
+        out[at + i] = 32;
+    }
+}
+
+// The digits of `n` in the `w` bytes from `at` on, written from the right; spaces where none is left.
+fn put_leading(out: &mut [u8], at: usize, w: usize, n: u64)
+    requires { ⌜ at + w ≤ length (now out) ⌝ }
+    ensures { λ _. ⌜ now (out .exit) ≡ putAt (now (out .entry)) at (leading w n) ⌝ }
+{
+    let mut i = w;
+    let mut v = n;
+    while 0 < i {
+        if v == 0 {
+            put_spaces(out, at, i);
+            return;
+        }
+        i -= 1;
+        out[at + i] = 48 + ((v % 10) as u8);
+        v = v / 10;
+    }
+}
+
+// `n` right-justified in the `w` bytes from `at` on.
+fn put_column(out: &mut [u8], at: usize, w: usize, n: u64)
+    requires { ⌜ (1 ≤ w) × (at + w ≤ length (now out)) ⌝ }
+    ensures { λ _. ⌜ now (out .exit) ≡ putAt (now (out .entry)) at (column w n) ⌝ }
+{
+    let i = w - 1;
+    out[at + i] = 48 + ((n % 10) as u8);
+    put_leading(out, at, i, n / 10);
+}
+
+// `src` from `at` on.
+fn put(out: &mut [u8], at: usize, src: &[u8])
+    requires { ⌜ at + length (now src) ≤ length (now out) ⌝ }
+    ensures { λ _. ⌜ now (out .exit) ≡ putAt (now (out .entry)) at (now (src .entry)) ⌝ }
+{
+    let mut i: usize = 0;
+    while i < src.len() {
+        out[at + i] = src[i];
+        i += 1;
+    }
+}
+
+// The five columns of a line; the position after them is returned.
+fn put_numbers(out: &mut [u8], at: usize, w: usize, k: u64, a: u64, b: u64, c: u64, l: u64) -> usize
+    requires { ⌜ (1 ≤ w) × (at + 5 * w ≤ length (now out)) ⌝ }
+    ensures { λ r. ⌜ (r ≡ at + 5 * w) × (now (out .exit) ≡ putAt (now (out .entry)) at (numbers w k a b c l)) ⌝ }
+{
+    put_column(out, at, w, k);
+    put_column(out, at + w, w, a);
+    put_column(out, at + 2 * w, w, b);
+    put_column(out, at + 3 * w, w, c);
+    put_column(out, at + 4 * w, w, l);
+    at + 5 * w
+}
+
+// The line of these numbers and bytes from `at` on; the position after it is returned.
+pub fn put_line(
+    out: &mut [u8],
+    at: usize,
+    w: usize,
+    kind: u64,
+    a: u64,
+    b: u64,
+    c: u64,
+    bytes: &[u8],
+) -> usize
+    requires { ⌜ (1 ≤ w) × (at + (5 * w + 1 + length (now bytes)) ≤ length (now out)) ⌝ }
+    ensures next { λ r. ⌜ r ≡ at + (5 * w + 1 + length (now (bytes .entry))) ⌝ }
+    ensures written { λ _. ⌜ now (out .exit) ≡ putAt (now (out .entry)) at (lineBytes w (line kind a b c (now (bytes .entry)))) ⌝ }
+{
+    let from = put_numbers(out, at, w, kind, a, b, c, bytes.len() as u64);
+    put(out, from, bytes);
+    let end = from + bytes.len();
+    out[end] = 10;
+    end + 1
+}
