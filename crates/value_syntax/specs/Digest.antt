@@ -13,19 +13,19 @@ use Rattle.rules.specs.Sheet.{Bytes}
 use Rattle.rules.specs.Value.{text, small, normal, same}
 use Rattle.rules.specs.Laws.Value.{identical-eq}
 
--- the number with its high part added, so that every byte tells in the low bits too
+-- a product with its high part added, so that no two bytes are mixed by sums alone
 abbrev stirred : ℕ → ℕ
-stirred x = x + x / 65536
+stirred x = x + x / 1048576
 
 -- the bytes, letters without case, mixed into `h` one after the other
 unfoldable pub digest : ℕ → Bytes → ℕ
-digest h [] = stirred (h % 4294967296) % 4294967296
-digest h (b ∷ bs) = digest ((h % 4294967296 * 16777619 + small b)) bs
+digest h [] = h % 4294967296
+digest h (b ∷ bs) = digest (stirred (h % 4294967296 * 16777619 + small b)) bs
 
 pub digest-bound : (h : ℕ) (v : Bytes) → digest h v < 4294967296
 unfolding digest
 digest-bound h [] = omega arith
-digest-bound h (b ∷ bs) = digest-bound ((h % 4294967296 * 16777619 + small b)) bs
+digest-bound h (b ∷ bs) = digest-bound (stirred (h % 4294967296 * 16777619 + small b)) bs
 
 small-twice : (b : ℕ) → small (small b) ≡ small b
 unfolding small
@@ -46,7 +46,7 @@ digest-small : (h : ℕ) (v : Bytes) → digest h (map small v) ≡ digest h v
 unfolding digest
 digest-small h [] = refl
 digest-small h (b ∷ bs) =
-    ap (λ (x : ℕ). digest ((h % 4294967296 * 16777619 + x)) (map small bs)) (small-twice b) ∙ digest-small ((h % 4294967296 * 16777619 + small b)) bs
+    ap (λ (x : ℕ). digest (stirred (h % 4294967296 * 16777619 + x)) (map small bs)) (small-twice b) ∙ digest-small (stirred (h % 4294967296 * 16777619 + small b)) bs
 
 digest-normal : (h s : ℕ) (v : Bytes) → digest h (normal s v) ≡ digest h v
 unfolding normal
@@ -63,10 +63,10 @@ digest-same h s u v e = sym (digest-normal h s u) ∙ ap (digest h) (identical-e
 -- ---- the loop: the bytes before `i` are in `h`
 
 module _ (v : Bytes) (i h : ℕ) where
-  pub digest-on : i < length v → digest h (drop i v) ≡ digest ((h % 4294967296 * 16777619 + small (getD v i 0))) (drop (i + 1) v)
+  pub digest-on : i < length v → digest h (drop i v) ≡ digest (stirred (h % 4294967296 * 16777619 + small (getD v i 0))) (drop (i + 1) v)
   unfolding digest
   digest-on l = rw (add-one, drop-cons v i 0)
 
-  pub digest-end : length v ≤ i → digest h (drop i v) ≡ stirred (h % 4294967296) % 4294967296
+  pub digest-end : length v ≤ i → digest h (drop i v) ≡ h % 4294967296
   unfolding digest
   digest-end l = rw drop-of-length-le

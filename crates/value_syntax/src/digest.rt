@@ -10,9 +10,9 @@ pub fn digest(seed: u64, v: &[u8]) -> u64
     let mut h = seed;
     let mut i: usize = 0;
     while i < v.len() {
-        h = h % 4294967296 * 16777619 + small(v[i]) as u64;
+        let x = h % 4294967296 * 16777619 + small(v[i]) as u64;
+        h = x + x / 1048576;
         i += 1;
     }
-    let sum = h % 4294967296;
-    (sum + sum / 65536) % 4294967296
+    h % 4294967296
 }

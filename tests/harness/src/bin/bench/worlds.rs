@@ -151,7 +151,7 @@ fn crowded(number: u32) -> Vec<u8> {
 }
 
 /// Fifty octets, others for each number below 1,024, all with one digest: ten times a choice between
-/// two blocks that lead from one sum to the next.
+/// two blocks that lead from one digest to the next.
 fn twin(number: u32) -> Vec<u8> {
     static PAIRS: OnceLock<Vec<[[u8; 5]; 2]>> = OnceLock::new();
     let pairs = PAIRS.get_or_init(|| {
@@ -159,7 +159,7 @@ fn twin(number: u32) -> Vec<u8> {
         let mut pairs = Vec::new();
         while pairs.len() < 10 {
             let pair = colliding_blocks(sum);
-            sum = mixed(sum, &pair[0]);
+            sum = digest_from(sum, &pair[0]);
             pairs.push(pair);
         }
         pairs
@@ -171,13 +171,13 @@ fn twin(number: u32) -> Vec<u8> {
         .collect()
 }
 
-/// Two blocks of five octets that lead from `sum` to one sum.
+/// Two blocks of five octets that lead from `sum` to one digest.
 fn colliding_blocks(sum: u64) -> [[u8; 5]; 2] {
     let mut random = Random::new(sum);
     let mut met = HashMap::new();
     loop {
         let block = [0; 5].map(|_| 128 + random.below(128) as u8);
-        match met.insert(mixed(sum, &block), block) {
+        match met.insert(digest_from(sum, &block), block) {
             Some(other) if other != block => return [other, block],
             _ => {}
         }
@@ -186,18 +186,19 @@ fn colliding_blocks(sum: u64) -> [[u8; 5]; 2] {
 
 /// The library's digest (crate `value_syntax`) of a value of the type KEY that the first entry holds.
 fn digest(value: &[u8]) -> u64 {
-    let sum = mixed(seed(), value);
-    (sum + sum / (1 << 16)) % (1 << 32)
+    digest_from(seed(), value)
 }
 
 fn seed() -> u64 {
     258 * 64 + u64::from(KEY) - 1
 }
 
-/// The bytes mixed into a sum, one after the other.
-fn mixed(sum: u64, value: &[u8]) -> u64 {
-    let step = |sum: u64, byte: &u8| sum % (1 << 32) * 16_777_619 + u64::from(byte.to_ascii_lowercase());
-    value.iter().fold(sum, step) % (1 << 32)
+fn digest_from(sum: u64, value: &[u8]) -> u64 {
+    let mixed = value.iter().fold(sum, |sum, byte| {
+        let product = sum % (1 << 32) * 16_777_619 + u64::from(byte.to_ascii_lowercase());
+        product + product / (1 << 20)
+    });
+    mixed % (1 << 32)
 }
 
 /// Everything open, and items from the hotel down for those at or below it.
