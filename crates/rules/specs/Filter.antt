@@ -1,4 +1,4 @@
--- Document 01, "Filter", and RFC 4511, 4.5.1.7: filters and their three truth values. Items are judged in `Answer`.
+-- Document 01, "Filter", and RFC 4511, 4.5.1.7: filters and their three truth values. Items are judged in `FilterItem`.
 use Prim.Native.Nat.{ℕ}
 use mathlib.Core.Bool.{Bool, true, false, not, cond}
 use mathlib.Core.List.{List, [], _∷_}

@@ -41,6 +41,7 @@ capped most (compare t v) = compare t v
 capped most (list limit) = list (tighter most limit)
 capped most (search s) = search (record { limit = tighter most (s .limit); selection = s .selection; subset = s .subset; filter = s .filter })
 
+-- the request as it is asked for a program of these limits; document 01 names none, so that for the exchange it is the request itself (`within-exchange`)
 unfoldable pub within : Limits → Request → Request
 within k r = record { requester = r .requester; base = r .base; operation = capped (k .entries) (r .operation) }
 
