@@ -3,13 +3,13 @@ use access_items::mark::mark;
 ghost use mathlib.Core.Path.{_≡_};
 ghost use Prim.Native.Nat.{ℕ, _≤_, _<_};
 ghost use lib.ListN.{length, getD};
-ghost use Rattle.access_covers.specs.Enter.{reachAt, aloneBy, ownBy, Clear, Entered, Owned};
+ghost use Rattle.access_covers.specs.Enter.{aloneEntered, downEntered, allEntered};
 
 // The item at place `p`, whose reach is `r`: with its entry alone, or with all below it. With the root alone nothing is reached.
 fn enter(alone: &mut [u64], down: &mut [u64], r: usize, p: usize)
     requires { ⌜ (1028 ≤ length (now alone)) × (1028 ≤ length (now down)) × (p < 256) ⌝ }
-    ensures { λ _. ⌜ Entered p (aloneBy r) (now (alone .entry)) (now (alone .exit)) ⌝ }
-    ensures { λ _. ⌜ Entered p (ownBy r) (now (down .entry)) (now (down .exit)) ⌝ }
+    ensures { λ _. ⌜ now (alone .exit) ≡ aloneEntered r p (now (alone .entry)) ⌝ }
+    ensures { λ _. ⌜ now (down .exit) ≡ downEntered r p (now (down .entry)) ⌝ }
 {
     if r < 2 {
         return;
@@ -26,9 +26,9 @@ fn enter(alone: &mut [u64], down: &mut [u64], r: usize, p: usize)
 
 // All items, by their places in the order.
 pub fn enter_all(reach: &[usize], order: &[usize], alone: &mut [u64], down: &mut [u64])
-    requires { ⌜ (length (now order) ≤ 256) × (1028 ≤ length (now alone)) × (1028 ≤ length (now down)) × Clear (now alone) × Clear (now down) × ((p : ℕ) → p < length (now order) → getD (now order) p 0 < length (now reach)) ⌝ }
-    ensures { λ _. ⌜ Owned (length (now (order .entry))) (reachAt (now (reach .entry)) (now (order .entry))) (now (alone .exit)) (now (down .exit)) ⌝ }
-    ensures { λ _. ⌜ ((i : ℕ) → 1028 ≤ i → getD (now (alone .exit)) i 0 ≡ getD (now (alone .entry)) i 0) ⌝ }
+    requires { ⌜ (length (now order) ≤ 256) × (1028 ≤ length (now alone)) × (1028 ≤ length (now down)) × ((p : ℕ) → p < length (now order) → getD (now order) p 0 < length (now reach)) ⌝ }
+    ensures { λ _. ⌜ now (alone .exit) ≡ allEntered aloneEntered (now (reach .entry)) (now (order .entry)) (length (now (order .entry))) (now (alone .entry)) ⌝ }
+    ensures { λ _. ⌜ now (down .exit) ≡ allEntered downEntered (now (reach .entry)) (now (order .entry)) (length (now (order .entry))) (now (down .entry)) ⌝ }
 {
     let mut p: usize = 0;
     while p < order.len() {

@@ -1,4 +1,5 @@
 pub mod Mark
 pub mod Note
+pub mod Rank
 pub mod Sorted
 pub mod Laws

@@ -7,7 +7,7 @@ use lib.Dec.{ltb}
 use lib.ListN.{length, getD, set}
 use Rattle.name.specs.Schema.{rankIn}
 use Rattle.permission_sheet.specs.Noted.{DIGEST, GRANTS, WHAT, TYPE, PERMISSIONS, VALUE, LENGTH, RIGHTS}
-use Rattle.tables.specs.Sets.{slotOf}
+use Rattle.tables.specs.Sets.{firstSlot, secondSlot}
 use Rattle.access_items.specs.Mark.{marked}
 
 -- the row is there, and its numbers are those of an accepted item
@@ -16,6 +16,10 @@ pub record Small (rights : List ℕ) (at : ℕ) : Type 0 where
   pub digest : getD rights (at + DIGEST) 0 < 4294967296
   pub grants : getD rights (at + GRANTS) 0 < 2
   pub what : getD rights (at + WHAT) 0 < 6
+
+-- so are the rows of all items of an order
+abbrev pub Rows : List ℕ → List ℕ → Type 0
+Rows rights order = (j : ℕ) → j < length order → Small rights (getD order j 0 * RIGHTS)
 
 -- the first `n` permissions of a mask
 unfoldable pub permitted : ℕ → ℕ → ℕ → List ℕ → List ℕ
@@ -26,9 +30,11 @@ permitted (suc b) mask j t = marked (permitted b mask j t) (258 + b) j (mask / 2
 unfoldable pub grantsNoted : List ℕ → ℕ → ℕ → List ℕ → List ℕ
 grantsNoted rights at j t = permitted 6 (getD rights (at + PERMISSIONS) 0) j (marked t 257 j (getD rights (at + GRANTS) 0))
 
--- what it is about: the kind, and the slot of its value's digest
+-- what it is about: the kind, and the slots of its value's digest
 unfoldable pub aboutNoted : List ℕ → ℕ → ℕ → List ℕ → List ℕ
-aboutNoted rights at j t = marked (marked t (264 + getD rights (at + WHAT) 0) j 1) (334 + slotOf (getD rights (at + DIGEST) 0)) j 1
+aboutNoted rights at j t =
+    let d = getD rights (at + DIGEST) 0 in
+    marked (marked (marked t (264 + getD rights (at + WHAT) 0) j 1) (firstSlot d) j 1) (secondSlot d) j 1
 
 -- the type `a` that it names, if the schema has it
 unfoldable pub typeNoted : List ℕ → ℕ → ℕ → List ℕ → List ℕ

@@ -5,22 +5,20 @@ mod note;
 
 use permission_sheet::RIGHTS;
 use permission_sheet::SCORE;
+use tables::sets::SETS;
 ghost use mathlib.Core.Path.{_≡_};
-ghost use mathlib.Core.List.{List};
-ghost use Prim.Native.Nat.{ℕ, _+_, _*_, _≤_, _<_};
-ghost use lib.ListN.{length, getD, drop, replicate};
-ghost use Rattle.rules.specs.Sheet.{Bytes};
-ghost use Rattle.rules.specs.Permission.{Item};
-ghost use Rattle.rules.specs.Laws.First.{Ranked};
+ghost use mathlib.Core.List.{_++_};
+ghost use Prim.Native.Nat.{_*_, _≤_};
+ghost use lib.ListN.{length, take, drop};
 ghost use Rattle.directory_schema.specs.Schema.{Rising};
-ghost use Rattle.permission_sheet.specs.Noted.{Table};
-ghost use Rattle.tables.specs.Sets.{Items};
-ghost use Rattle.access_items.specs.Sorted.{Sorted};
+ghost use Rattle.tables.specs.Sets as Sets;
+ghost use Rattle.access_items.specs.Rank.{scoresOf, orderOf};
+ghost use Rattle.access_items.specs.Note.{Rows, itemsNoted};
 
-// The scores of the first items.
+// The scores of the first items, to the front of `keys`.
 fn scores(rights: &[u64], count: usize, keys: &mut [u64])
     requires { ⌜ (count ≤ length (now keys)) × (count * 8 ≤ length (now rights)) ⌝ }
-    ensures { λ _. ⌜ ((k : ℕ) → k < count → getD (now (keys .exit)) k 0 ≡ getD (now (rights .entry)) (k * 8 + 0) 0) ⌝ }
+    ensures { λ _. ⌜ take count (now (keys .exit)) ≡ scoresOf (now (rights .entry)) count ⌝ }
 {
     let mut k: usize = 0;
     while k < count {
@@ -30,28 +28,19 @@ fn scores(rights: &[u64], count: usize, keys: &mut [u64])
 }
 
 // The numbers of the items in order of weight, to the front of `order`.
-pub fn rank_items(rights: &[u64], count: usize, order: &mut [usize])
-    requires { ⌜ (length (now order) ≡ 256) × ((w : ℕ) × (p : Bytes) × (is : List Item) × (scopes : List ℕ) × Table w p is (now rights) scopes × (length is ≡ count)) ⌝ }
-    ensures { λ _. ⌜ ((w : ℕ) (p : Bytes) (is : List Item) (scopes : List ℕ) → Table w p is (now (rights .entry)) scopes → length is ≡ count → Ranked is (now (order .exit))) ⌝ }
-    ensures { λ _. ⌜ drop count (now (order .exit)) ≡ drop count (now (order .entry)) ⌝ }
+pub fn rank_items(rights: &[u64], count: usize, order: &mut [usize; 256])
+    requires { ⌜ (length (now order) ≡ 256) × (count ≤ 256) × (count * 8 ≤ length (now rights)) ⌝ }
+    ensures { λ _. ⌜ now (order .exit) ≡ orderOf (now (rights .entry)) count ++ drop count (now (order .entry)) ⌝ }
 {
     let mut keys: [u64; 256] = [0; 256];
     scores(rights, count, &mut keys);
-    let mut spare: [usize; 256] = [0; 256];
-    let mut rest: [usize; 256] = [0; 256];
-    access_order::sort(
-        &keys[0..count],
-        &mut order[0..count],
-        &mut spare[0..count],
-        &mut rest,
-    );
+    access_order::sort(&keys[0..count], order);
 }
 
-// The sets of the items, and the numbers of their values, into a cleared table. The sets of the entries stay empty.
-pub fn note_items(rights: &[u64], schema: &[u64], order: &[usize], sets: &mut [u64])
-    requires { ⌜ (now sets ≡ replicate 2360 0) × Rising 0 (now schema) × (length (now schema) ≤ 64) × ((w : ℕ) × (p : Bytes) × (is : List Item) × (scopes : List ℕ) × Sorted w p is (now rights) scopes (now order)) ⌝ }
-    ensures { λ _. ⌜ ((w : ℕ) (p : Bytes) (is : List Item) (scopes : List ℕ) → Sorted w p is (now (rights .entry)) scopes (now (order .entry)) → Items is (now (order .entry)) (now (schema .entry)) p (now (sets .exit))) ⌝ }
-    ensures { λ _. ⌜ ((i : ℕ) → i < 1028 → getD (now (sets .exit)) i 0 ≡ 0) ⌝ }
+// The sets of the items, and the numbers of their values, into the table.
+pub fn note_items(rights: &[u64], schema: &[u64], order: &[usize], sets: &mut [u64; SETS])
+    requires { ⌜ (length (now sets) ≡ Sets.SETS) × Rising 0 (now schema) × (length (now schema) ≤ 64) × (length (now order) ≤ 256) × Rows (now rights) (now order) ⌝ }
+    ensures { λ _. ⌜ now (sets .exit) ≡ itemsNoted (now (rights .entry)) (now (schema .entry)) (now (order .entry)) (length (now (order .entry))) (now (sets .entry)) ⌝ }
 {
     let mut j: usize = 0;
     while j < order.len() {

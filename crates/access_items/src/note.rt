@@ -4,11 +4,12 @@ ghost use mathlib.Core.Path.{_≡_};
 ghost use Prim.Native.Nat.{_≤_, _<_};
 ghost use lib.ListN.{length};
 ghost use Rattle.directory_schema.specs.Schema.{Rising};
+ghost use Rattle.tables.specs.Sets.{SETS};
 ghost use Rattle.access_items.specs.Note.{Small, permitted, grantsNoted, aboutNoted, typeNoted, valueNoted, itemNoted};
 
 // The permissions of the item, each by its row.
 fn note_permissions(mask: u64, place: usize, sets: &mut [u64])
-    requires { ⌜ (length (now sets) ≡ 2360) × (place < 256) ⌝ }
+    requires { ⌜ (length (now sets) ≡ SETS) × (place < 256) ⌝ }
     ensures { λ _. ⌜ now (sets .exit) ≡ permitted 6 mask place (now (sets .entry)) ⌝ }
 {
     let mut b: usize = 0;
@@ -20,7 +21,7 @@ fn note_permissions(mask: u64, place: usize, sets: &mut [u64])
 
 // Whether it grants, and what.
 fn note_grants(rights: &[u64], at: usize, place: usize, sets: &mut [u64])
-    requires { ⌜ (length (now sets) ≡ 2360) × (place < 256) × Small (now rights) at ⌝ }
+    requires { ⌜ (length (now sets) ≡ SETS) × (place < 256) × Small (now rights) at ⌝ }
     ensures { λ _. ⌜ now (sets .exit) ≡ grantsNoted (now (rights .entry)) at place (now (sets .entry)) ⌝ }
 {
     mark(
@@ -32,25 +33,21 @@ fn note_grants(rights: &[u64], at: usize, place: usize, sets: &mut [u64])
     note_permissions(rights[at + permission_sheet::PERMISSIONS], place, sets);
 }
 
-// What it is about: the kind, and the slot of the value's digest.
+// What it is about: the kind, and the slots of the value's digest.
 fn note_about(rights: &[u64], at: usize, place: usize, sets: &mut [u64])
-    requires { ⌜ (length (now sets) ≡ 2360) × (place < 256) × Small (now rights) at ⌝ }
+    requires { ⌜ (length (now sets) ≡ SETS) × (place < 256) × Small (now rights) at ⌝ }
     ensures { λ _. ⌜ now (sets .exit) ≡ aboutNoted (now (rights .entry)) at place (now (sets .entry)) ⌝ }
 {
     let what = rights[at + permission_sheet::WHAT] as usize;
     let digest = rights[at + permission_sheet::DIGEST];
     mark(sets, tables::sets::WHAT + what, place, 1);
-    mark(
-        sets,
-        tables::sets::SLOT + tables::sets::slot(digest),
-        place,
-        1,
-    );
+    mark(sets, tables::sets::first_slot(digest), place, 1);
+    mark(sets, tables::sets::second_slot(digest), place, 1);
 }
 
 // The type that it names, if the schema has it. An item about the entry or all types names type 0, which is not looked up.
 fn note_type(schema: &[u64], t: u64, place: usize, sets: &mut [u64])
-    requires { ⌜ (length (now sets) ≡ 2360) × (place < 256) × Rising 0 (now schema) × (length (now schema) ≤ 64) ⌝ }
+    requires { ⌜ (length (now sets) ≡ SETS) × (place < 256) × Rising 0 (now schema) × (length (now schema) ≤ 64) ⌝ }
     ensures { λ _. ⌜ now (sets .exit) ≡ typeNoted (now (schema .entry)) t place (now (sets .entry)) ⌝ }
 {
     if t != 0 {
@@ -63,7 +60,7 @@ fn note_type(schema: &[u64], t: u64, place: usize, sets: &mut [u64])
 
 // The digest, the place and the length of its value.
 fn note_value(rights: &[u64], at: usize, place: usize, sets: &mut [u64])
-    requires { ⌜ (length (now sets) ≡ 2360) × (place < 256) × Small (now rights) at ⌝ }
+    requires { ⌜ (length (now sets) ≡ SETS) × (place < 256) × Small (now rights) at ⌝ }
     ensures { λ _. ⌜ now (sets .exit) ≡ valueNoted (now (rights .entry)) at place (now (sets .entry)) ⌝ }
 {
     sets[tables::sets::DIGEST + place] = rights[at + permission_sheet::DIGEST];
@@ -73,7 +70,7 @@ fn note_value(rights: &[u64], at: usize, place: usize, sets: &mut [u64])
 
 // The item whose row of rights begins at `at`, at its place in the order.
 pub fn note_item(rights: &[u64], at: usize, schema: &[u64], place: usize, sets: &mut [u64])
-    requires { ⌜ (length (now sets) ≡ 2360) × (place < 256) × Rising 0 (now schema) × (length (now schema) ≤ 64) × Small (now rights) at ⌝ }
+    requires { ⌜ (length (now sets) ≡ SETS) × (place < 256) × Rising 0 (now schema) × (length (now schema) ≤ 64) × Small (now rights) at ⌝ }
     ensures { λ _. ⌜ now (sets .exit) ≡ itemNoted (now (rights .entry)) at (now (schema .entry)) place (now (sets .entry)) ⌝ }
 {
     note_grants(rights, at, place, sets);

@@ -7,7 +7,7 @@ use lib.ListN.{length, getD, take, drop}
 use Rattle.rules.specs.Sheet.{Bytes}
 use Rattle.value_syntax.specs.Digest.{digest}
 use Rattle.name.specs.Schema.{equalBy}
-use Rattle.tables.specs.Sets.{inRow, slotOf}
+use Rattle.tables.specs.Sets.{inRow, firstSlot, secondSlot}
 
 -- the items' values are parts of the permission sheet
 abbrev pub Within : List ℕ → Bytes → Type 0
@@ -21,6 +21,7 @@ valueAt sets p j = take (getD sets (2104 + j) 0) (drop (getD sets (1848 + j) 0) 
 unfoldable pub agreesAt : List ℕ → Bytes → ℕ → ℕ → Bytes → ℕ → Bool
 agreesAt sets p syntax h v j = eqb (getD sets (1592 + j) 0) h && equalBy syntax (valueAt sets p j) v
 
--- the same, by the slot of the digest first
+-- the same, by the slots of the digest first
 unfoldable pub sameAt : List ℕ → Bytes → ℕ → Bytes → ℕ → Bool
-sameAt sets p syntax v j = inRow sets (334 + slotOf (digest 0 v)) j && agreesAt sets p syntax (digest 0 v) v j
+sameAt sets p syntax v j =
+    (inRow sets (firstSlot (digest 0 v)) j && inRow sets (secondSlot (digest 0 v)) j) && agreesAt sets p syntax (digest 0 v) v j

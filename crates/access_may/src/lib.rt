@@ -4,10 +4,13 @@ mod single;
 
 use access_set::Bits;
 use rules::Found;
+use rules::what;
 use single::decided_value;
+use tables::book::BOOK;
 use tables::book::SCHEMA;
 use tables::sets::GRANTS;
 use tables::sets::PERMISSION;
+use tables::sets::SETS;
 use tables::sets::TYPE;
 use tables::sets::WHAT;
 use tables::sets::row;
@@ -27,20 +30,20 @@ ghost use Rattle.tables.specs.World.{World, Known};
 ghost use Rattle.access_may.specs.Decided.{Decided};
 
 // Rows by what an item is about.
-const THE_ENTRY: usize = WHAT;
+const ENTRY: usize = WHAT + what::ENTRY as usize;
 
-const ALL_TYPES: usize = WHAT + 1;
+const ALL_TYPES: usize = WHAT + what::ALL_TYPES as usize;
 
-const ALL_VALUES: usize = WHAT + 2;
+const ALL_TYPES_AND_VALUES: usize = WHAT + what::ALL_TYPES_AND_VALUES as usize;
 
-const ONE_TYPE: usize = WHAT + 3;
+const ONE_TYPE: usize = WHAT + what::ONE_TYPE as usize;
 
-const VALUES_OF_TYPE: usize = WHAT + 4;
+const VALUES_OF_TYPE: usize = WHAT + what::VALUES_OF_TYPE as usize;
 
-const ONE_VALUE: usize = WHAT + 5;
+const ONE_VALUE: usize = WHAT + what::ONE_VALUE as usize;
 
 // The items that cover entry `e`, fit the requester and name the permission.
-fn naming(sets: &[u64; 2360], e: usize, q: usize) -> Bits
+fn naming(sets: &[u64; SETS], e: usize, q: usize) -> Bits
     requires { ⌜ (e ≤ 256) × (q < 6) ⌝ }
     ensures { λ r. ⌜ ((j : ℕ) → member r j ≡ (inRow (now (sets .entry)) e j && inRow (now (sets .entry)) (258 + q) j)) ⌝ }
 {
@@ -48,7 +51,7 @@ fn naming(sets: &[u64; 2360], e: usize, q: usize) -> Bits
 }
 
 // Does the first of the items asked grant? Refused where there is none.
-fn decided(sets: &[u64; 2360], asked: Bits) -> bool
+fn decided(sets: &[u64; SETS], asked: Bits) -> bool
     ensures { λ r. ⌜ Decided (now (sets .entry)) (member asked) r ⌝ }
 {
     let Found::At(i) = asked.first() else {
@@ -58,24 +61,24 @@ fn decided(sets: &[u64; 2360], asked: Bits) -> bool
 }
 
 // Is the permission granted on entry number `e`?
-pub fn may_entry(sets: &[u64; 2360], e: usize, q: usize) -> bool
+pub fn may_entry(sets: &[u64; SETS], e: usize, q: usize) -> bool
     requires { ⌜ (e ≤ 256) × (q < 6) × ((d p : Bytes) × (book held : List ℕ) × Known d p book held (now sets)) ⌝ }
     ensures { λ r. ⌜ ((σ : Setting) (es : List Stored) (d p : Bytes) (book held : List ℕ) → World σ es d p book held (now (sets .entry)) → e ≤ length es → r ≡ grantedAt σ es e entry (2 ^ q)) ⌝ }
 {
-    decided(sets, naming(sets, e, q).and(row(sets, THE_ENTRY)))
+    decided(sets, naming(sets, e, q).and(row(sets, ENTRY)))
 }
 
 // The items about types that are about the type of this rank.
-fn about_type(sets: &[u64; 2360], rank: usize) -> Bits
+fn about_type(sets: &[u64; SETS], rank: usize) -> Bits
     requires { ⌜ rank < 64 ⌝ }
     ensures { λ r. ⌜ ((j : ℕ) → member r j ≡ (inRow (now (sets .entry)) 265 j || (inRow (now (sets .entry)) 266 j || inRow (now (sets .entry)) 267 j && inRow (now (sets .entry)) (270 + rank) j))) ⌝ }
 {
     let one = row(sets, ONE_TYPE).and(row(sets, TYPE + rank));
-    row(sets, ALL_TYPES).or(row(sets, ALL_VALUES).or(one))
+    row(sets, ALL_TYPES).or(row(sets, ALL_TYPES_AND_VALUES).or(one))
 }
 
 // Is the permission granted on the type of this rank in entry number `e`, held or not?
-pub fn may_type(sets: &[u64; 2360], e: usize, rank: usize, q: usize) -> bool
+pub fn may_type(sets: &[u64; SETS], e: usize, rank: usize, q: usize) -> bool
     requires { ⌜ (e ≤ 256) × (rank < 64) × (q < 6) × ((d p : Bytes) × (book held : List ℕ) × Known d p book held (now sets)) ⌝ }
     ensures { λ r. ⌜ ((σ : Setting) (es : List Stored) (d p : Bytes) (book held : List ℕ) → World σ es d p book held (now (sets .entry)) → e ≤ length es → rank < length (schema book) → r ≡ grantedAt σ es e (ofType (typeAt (schema book) rank)) (2 ^ q)) ⌝ }
 {
@@ -83,16 +86,16 @@ pub fn may_type(sets: &[u64; 2360], e: usize, rank: usize, q: usize) -> bool
 }
 
 // Of the items asked, those about all values, or all values of the type of this rank.
-fn about_all(sets: &[u64; 2360], asked: Bits, rank: usize) -> Bits
+fn about_all(sets: &[u64; SETS], asked: Bits, rank: usize) -> Bits
     requires { ⌜ rank < 64 ⌝ }
     ensures { λ r. ⌜ ((j : ℕ) → member r j ≡ (member asked j && (inRow (now (sets .entry)) 266 j || inRow (now (sets .entry)) (270 + rank) j && inRow (now (sets .entry)) 268 j))) ⌝ }
 {
     let typed = row(sets, TYPE + rank).and(row(sets, VALUES_OF_TYPE));
-    asked.and(row(sets, ALL_VALUES).or(typed))
+    asked.and(row(sets, ALL_TYPES_AND_VALUES).or(typed))
 }
 
 // Of the items asked, those about one value of the type of this rank.
-fn about_one(sets: &[u64; 2360], asked: Bits, rank: usize) -> Bits
+fn about_one(sets: &[u64; SETS], asked: Bits, rank: usize) -> Bits
     requires { ⌜ rank < 64 ⌝ }
     ensures { λ r. ⌜ ((j : ℕ) → member r j ≡ (member asked j && (inRow (now (sets .entry)) (270 + rank) j && inRow (now (sets .entry)) 269 j))) ⌝ }
 {
@@ -101,8 +104,8 @@ fn about_one(sets: &[u64; 2360], asked: Bits, rank: usize) -> Bits
 
 // Is the permission granted on the value `v` of the type of this rank in entry number `e`?
 pub fn may_value(
-    book: &[u64; 1353],
-    sets: &[u64; 2360],
+    book: &[u64; BOOK],
+    sets: &[u64; SETS],
     p: &[u8],
     e: usize,
     rank: usize,

@@ -6,9 +6,10 @@ use tables::sets::DIGEST;
 use tables::sets::GRANTS;
 use tables::sets::LENGTH;
 use tables::sets::PLACE;
-use tables::sets::SLOT;
+use tables::sets::SETS;
+use tables::sets::first_slot;
 use tables::sets::row;
-use tables::sets::slot;
+use tables::sets::second_slot;
 use value_syntax::digest::digest;
 ghost use mathlib.Core.Path.{_≡_};
 ghost use mathlib.Core.Bool.{_&&_, _||_};
@@ -18,7 +19,7 @@ ghost use Rattle.access_may.specs.Decided.{Decided, First};
 ghost use Rattle.access_may.specs.Single.{Within, agreesAt, sameAt};
 
 // Is the value of the item at place `i` the value `v`, by digest and bytes?
-fn agrees(sets: &[u64; 2360], p: &[u8], syntax: u64, digest: u64, v: &[u8], i: usize) -> bool
+fn agrees(sets: &[u64; SETS], p: &[u8], syntax: u64, digest: u64, v: &[u8], i: usize) -> bool
     requires { ⌜ (i < 256) × Within (now sets) (now p) ⌝ }
     ensures { λ r. ⌜ r ≡ agreesAt (now (sets .entry)) (now (p .entry)) syntax digest (now (v .entry)) i ⌝ }
 {
@@ -42,7 +43,7 @@ fn place(s: Bits) -> usize
 
 // The first place before `end` of an item of `single` about this value; `end` where there is none.
 fn first_same(
-    sets: &[u64; 2360],
+    sets: &[u64; SETS],
     p: &[u8],
     single: Bits,
     end: usize,
@@ -67,7 +68,7 @@ fn first_same(
 
 // Does the first grant of those about all values and those of `single` about this one? Refused where there is none.
 pub(crate) fn decided_value(
-    sets: &[u64; 2360],
+    sets: &[u64; SETS],
     p: &[u8],
     all: Bits,
     single: Bits,
@@ -82,7 +83,9 @@ pub(crate) fn decided_value(
         return row(sets, GRANTS).has(end);
     }
     let h = digest(0, v);
-    let slotted = single.and(row(sets, SLOT + slot(h)));
-    let i = first_same(sets, p, slotted, end, syntax, h, v);
+    let near = single
+        .and(row(sets, first_slot(h)))
+        .and(row(sets, second_slot(h)));
+    let i = first_same(sets, p, near, end, syntax, h, v);
     row(sets, GRANTS).has(i)
 }

@@ -1,8 +1,8 @@
 -- The reach of an item for a requester, from its rows of numbers and from names where they stand.
-use Prim.Native.Nat.{ℕ, _+_, _*_}
+use Prim.Native.Nat.{ℕ, zero, suc, _+_, _*_}
 use mathlib.Core.Path.{_≡_}
 use mathlib.Core.Bool.{Bool, true, _&&_, cond}
-use mathlib.Core.List.{List}
+use mathlib.Core.List.{List, [], _∷_, _++_}
 use lib.Dec.{eqb, leb}
 use lib.ListN.{length, getD}
 use Rattle.rules.specs.Sheet.{Bytes}
@@ -10,7 +10,7 @@ use Rattle.rules.specs.Name.{Schema, covers}
 use Rattle.rules.specs.Directory.{Stored}
 use Rattle.rules.specs.Decision.{Setting}
 use Rattle.rules.specs.Places.{linesAt, partsOf}
-use Rattle.rules.specs.Numbers.{walk, baseReach, ownReach}
+use Rattle.rules.specs.Numbers.{walk, numberOr0, baseReach, ownReach}
 use Rattle.access_scope.specs.declared.Requester.{Requester}
 use Rattle.access_scope.specs.declared.Scope.{Scope}
 use Rattle.rules.specs.declared.Found.{Found}
@@ -65,3 +65,13 @@ spreadFrom es who below o Nothing = 0
 -- the reach of the item with this scope
 unfoldable pub itemBy : Schema → List Stored → ℕ → Bytes → Scope → Bytes → Requester → ℕ → ℕ
 itemBy S es w p x q who o = cond (askedBy S w p x q who) (spreadFrom es (x .who) (x .below) o (walk S es 0 (partsOf (x .«base_parts») (linesAt w p (x .base))))) 0
+
+-- the number of the entry that the requester's name names, 0 where there is none
+abbrev pub ownNumber : Schema → List Stored → ℕ → Bytes → Requester → ℕ
+ownNumber S es w q who = numberOr0 (walk S es 0 (partsOf (who .parts) (linesAt w q (who .place))))
+
+-- the reaches of the first `n` items
+unfoldable pub reachesBy : Schema → List Stored → ℕ → Bytes → List ℕ → List ℕ → Bytes → Requester → ℕ → List ℕ
+reachesBy S es w p rights scopes q who zero = []
+reachesBy S es w p rights scopes q who (suc n) =
+    reachesBy S es w p rights scopes q who n ++ (itemBy S es w p (scopeAt rights scopes n) q who (ownNumber S es w q who) ∷ [])

@@ -2,6 +2,10 @@
 use super::Requester;
 use super::Scope;
 use directory_lookup::names::covers;
+use rules::who::ALL_USERS;
+use rules::who::AT_OR_BELOW;
+use rules::who::ENTRY_ITSELF;
+use tables::book::BOOK;
 ghost use mathlib.Core.Path.{_≡_};
 ghost use Rattle.rules.specs.Name as Name;
 ghost use Rattle.rules.specs.Places.{schemaOf, linesAt, partsOf};
@@ -19,17 +23,17 @@ fn level_fits(grants: u64, need: u64, level: u64) -> bool
 }
 
 // Do the users that the item is for include the requester? "The entry itself" is left to the base.
-fn who_fits(book: &[u64; 1353], p: &[u8], x: Scope, q: &[u8], who: Requester) -> bool
+fn who_fits(book: &[u64; BOOK], p: &[u8], x: Scope, q: &[u8], who: Requester) -> bool
     requires { ⌜ Fits (now book) ⌝ }
     ensures { λ r. ⌜ r ≡ whoBy (x .who) (Name.covers (schemaOf (schema (now (book .entry)))) (partsOf (x .«user_parts») (linesAt (width (now (book .entry))) (now (p .entry)) (x .user))) (partsOf (who .parts) (linesAt (width (now (book .entry))) (now (q .entry)) (who .place)))) (x .«user_parts») (who .parts) ⌝ }
 {
-    if x.who == 0 {
+    if x.who == ALL_USERS {
         return true;
     }
-    if x.who == 2 {
+    if x.who == ENTRY_ITSELF {
         return true;
     }
-    if x.who != 1 {
+    if x.who != AT_OR_BELOW {
         if x.user_parts != who.parts {
             return false;
         }
@@ -38,7 +42,7 @@ fn who_fits(book: &[u64; 1353], p: &[u8], x: Scope, q: &[u8], who: Requester) ->
 }
 
 // Is the item for the requester?
-pub(crate) fn asked(book: &[u64; 1353], p: &[u8], x: Scope, q: &[u8], who: Requester) -> bool
+pub(crate) fn asked(book: &[u64; BOOK], p: &[u8], x: Scope, q: &[u8], who: Requester) -> bool
     requires { ⌜ Fits (now book) ⌝ }
     ensures { λ r. ⌜ r ≡ askedBy (schemaOf (schema (now (book .entry)))) (width (now (book .entry))) (now (p .entry)) x (now (q .entry)) who ⌝ }
 {

@@ -15,20 +15,21 @@ use permission_sheet::USER;
 use permission_sheet::USER_PARTS;
 use permission_sheet::WHO;
 use rules::Found;
+use rules::who::ENTRY_ITSELF;
+use tables::book::BOOK;
 ghost use mathlib.Core.Path.{_≡_};
 ghost use Prim.Native.Nat.{ℕ, _+_, _*_, _≤_};
-ghost use mathlib.Core.List.{List, map};
+ghost use mathlib.Core.List.{List};
 ghost use lib.Dec.{eqb};
 ghost use lib.ListN.{length};
 ghost use Rattle.rules.specs.Sheet.{Bytes};
 ghost use Rattle.rules.specs.Directory.{Stored};
 ghost use Rattle.rules.specs.Decision.{Setting};
 ghost use Rattle.rules.specs.Places.{linesAt, partsOf};
-ghost use Rattle.rules.specs.Numbers.{walk, numberOr0, baseReach, ownReach, reachOf};
-ghost use Rattle.permission_sheet.specs.Noted.{Table};
+ghost use Rattle.rules.specs.Numbers.{walk, baseReach, ownReach};
 ghost use Rattle.tables.specs.Book.{entries, width};
 ghost use Rattle.tables.specs.World.{Entries, Listed};
-ghost use Rattle.access_scope.specs.Scopes.{Asker, scopeAt, spreadBy, spreadFrom, itemBy};
+ghost use Rattle.access_scope.specs.Scopes.{scopeAt, spreadBy, spreadFrom, itemBy, ownNumber, reachesBy};
 
 // The requester: the level, and the name, the `parts` K 9 lines at position `place` of the request.
 pub struct Requester {
@@ -83,7 +84,7 @@ fn base_reach(below: u64, b: usize) -> usize
 }
 
 // The requester's own entry `o`, if the base `b` has it in it.
-fn own_reach(book: &[u64; 1353], below: u64, b: usize, o: usize) -> usize
+fn own_reach(book: &[u64; BOOK], below: u64, b: usize, o: usize) -> usize
     requires { ⌜ ((d : Bytes) × Listed d (now book)) × (o ≤ entries (now book)) ⌝ }
     ensures { λ r. ⌜ ((σ : Setting) (es : List Stored) (d : Bytes) (held : List ℕ) → Entries σ es d (now (book .entry)) held → r ≡ ownReach es (eqb below 1) b o) ⌝ }
 {
@@ -103,18 +104,18 @@ fn own_reach(book: &[u64; 1353], below: u64, b: usize, o: usize) -> usize
 }
 
 // The reach of an item with the base `b`, by what it says of users.
-fn spread(book: &[u64; 1353], who: u64, below: u64, b: usize, o: usize) -> usize
+fn spread(book: &[u64; BOOK], who: u64, below: u64, b: usize, o: usize) -> usize
     requires { ⌜ ((d : Bytes) × Listed d (now book)) × (b ≤ 256) × (o ≤ entries (now book)) ⌝ }
     ensures { λ r. ⌜ ((σ : Setting) (es : List Stored) (d : Bytes) (held : List ℕ) → Entries σ es d (now (book .entry)) held → r ≡ spreadBy es who below b o) ⌝ }
 {
-    if who != 2 {
+    if who != ENTRY_ITSELF {
         return base_reach(below, b);
     }
     own_reach(book, below, b, o)
 }
 
 // The reach of an item that is for the requester: its base resolved.
-fn reach_base(book: &[u64; 1353], d: &[u8], p: &[u8], x: Scope, o: usize) -> usize
+fn reach_base(book: &[u64; BOOK], d: &[u8], p: &[u8], x: Scope, o: usize) -> usize
     requires { ⌜ Listed (now d) (now book) × (o ≤ entries (now book)) ⌝ }
     ensures { λ r. ⌜ ((σ : Setting) (es : List Stored) (held : List ℕ) → Entries σ es (now (d .entry)) (now (book .entry)) held → r ≡ spreadFrom es (x .who) (x .below) o (walk (σ .schema) es 0 (partsOf (x .«base_parts») (linesAt (width (now (book .entry))) (now (p .entry)) (x .base))))) ⌝ }
 {
@@ -126,7 +127,7 @@ fn reach_base(book: &[u64; 1353], d: &[u8], p: &[u8], x: Scope, o: usize) -> usi
 
 // The reach of an item; `o` is the requester's own number. An item that is not for the requester is not resolved.
 fn reach_item(
-    book: &[u64; 1353],
+    book: &[u64; BOOK],
     d: &[u8],
     p: &[u8],
     x: Scope,
@@ -144,9 +145,9 @@ fn reach_item(
 }
 
 // The number of the entry that the requester's name names, 0 where there is none.
-fn own_number(book: &[u64; 1353], d: &[u8], q: &[u8], who: Requester) -> usize
+fn own_number(book: &[u64; BOOK], d: &[u8], q: &[u8], who: Requester) -> usize
     requires { ⌜ Listed (now d) (now book) ⌝ }
-    ensures { λ r. ⌜ (r ≤ entries (now (book .entry))) × ((σ : Setting) (es : List Stored) (held : List ℕ) → Entries σ es (now (d .entry)) (now (book .entry)) held → r ≡ numberOr0 (walk (σ .schema) es 0 (partsOf (who .parts) (linesAt (width (now (book .entry))) (now (q .entry)) (who .place))))) ⌝ }
+    ensures { λ r. ⌜ (r ≤ entries (now (book .entry))) × ((σ : Setting) (es : List Stored) (held : List ℕ) → Entries σ es (now (d .entry)) (now (book .entry)) held → r ≡ ownNumber (σ .schema) es (width (now (book .entry))) (now (q .entry)) who) ⌝ }
 {
     match resolve(book, d, q, who.place, who.parts) {
         Found::At(b) => b,
@@ -156,7 +157,7 @@ fn own_number(book: &[u64; 1353], d: &[u8], q: &[u8], who: Requester) -> usize
 
 // The reach of every item for the requester, whose name stands on the sheet `q`.
 pub fn reach_all(
-    book: &[u64; 1353],
+    book: &[u64; BOOK],
     d: &[u8],
     p: &[u8],
     rights: &[u64],
@@ -166,7 +167,7 @@ pub fn reach_all(
     reach: &mut [usize],
 )
     requires { ⌜ Listed (now d) (now book) × (length (now reach) * 8 ≤ length (now rights)) × (length (now reach) * 7 ≤ length (now scopes)) ⌝ }
-    ensures { λ r. ⌜ ((σ : Setting) (es : List Stored) (held : List ℕ) → Entries σ es (now (d .entry)) (now (book .entry)) held → Asker σ (width (now (book .entry))) (now (q .entry)) who → Table (width (now (book .entry))) (now (p .entry)) (σ .items) (now (rights .entry)) (now (scopes .entry)) → length (σ .items) ≡ length (now (reach .entry)) → now (reach .exit) ≡ map (reachOf σ es) (σ .items)) ⌝ }
+    ensures { λ r. ⌜ ((σ : Setting) (es : List Stored) (held : List ℕ) → Entries σ es (now (d .entry)) (now (book .entry)) held → now (reach .exit) ≡ reachesBy (σ .schema) es (width (now (book .entry))) (now (p .entry)) (now (rights .entry)) (now (scopes .entry)) (now (q .entry)) who (length (now (reach .entry)))) ⌝ }
 {
     let o = own_number(book, d, q, who);
     let mut k: usize = 0;

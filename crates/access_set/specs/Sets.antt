@@ -8,7 +8,7 @@ use lib.Bits.{bitAnd, bitOr, bitXor}
 use borrow.Author.Tests.{eq-eqb, ne-eqb, eqb-true, eqb-false}
 use Rattle.access_set.specs.declared.Bits.{Bits}
 use Rattle.rules.specs.declared.Found.the-variants.{At, Nothing}
-use Rattle.access_set.specs.Member.{bit, Lowest, wordOf, member, Least}
+use Rattle.access_set.specs.Member.{bit, Lowest, wordOf, member, each, meet, join, Least}
 use Rattle.access_set.specs.Bit.{bit-and, bit-or, bit-xor, bit-none, bit-pow}
 
 pub member-empty : (j : ℕ) → member (record { a = 0; b = 0; c = 0; d = 0 }) j ≡ false
@@ -24,10 +24,7 @@ member-empty j = ap (λ (x : ℕ). bit x (j % 64)) (go (eqb (j / 64) 0) (eqb (j 
 
 -- an operation on each word
 module _ (f : ℕ → ℕ → ℕ) (z : f 0 0 ≡ 0) (s o : Bits) where
-  abbrev each : Bits
-  each = record { a = f (s .a) (o .a); b = f (s .b) (o .b); c = f (s .c) (o .c); d = f (s .d) (o .d) }
-
-  word-each : (k : ℕ) → wordOf each k ≡ f (wordOf s k) (wordOf o k)
+  word-each : (k : ℕ) → wordOf (each f s o) k ≡ f (wordOf s k) (wordOf o k)
   unfolding wordOf
   word-each k = go (eqb k 0) (eqb k 1) (eqb k 2) (eqb k 3)
     where
@@ -39,13 +36,13 @@ module _ (f : ℕ → ℕ → ℕ) (z : f 0 0 ≡ 0) (s o : Bits) where
       go false false false true = refl
       go false false false false = sym z
 
-pub member-and : (s o : Bits) (j : ℕ) → member (each bitAnd refl s o) j ≡ (member s j && member o j)
+pub member-meet : (s o r : Bits) → r ≡ meet s o → (j : ℕ) → member r j ≡ (member s j && member o j)
 unfolding member
-member-and s o j = ap (λ (x : ℕ). bit x (j % 64)) (word-each bitAnd refl s o (j / 64)) ∙ bit-and (wordOf s (j / 64)) (wordOf o (j / 64)) (j % 64)
+member-meet s o r e j = ap (λ (x : Bits). bit (wordOf x (j / 64)) (j % 64)) e ∙ ap (λ (x : ℕ). bit x (j % 64)) (word-each bitAnd refl s o (j / 64)) ∙ bit-and (wordOf s (j / 64)) (wordOf o (j / 64)) (j % 64)
 
-pub member-or : (s o : Bits) (j : ℕ) → member (each bitOr refl s o) j ≡ (member s j || member o j)
+pub member-join : (s o r : Bits) → r ≡ join s o → (j : ℕ) → member r j ≡ (member s j || member o j)
 unfolding member
-member-or s o j = ap (λ (x : ℕ). bit x (j % 64)) (word-each bitOr refl s o (j / 64)) ∙ bit-or (wordOf s (j / 64)) (wordOf o (j / 64)) (j % 64)
+member-join s o r e j = ap (λ (x : Bits). bit (wordOf x (j / 64)) (j % 64)) e ∙ ap (λ (x : ℕ). bit x (j % 64)) (word-each bitOr refl s o (j / 64)) ∙ bit-or (wordOf s (j / 64)) (wordOf o (j / 64)) (j % 64)
 
 -- one bit of one word is set
 pub member-with : (s r : Bits) (i : ℕ) → ((k : ℕ) → wordOf r k ≡ cond (eqb k (i / 64)) (bitOr (wordOf s k) (2 ^ (i % 64))) (wordOf s k))

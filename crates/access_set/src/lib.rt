@@ -4,7 +4,7 @@ ghost use mathlib.Core.Path.{_≡_};
 ghost use mathlib.Core.Bool.{true, false, not, _&&_, _||_};
 ghost use Prim.Native.Nat.{ℕ, _<_};
 ghost use lib.Dec.{eqb};
-ghost use Rattle.access_set.specs.Member.{Lowest, wordOf, member, Least};
+ghost use Rattle.access_set.specs.Member.{Lowest, wordOf, member, meet, join, Least};
 
 // Bit `i % 64` of word `i / 64`.
 pub struct Bits {
@@ -61,8 +61,9 @@ impl Bits {
         (w >> j) % 2 == 1
     }
 
+    // The numbers in both sets.
     pub fn and(self, o: Bits) -> Bits
-        ensures { λ r. ⌜ ((j : ℕ) → member r j ≡ (member self j && member o j)) ⌝ }
+        ensures { λ r. ⌜ r ≡ meet self o ⌝ }
     {
         Bits {
             a: self.a & o.a,
@@ -72,8 +73,9 @@ impl Bits {
         }
     }
 
+    // The numbers in either set.
     pub fn or(self, o: Bits) -> Bits
-        ensures { λ r. ⌜ ((j : ℕ) → member r j ≡ (member self j || member o j)) ⌝ }
+        ensures { λ r. ⌜ r ≡ join self o ⌝ }
     {
         Bits {
             a: self.a | o.a,

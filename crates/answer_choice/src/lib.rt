@@ -2,6 +2,7 @@
 use answer_plan::Choice;
 use request_sheet::Asked;
 use sheet_line::Taken;
+use tables::book::BOOK;
 use tables::book::WIDTH;
 ghost use mathlib.Core.Path.{_≡_};
 ghost use mathlib.Core.Bool.{_||_};
@@ -33,7 +34,7 @@ fn with_type(types: &[u64], ranks: u64, t: u64) -> u64
 }
 
 // The ranks of the types of the `n` K 13 lines at position `i` of the request.
-fn ranks_listed(book: &[u64; 1353], q: &[u8], i: usize, n: usize) -> u64
+fn ranks_listed(book: &[u64; BOOK], q: &[u8], i: usize, n: usize) -> u64
     requires { ⌜ Fits (now book) × Distinct (schema (now book)) ⌝ }
     ensures { λ r. ⌜ ((k : ℕ) → k < length (schema (now (book .entry))) → bit r k ≡ any (eqb (typeAt (schema (now (book .entry))) k)) (typesOf n (linesAt (width (now (book .entry))) (now (q .entry)) i))) ⌝ }
 {
@@ -61,7 +62,7 @@ fn ranks_listed(book: &[u64; 1353], q: &[u8], i: usize, n: usize) -> u64
 }
 
 // What the request selects.
-pub fn choice_of(book: &[u64; 1353], q: &[u8], asked: Asked) -> Choice
+pub fn choice_of(book: &[u64; BOOK], q: &[u8], asked: Asked) -> Choice
     requires { ⌜ Fits (now book) × Distinct (schema (now book)) ⌝ }
     ensures { λ r. ⌜ ((s : Selection) → Selects (width (now (book .entry))) (now (q .entry)) s asked → Chooses (schema (now (book .entry))) s r) ⌝ }
 {

@@ -9,14 +9,16 @@ use Rattle.rules.specs.Permission.{DiscloseOnError, Compare}
 use Rattle.rules.specs.Decision.{Setting, ofType, ofValue, granted}
 use Rattle.rules.specs.FilterItem.{holds}
 use Rattle.rules.specs.Answer.{bit}
+use Rattle.rules.specs.declared.Outcome.{Outcome}
+use Rattle.rules.specs.declared.Outcome.the-variants.{Result, InsufficientAccessRights, NoSuchAttributeOrValue, InvalidAttributeSyntax}
 use Rattle.answer_plan.specs.declared.Plan.{Plan}
 
--- "if Compare on the type is refused, 2 if the type is held and has DiscloseOnError, else 3; not held, 3; value outside the syntax, 4"; else 0
-unfoldable pub compareOutcome : Setting → ℕ → Bytes → Entry → ℕ
+-- "if Compare on the type is refused, 2 if the type is held and has DiscloseOnError, else 3; not held, 3; value outside the syntax, 4"; else a result
+unfoldable pub compareOutcome : Setting → ℕ → Bytes → Entry → Outcome
 compareOutcome σ t v e =
     cond (granted σ (e .name) (ofType t) Compare)
-    (cond (holds e t) (cond (allowed (σ .schema) t v) 0 4) 3)
-    (cond (holds e t && granted σ (e .name) (ofType t) DiscloseOnError) 2 3)
+    (cond (holds e t) (cond (allowed (σ .schema) t v) Result InvalidAttributeSyntax) NoSuchAttributeOrValue)
+    (cond (holds e t && granted σ (e .name) (ofType t) DiscloseOnError) InsufficientAccessRights NoSuchAttributeOrValue)
 
 -- a value of the type `t`, with Compare granted, equal to `v`
 unfoldable pub counts : Setting → Name → ℕ → Bytes → Part → Bool
@@ -24,4 +26,4 @@ counts σ n t v u = eqb (u .type) t && (granted σ n (ofValue (u .type) (u .valu
 
 -- K 31: whether a value is equal
 abbrev pub comparePlan : Bool → Plan
-comparePlan b = record { operation = 2; outcome = 0; more = 0; name = 0; entry = 0; equal = bit b; shown = 0 }
+comparePlan b = record { operation = 2; outcome = Result; more = 0; name = 0; entry = 0; equal = bit b; shown = 0 }

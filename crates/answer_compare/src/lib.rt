@@ -6,15 +6,21 @@ use answer_entry::opening;
 use answer_entry::withheld;
 use answer_plan::Plan;
 use answer_plan::absent;
+use answer_plan::is_result;
 use answer_plan::refused;
 use name::equal_by;
 use rules::Found;
+use rules::Outcome;
+use rules::operation;
+use tables::book::BOOK;
 use tables::book::FIRST;
 use tables::book::SCHEMA;
+use tables::held::HELD;
 use tables::held::bytes;
 use tables::sets::COMPARE;
 use tables::sets::DISCLOSE_ON_ERROR;
 use tables::sets::READ;
+use tables::sets::SETS;
 ghost use mathlib.Core.Path.{_≡_};
 ghost use mathlib.Core.Bool.{true};
 ghost use mathlib.Core.List.{List, map};
@@ -40,7 +46,7 @@ ghost use Rattle.answer_plan.specs.Sound.{Base, Numbered, Sound};
 ghost use Rattle.answer_compare.specs.Compare.{counts, compareOutcome, comparePlan};
 
 // The first row of the type `t` among the values of the entry of index `k`; the row after the last if it does not hold the type.
-fn row_of(book: &[u64; 1353], held: &[u64; 6345], k: usize, t: u64) -> usize
+fn row_of(book: &[u64; BOOK], held: &[u64; HELD], k: usize, t: u64) -> usize
     requires { ⌜ ((d p : Bytes) × (sets : List ℕ) × Known d p (now book) (now held) sets) × (k < entries (now book)) ⌝ }
     ensures { λ r. ⌜ (firstAt (now (book .entry)) k ≤ r) × (r < firstAt (now (book .entry)) (suc k) → typeAt (schema (now (book .entry))) (rankAt (now (held .entry)) r) ≡ t) × ((σ : Setting) (es : List Stored) (d p : Bytes) (sets : List ℕ) → World σ es d p (now (book .entry)) (now (held .entry)) sets → holds (entryOf (getD es k blank)) t ≡ ltb r (firstAt (now (book .entry)) (suc k))) ⌝ }
 {
@@ -57,27 +63,27 @@ fn row_of(book: &[u64; 1353], held: &[u64; 6345], k: usize, t: u64) -> usize
 }
 
 // The outcome for an open entry, that of index `k`, which holds the type of this rank; Compare on the type is asked first.
-fn outcome_of(book: &[u64; 1353], sets: &[u64; 2360], k: usize, rank: usize, v: &[u8]) -> u64
+fn outcome_of(book: &[u64; BOOK], sets: &[u64; SETS], k: usize, rank: usize, v: &[u8]) -> Outcome
     requires { ⌜ ((d p : Bytes) × (held : List ℕ) × Known d p (now book) held (now sets)) × (k < entries (now book)) × (rank < types (now book)) ⌝ }
     ensures { λ r. ⌜ ((σ : Setting) (es : List Stored) (d p : Bytes) (held : List ℕ) → World σ es d p (now (book .entry)) held (now (sets .entry)) → holds (entryOf (getD es k blank)) (typeAt (schema (now (book .entry))) rank) ≡ true → r ≡ compareOutcome σ (typeAt (schema (now (book .entry))) rank) (now (v .entry)) (entryOf (getD es k blank))) ⌝ }
 {
     if may_type(sets, k + 1, rank, COMPARE) {
         if value_syntax::fits(book[SCHEMA + rank] % 4, v) {
-            return 0;
+            return Outcome::Result;
         }
-        return 4;
+        return Outcome::InvalidAttributeSyntax;
     }
     if may_type(sets, k + 1, rank, DISCLOSE_ON_ERROR) {
-        return 2;
+        return Outcome::InsufficientAccessRights;
     }
-    3
+    Outcome::NoSuchAttributeOrValue
 }
 
 // Is the value in row `i` of the type of this rank, equal to `v`, with Compare granted?
 fn equal_row(
-    book: &[u64; 1353],
-    held: &[u64; 6345],
-    sets: &[u64; 2360],
+    book: &[u64; BOOK],
+    held: &[u64; HELD],
+    sets: &[u64; SETS],
     d: &[u8],
     p: &[u8],
     k: usize,
@@ -100,9 +106,9 @@ fn equal_row(
 
 // Is a value of the type of this rank, with Compare granted, equal to `v`?
 fn equal_any(
-    book: &[u64; 1353],
-    held: &[u64; 6345],
-    sets: &[u64; 2360],
+    book: &[u64; BOOK],
+    held: &[u64; HELD],
+    sets: &[u64; SETS],
     d: &[u8],
     p: &[u8],
     k: usize,
@@ -138,8 +144,8 @@ fn compared(equal: bool) -> Plan
     ensures { λ r. ⌜ r ≡ comparePlan equal ⌝ }
 {
     Plan {
-        operation: 2,
-        outcome: 0,
+        operation: operation::COMPARE,
+        outcome: Outcome::Result,
         more: 0,
         name: 0,
         entry: 0,
@@ -148,11 +154,12 @@ fn compared(equal: bool) -> Plan
     }
 }
 
-// The plan for an open entry, that of index `k`. A type that is not held gives 3 whatever is permitted.
+// The plan for an open entry, that of index `k`. A type that is not held gives no such attribute or value whatever is
+// permitted.
 fn compare_open(
-    book: &[u64; 1353],
-    held: &[u64; 6345],
-    sets: &[u64; 2360],
+    book: &[u64; BOOK],
+    held: &[u64; HELD],
+    sets: &[u64; SETS],
     d: &[u8],
     p: &[u8],
     k: usize,
@@ -164,21 +171,21 @@ fn compare_open(
 {
     let i = row_of(book, held, k, t);
     if book[FIRST + 1 + k] as usize <= i {
-        return refused(2, 3);
+        return refused(operation::COMPARE, Outcome::NoSuchAttributeOrValue);
     }
     let rank = held[i] as usize;
     let outcome = outcome_of(book, sets, k, rank, v);
-    if outcome != 0 {
-        return refused(2, outcome);
+    if !is_result(outcome) {
+        return refused(operation::COMPARE, outcome);
     }
     compared(equal_any(book, held, sets, d, p, k, rank, v))
 }
 
 // The plan for entry number `b`; the root, 0, is no entry.
 fn compare_entry(
-    book: &[u64; 1353],
-    held: &[u64; 6345],
-    sets: &[u64; 2360],
+    book: &[u64; BOOK],
+    held: &[u64; HELD],
+    sets: &[u64; SETS],
     d: &[u8],
     p: &[u8],
     t: u64,
@@ -190,20 +197,20 @@ fn compare_entry(
     ensures { λ r. ⌜ ((hits : List ℕ) → Sound (entries (now (book .entry))) r hits) × ((σ : Setting) (es : List Stored) (n : Name) (base : Found) (s : Selection) (hits : List ℕ) → World σ es (now (d .entry)) (now (p .entry)) (now (book .entry)) (now (held .entry)) (now (sets .entry)) → Base σ es n base missing → base ≡ At b → planned σ es s r hits ≡ Answer.answer σ (map entryOf es) n (Request.compare t (now (v .entry)))) ⌝ }
 {
     let opened = opening(sets, b, READ);
-    if opened != 0 {
-        return withheld(2, opened, missing);
+    if !is_result(opened) {
+        return withheld(operation::COMPARE, opened, missing);
     }
     if b == 0 {
-        return absent(2, missing);
+        return absent(operation::COMPARE, missing);
     }
     compare_open(book, held, sets, d, p, b - 1, t, v)
 }
 
 // The plan of a compare: the value `v` with those of the type `t` of the entry that is named.
 pub fn compare(
-    book: &[u64; 1353],
-    held: &[u64; 6345],
-    sets: &[u64; 2360],
+    book: &[u64; BOOK],
+    held: &[u64; HELD],
+    sets: &[u64; SETS],
     d: &[u8],
     p: &[u8],
     t: u64,
@@ -216,6 +223,6 @@ pub fn compare(
     let base = target.base;
     match base {
         Found::At(b) => compare_entry(book, held, sets, d, p, t, v, b, target.missing),
-        Found::Nothing => absent(2, target.missing),
+        Found::Nothing => absent(operation::COMPARE, target.missing),
     }
 }

@@ -2,18 +2,23 @@
 use Prim.Native.Nat.{ℕ}
 use mathlib.Core.Bool.{cond}
 use mathlib.Core.List.{List}
-use lib.Dec.{eqb}
 use Rattle.rules.specs.Directory.{Stored}
 use Rattle.rules.specs.Permission.{DiscloseOnError}
 use Rattle.rules.specs.Decision.{Setting, entry}
 use Rattle.tables.specs.Sets.{grantedAt}
+use Rattle.rules.specs.declared.Outcome.{Outcome}
+use Rattle.rules.specs.declared.Outcome.the-variants.{Result, NoSuchObject, InsufficientAccessRights, NoSuchAttributeOrValue, InvalidAttributeSyntax}
 use Rattle.answer_plan.specs.declared.Plan.{Plan}
 use Rattle.answer_plan.specs.Outcome.{absentPlan, refusedPlan}
 
 -- "read and compare need Read on the entry; without it, 2 if DiscloseOnError is granted, else 1"
-unfoldable pub openingAt : Setting → List Stored → ℕ → ℕ → ℕ
-openingAt σ es e q = cond (grantedAt σ es e entry q) 0 (cond (grantedAt σ es e entry DiscloseOnError) 2 1)
+unfoldable pub openingAt : Setting → List Stored → ℕ → ℕ → Outcome
+openingAt σ es e q = cond (grantedAt σ es e entry q) Result (cond (grantedAt σ es e entry DiscloseOnError) InsufficientAccessRights NoSuchObject)
 
 -- the plan where the entry is not open
-unfoldable pub withheldPlan : ℕ → ℕ → ℕ → Plan
-withheldPlan op o missing = cond (eqb o 1) (absentPlan op missing) (refusedPlan op 2)
+abbrev pub withheldPlan : ℕ → Outcome → ℕ → Plan
+withheldPlan op Result missing = refusedPlan op Result
+withheldPlan op NoSuchObject missing = absentPlan op missing
+withheldPlan op InsufficientAccessRights missing = refusedPlan op InsufficientAccessRights
+withheldPlan op NoSuchAttributeOrValue missing = refusedPlan op NoSuchAttributeOrValue
+withheldPlan op InvalidAttributeSyntax missing = refusedPlan op InvalidAttributeSyntax

@@ -7,6 +7,7 @@ use Rattle.rules.specs.Directory.{Stored}
 use Rattle.rules.specs.Permission.{Read, Browse, ReturnDN}
 use Rattle.rules.specs.Decision.{Setting, entry}
 use Rattle.tables.specs.Sets.{grantedAt}
+use Rattle.rules.specs.declared.Outcome.the-variants.{Result}
 use Rattle.answer_plan.specs.declared.Plan.{Plan}
 use Rattle.answer_plan.specs.Outcome.{absentPlan}
 
@@ -21,7 +22,7 @@ module _ (σ : Setting) (es : List Stored) where
 
 -- success, with the lines of the first `shown` hits
 abbrev pub successPlan : ℕ → ℕ → ℕ → Plan
-successPlan op more shown = record { operation = op; outcome = 0; more = more; name = 0; entry = 0; equal = 0; shown = shown }
+successPlan op more shown = record { operation = op; outcome = Result; more = more; name = 0; entry = 0; equal = 0; shown = shown }
 
 -- `count` hits within the size limit; 0 is none
 unfoldable pub limitedPlan : ℕ → ℕ → ℕ → Plan

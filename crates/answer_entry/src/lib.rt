@@ -5,10 +5,12 @@ use answer_plan::Plan;
 use answer_plan::absent;
 use answer_plan::refused;
 use rules::Found;
+use rules::Outcome;
 use tables::sets::BROWSE;
 use tables::sets::DISCLOSE_ON_ERROR;
 use tables::sets::READ;
 use tables::sets::RETURN_DN;
+use tables::sets::SETS;
 ghost use mathlib.Core.Path.{_≡_};
 ghost use mathlib.Core.List.{List};
 ghost use Prim.Native.Nat.{ℕ, _≤_, _<_, _^_};
@@ -26,32 +28,32 @@ pub struct Target {
     pub missing: usize,
 }
 
-// The outcome of opening entry number `e` by permission `q`: 0 with it, else 2 with DiscloseOnError, else 1.
-pub fn opening(sets: &[u64; 2360], e: usize, q: usize) -> u64
+// The outcome of opening entry number `e` by permission `q`: a result with it, else insufficient access rights with DiscloseOnError, else no such object.
+pub fn opening(sets: &[u64; SETS], e: usize, q: usize) -> Outcome
     requires { ⌜ (e ≤ 256) × (q < 6) × ((d p : Bytes) × (book held : List ℕ) × Known d p book held (now sets)) ⌝ }
     ensures { λ r. ⌜ ((σ : Setting) (es : List Stored) (d p : Bytes) (book held : List ℕ) → World σ es d p book held (now (sets .entry)) → e ≤ length es → r ≡ openingAt σ es e (2 ^ q)) ⌝ }
 {
     if may_entry(sets, e, q) {
-        return 0;
+        return Outcome::Result;
     }
     if may_entry(sets, e, DISCLOSE_ON_ERROR) {
-        return 2;
+        return Outcome::InsufficientAccessRights;
     }
-    1
+    Outcome::NoSuchObject
 }
 
 // The plan of an operation where the entry is not open, by the outcome of opening it.
-pub fn withheld(operation: u64, outcome: u64, missing: usize) -> Plan
+pub fn withheld(operation: u64, outcome: Outcome, missing: usize) -> Plan
     ensures { λ r. ⌜ r ≡ withheldPlan operation outcome missing ⌝ }
 {
-    if outcome == 1 {
-        return absent(operation, missing);
+    match outcome {
+        Outcome::NoSuchObject => absent(operation, missing),
+        _ => refused(operation, outcome),
     }
-    refused(operation, 2)
 }
 
 // Browse, or for the base Browse or Read, on entry number `e`.
-fn browsable(sets: &[u64; 2360], e: usize, base: bool) -> bool
+fn browsable(sets: &[u64; SETS], e: usize, base: bool) -> bool
     requires { ⌜ (e ≤ 256) × ((d p : Bytes) × (book held : List ℕ) × Known d p book held (now sets)) ⌝ }
     ensures { λ r. ⌜ ((σ : Setting) (es : List Stored) (d p : Bytes) (book held : List ℕ) → World σ es d p book held (now (sets .entry)) → e ≤ length es → r ≡ browsableAt σ es e base) ⌝ }
 {
@@ -65,7 +67,7 @@ fn browsable(sets: &[u64; 2360], e: usize, base: bool) -> bool
 }
 
 // May entry number `e` be returned? It has to be browsable, with ReturnDN.
-pub fn returnable(sets: &[u64; 2360], e: usize, base: bool) -> bool
+pub fn returnable(sets: &[u64; SETS], e: usize, base: bool) -> bool
     requires { ⌜ (e ≤ 256) × ((d p : Bytes) × (book held : List ℕ) × Known d p book held (now sets)) ⌝ }
     ensures { λ r. ⌜ ((σ : Setting) (es : List Stored) (d p : Bytes) (book held : List ℕ) → World σ es d p book held (now (sets .entry)) → e ≤ length es → r ≡ returnableAt σ es e base) ⌝ }
 {
@@ -81,7 +83,7 @@ fn success(operation: u64, more: u64, shown: usize) -> Plan
 {
     Plan {
         operation,
-        outcome: 0,
+        outcome: Outcome::Result,
         more,
         name: 0,
         entry: 0,

@@ -5,13 +5,17 @@ use access_may::may_type;
 use answer_line::emit;
 use answer_plan::Choice;
 use answer_plan::chosen;
+use sheet_kind::Kind;
+use tables::book::BOOK;
 use tables::book::FIRST;
 use tables::book::SCHEMA;
 use tables::book::WIDTH;
+use tables::held::HELD;
 use tables::sets::READ;
+use tables::sets::SETS;
 use values::emit_readable;
 ghost use mathlib.Core.Path.{_≡_};
-ghost use Prim.Native.Nat.{ℕ, _+_, _-_, _*_, _≤_, _<_, _^_};
+ghost use Prim.Native.Nat.{ℕ, _+_, _-_, _*_, _≤_, _<_};
 ghost use mathlib.Core.List.{List};
 ghost use lib.ListN.{length};
 ghost use Rattle.rules.specs.Sheet.{Bytes};
@@ -20,9 +24,10 @@ ghost use Rattle.rules.specs.Decision.{Setting};
 ghost use Rattle.rules.specs.Request.{Selection};
 ghost use Rattle.tables.specs.Book.{width, types, entries};
 ghost use Rattle.tables.specs.Book as Book;
-ghost use Rattle.tables.specs.Held.{typeAt};
+ghost use Rattle.tables.specs.Held.{ROWS, typeAt};
 ghost use Rattle.tables.specs.World.{World, Known};
 ghost use Rattle.answer_line.specs.Emit.{Emits};
+ghost use Rattle.answer_line.specs.Room.{farthest, lineRoom, informationRoom};
 ghost use Rattle.answer_plan.specs.Plan.{informationAt};
 ghost use Rattle.answer_plan.specs.Choice.{Chooses};
 ghost use Rattle.answer_information.specs.Information as Information;
@@ -36,7 +41,7 @@ pub struct Run {
 }
 
 // Is it selected, with Read on it in entry number `e`?
-fn shown(sets: &[u64; 2360], choice: Choice, e: usize, rank: usize) -> bool
+fn shown(sets: &[u64; SETS], choice: Choice, e: usize, rank: usize) -> bool
     requires { ⌜ (1 ≤ e) × (e ≤ 256) × (rank < 64) × ((d p : Bytes) × (book held : List ℕ) × Known d p book held (now sets)) ⌝ }
     ensures { λ r. ⌜ ((σ : Setting) (es : List Stored) (d p : Bytes) (book held : List ℕ) (s : Selection) → World σ es d p book held (now (sets .entry)) → Chooses (Book.schema book) s choice → e ≤ length es → rank < length (Book.schema book) → r ≡ Information.shown σ s (nameAt es e) (typeAt (Book.schema book) rank)) ⌝ }
 {
@@ -50,17 +55,17 @@ fn shown(sets: &[u64; 2360], choice: Choice, e: usize, rank: usize) -> bool
 fn emit_run(
     out: &mut [u8],
     at: usize,
-    book: &[u64; 1353],
-    held: &[u64; 6345],
-    sets: &[u64; 2360],
+    book: &[u64; BOOK],
+    held: &[u64; HELD],
+    sets: &[u64; SETS],
     d: &[u8],
     p: &[u8],
     choice: Choice,
     e: usize,
     run: Run,
 ) -> usize
-    requires { ⌜ Known (now d) (now p) (now book) (now held) (now sets) × RunOf (now book) e run × (at ≤ 2 ^ 51) ⌝ }
-    ensures { λ r. ⌜ (r ≤ at + (run .end - run .first + 1) * 2 ^ 17) × ((σ : Setting) (es : List Stored) (s : Selection) → World σ es (now (d .entry)) (now (p .entry)) (now (book .entry)) (now (held .entry)) (now (sets .entry)) → Chooses (Book.schema (now (book .entry))) s choice → Emits (width (now (book .entry))) (now (out .entry)) at (returned σ s (nameAt es e) (heldBy (now (d .entry)) (now (book .entry)) (now (held .entry)) run)) (now (out .exit)) r) ⌝ }
+    requires { ⌜ Known (now d) (now p) (now book) (now held) (now sets) × RunOf (now book) e run × (at + (run .end - run .first + 1) * lineRoom ≤ farthest) ⌝ }
+    ensures { λ r. ⌜ (r ≤ at + (run .end - run .first + 1) * lineRoom) × ((σ : Setting) (es : List Stored) (s : Selection) → World σ es (now (d .entry)) (now (p .entry)) (now (book .entry)) (now (held .entry)) (now (sets .entry)) → Chooses (Book.schema (now (book .entry))) s choice → Emits (width (now (book .entry))) (now (out .entry)) at (returned σ s (nameAt es e) (heldBy (now (d .entry)) (now (book .entry)) (now (held .entry)) run)) (now (out .exit)) r) ⌝ }
 {
     if shown(sets, choice, e, run.rank) {
         if choice.values {
@@ -68,14 +73,23 @@ fn emit_run(
         }
         let w = book[WIDTH] as usize;
         let rank = run.rank;
-        return emit(out, at, w, 34, book[SCHEMA + rank] / 4, 0, 0, b"");
+        return emit(
+            out,
+            at,
+            w,
+            Kind::ReturnedType,
+            book[SCHEMA + rank] / 4,
+            0,
+            0,
+            b"",
+        );
     }
     at
 }
 
 // The row after those that have the rank of row `i`, of the rows before `end`.
-fn run_end(held: &[u64; 6345], i: usize, end: usize) -> usize
-    requires { ⌜ (i < end) × (end ≤ 2115) ⌝ }
+fn run_end(held: &[u64; HELD], i: usize, end: usize) -> usize
+    requires { ⌜ (i < end) × (end ≤ ROWS) ⌝ }
     ensures { λ r. ⌜ EndsAt (now (held .entry)) i end r ⌝ }
 {
     let mut j = i + 1;
@@ -92,16 +106,16 @@ fn run_end(held: &[u64; 6345], i: usize, end: usize) -> usize
 fn emit_runs(
     out: &mut [u8],
     at: usize,
-    book: &[u64; 1353],
-    held: &[u64; 6345],
-    sets: &[u64; 2360],
+    book: &[u64; BOOK],
+    held: &[u64; HELD],
+    sets: &[u64; SETS],
     d: &[u8],
     p: &[u8],
     choice: Choice,
     e: usize,
 ) -> usize
-    requires { ⌜ Known (now d) (now p) (now book) (now held) (now sets) × (1 ≤ e) × (e ≤ entries (now book)) × (at ≤ 2 ^ 50) ⌝ }
-    ensures { λ r. ⌜ (r ≤ at + 2 ^ 40) × ((σ : Setting) (es : List Stored) (s : Selection) → World σ es (now (d .entry)) (now (p .entry)) (now (book .entry)) (now (held .entry)) (now (sets .entry)) → Chooses (Book.schema (now (book .entry))) s choice → Emits (width (now (book .entry))) (now (out .entry)) at (informationAt σ es s e) (now (out .exit)) r) ⌝ }
+    requires { ⌜ Known (now d) (now p) (now book) (now held) (now sets) × (1 ≤ e) × (e ≤ entries (now book)) × (at + informationRoom ≤ farthest) ⌝ }
+    ensures { λ r. ⌜ (r ≤ at + informationRoom) × ((σ : Setting) (es : List Stored) (s : Selection) → World σ es (now (d .entry)) (now (p .entry)) (now (book .entry)) (now (held .entry)) (now (sets .entry)) → Chooses (Book.schema (now (book .entry))) s choice → Emits (width (now (book .entry))) (now (out .entry)) at (informationAt σ es s e) (now (out .exit)) r) ⌝ }
 {
     let end = book[FIRST + e] as usize;
     let mut i = book[FIRST + (e - 1)] as usize;
@@ -122,16 +136,16 @@ fn emit_runs(
 pub fn emit_information(
     out: &mut [u8],
     at: usize,
-    book: &[u64; 1353],
-    held: &[u64; 6345],
-    sets: &[u64; 2360],
+    book: &[u64; BOOK],
+    held: &[u64; HELD],
+    sets: &[u64; SETS],
     d: &[u8],
     p: &[u8],
     choice: Choice,
     e: usize,
 ) -> usize
-    requires { ⌜ Known (now d) (now p) (now book) (now held) (now sets) × (e ≤ entries (now book)) × (at ≤ 2 ^ 50) ⌝ }
-    ensures { λ r. ⌜ (r ≤ at + 2 ^ 40) × ((σ : Setting) (es : List Stored) (s : Selection) → World σ es (now (d .entry)) (now (p .entry)) (now (book .entry)) (now (held .entry)) (now (sets .entry)) → Chooses (Book.schema (now (book .entry))) s choice → Emits (width (now (book .entry))) (now (out .entry)) at (informationAt σ es s e) (now (out .exit)) r) ⌝ }
+    requires { ⌜ Known (now d) (now p) (now book) (now held) (now sets) × (e ≤ entries (now book)) × (at + informationRoom ≤ farthest) ⌝ }
+    ensures { λ r. ⌜ (r ≤ at + informationRoom) × ((σ : Setting) (es : List Stored) (s : Selection) → World σ es (now (d .entry)) (now (p .entry)) (now (book .entry)) (now (held .entry)) (now (sets .entry)) → Chooses (Book.schema (now (book .entry))) s choice → Emits (width (now (book .entry))) (now (out .entry)) at (informationAt σ es s e) (now (out .exit)) r) ⌝ }
 {
     if e == 0 {
         return at;

@@ -2,11 +2,15 @@
 use super::Run;
 use access_may::may_value;
 use answer_line::emit;
+use sheet_kind::Kind;
+use tables::book::BOOK;
 use tables::book::SCHEMA;
 use tables::book::WIDTH;
+use tables::held::HELD;
 use tables::held::bytes;
 use tables::sets::READ;
-ghost use Prim.Native.Nat.{ℕ, _+_, _-_, _*_, _≤_, _<_, _^_};
+use tables::sets::SETS;
+ghost use Prim.Native.Nat.{ℕ, _+_, _-_, _*_, _≤_, _<_};
 ghost use mathlib.Core.List.{List, [], _∷_};
 ghost use lib.ListN.{length};
 ghost use Rattle.rules.specs.Sheet.{Bytes};
@@ -14,9 +18,10 @@ ghost use Rattle.rules.specs.Directory.{Stored, nameAt};
 ghost use Rattle.rules.specs.Decision.{Setting};
 ghost use Rattle.rules.specs.Answer.{valueLines};
 ghost use Rattle.tables.specs.Book.{width, types, entries, schema};
-ghost use Rattle.tables.specs.Held.{typeAt};
+ghost use Rattle.tables.specs.Held.{ROWS, typeAt};
 ghost use Rattle.tables.specs.World.{World, Known};
 ghost use Rattle.answer_line.specs.Emit.{Emits};
+ghost use Rattle.answer_line.specs.Room.{farthest, lineRoom};
 ghost use Rattle.answer_information.specs.Information.{RunOf, rowValues, readable, Counted};
 
 // The place after the values written so far, and how many they are.
@@ -29,20 +34,20 @@ pub struct Written {
 fn emit_value(
     out: &mut [u8],
     st: Written,
-    book: &[u64; 1353],
-    sets: &[u64; 2360],
+    book: &[u64; BOOK],
+    sets: &[u64; SETS],
     p: &[u8],
     e: usize,
     rank: usize,
     v: &[u8],
 ) -> Written
-    requires { ⌜ ((d : Bytes) × (held : List ℕ) × Known d (now p) (now book) held (now sets)) × (1 ≤ e) × (e ≤ entries (now book)) × (rank < types (now book)) × (length (now v) ≤ 65536) × (st .next ≤ 2 ^ 53) × (st .count ≤ 65536) ⌝ }
-    ensures { λ r. ⌜ (r .next ≤ st .next + 2 ^ 17) × (r .count ≤ st .count + 1) × ((σ : Setting) (es : List Stored) (d : Bytes) (held : List ℕ) → World σ es d (now (p .entry)) (now (book .entry)) held (now (sets .entry)) → Counted (width (now (book .entry))) (now (out .entry)) st (readable σ (nameAt es e) (typeAt (schema (now (book .entry))) rank) (now (v .entry) ∷ [])) (now (out .exit)) r) ⌝ }
+    requires { ⌜ ((d : Bytes) × (held : List ℕ) × Known d (now p) (now book) held (now sets)) × (1 ≤ e) × (e ≤ entries (now book)) × (rank < types (now book)) × (length (now v) ≤ 65536) × (st .next + lineRoom ≤ farthest) × (st .count ≤ ROWS) ⌝ }
+    ensures { λ r. ⌜ (r .next ≤ st .next + lineRoom) × (r .count ≤ st .count + 1) × ((σ : Setting) (es : List Stored) (d : Bytes) (held : List ℕ) → World σ es d (now (p .entry)) (now (book .entry)) held (now (sets .entry)) → Counted (width (now (book .entry))) (now (out .entry)) st (readable σ (nameAt es e) (typeAt (schema (now (book .entry))) rank) (now (v .entry) ∷ [])) (now (out .exit)) r) ⌝ }
 {
     if may_value(book, sets, p, e, rank, v, READ) {
         let w = book[WIDTH] as usize;
         return Written {
-            next: emit(out, st.next, w, 35, 0, 0, 0, v),
+            next: emit(out, st.next, w, Kind::ReturnedValue, 0, 0, 0, v),
             count: st.count + 1,
         };
     }
@@ -53,16 +58,16 @@ fn emit_value(
 fn emit_values(
     out: &mut [u8],
     at: usize,
-    book: &[u64; 1353],
-    held: &[u64; 6345],
-    sets: &[u64; 2360],
+    book: &[u64; BOOK],
+    held: &[u64; HELD],
+    sets: &[u64; SETS],
     d: &[u8],
     p: &[u8],
     e: usize,
     run: Run,
 ) -> Written
-    requires { ⌜ Known (now d) (now p) (now book) (now held) (now sets) × RunOf (now book) e run × (at ≤ 2 ^ 52) ⌝ }
-    ensures { λ r. ⌜ (r .next ≤ at + (run .end - run .first) * 2 ^ 17) × ((σ : Setting) (es : List Stored) → World σ es (now (d .entry)) (now (p .entry)) (now (book .entry)) (now (held .entry)) (now (sets .entry)) → Counted (width (now (book .entry))) (now (out .entry)) (record { next = at; count = 0 }) (readable σ (nameAt es e) (typeAt (schema (now (book .entry))) (run .rank)) (rowValues (now (d .entry)) (now (held .entry)) (run .first) (run .end - run .first))) (now (out .exit)) r) ⌝ }
+    requires { ⌜ Known (now d) (now p) (now book) (now held) (now sets) × RunOf (now book) e run × (at + (run .end - run .first) * lineRoom ≤ farthest) ⌝ }
+    ensures { λ r. ⌜ (r .next ≤ at + (run .end - run .first) * lineRoom) × ((σ : Setting) (es : List Stored) → World σ es (now (d .entry)) (now (p .entry)) (now (book .entry)) (now (held .entry)) (now (sets .entry)) → Counted (width (now (book .entry))) (now (out .entry)) (record { next = at; count = 0 }) (readable σ (nameAt es e) (typeAt (schema (now (book .entry))) (run .rank)) (rowValues (now (d .entry)) (now (held .entry)) (run .first) (run .end - run .first))) (now (out .exit)) r) ⌝ }
 {
     let mut st = Written { next: at, count: 0 };
     let end = run.end;
@@ -79,16 +84,16 @@ fn emit_values(
 pub(crate) fn emit_readable(
     out: &mut [u8],
     at: usize,
-    book: &[u64; 1353],
-    held: &[u64; 6345],
-    sets: &[u64; 2360],
+    book: &[u64; BOOK],
+    held: &[u64; HELD],
+    sets: &[u64; SETS],
     d: &[u8],
     p: &[u8],
     e: usize,
     run: Run,
 ) -> usize
-    requires { ⌜ Known (now d) (now p) (now book) (now held) (now sets) × RunOf (now book) e run × (at ≤ 2 ^ 51) ⌝ }
-    ensures { λ r. ⌜ (r ≤ at + (run .end - run .first + 1) * 2 ^ 17) × ((σ : Setting) (es : List Stored) → World σ es (now (d .entry)) (now (p .entry)) (now (book .entry)) (now (held .entry)) (now (sets .entry)) → Emits (width (now (book .entry))) (now (out .entry)) at (valueLines (typeAt (schema (now (book .entry))) (run .rank)) (readable σ (nameAt es e) (typeAt (schema (now (book .entry))) (run .rank)) (rowValues (now (d .entry)) (now (held .entry)) (run .first) (run .end - run .first)))) (now (out .exit)) r) ⌝ }
+    requires { ⌜ Known (now d) (now p) (now book) (now held) (now sets) × RunOf (now book) e run × (at + (run .end - run .first + 1) * lineRoom ≤ farthest) ⌝ }
+    ensures { λ r. ⌜ (r ≤ at + (run .end - run .first + 1) * lineRoom) × ((σ : Setting) (es : List Stored) → World σ es (now (d .entry)) (now (p .entry)) (now (book .entry)) (now (held .entry)) (now (sets .entry)) → Emits (width (now (book .entry))) (now (out .entry)) at (valueLines (typeAt (schema (now (book .entry))) (run .rank)) (readable σ (nameAt es e) (typeAt (schema (now (book .entry))) (run .rank)) (rowValues (now (d .entry)) (now (held .entry)) (run .first) (run .end - run .first)))) (now (out .exit)) r) ⌝ }
 {
     let w = book[WIDTH] as usize;
     let st = emit_values(out, at + (5 * w + 1), book, held, sets, d, p, e, run);
@@ -96,6 +101,15 @@ pub(crate) fn emit_readable(
         return at;
     }
     let rank = run.rank;
-    emit(out, at, w, 34, book[SCHEMA + rank] / 4, st.count, 0, b"");
+    emit(
+        out,
+        at,
+        w,
+        Kind::ReturnedType,
+        book[SCHEMA + rank] / 4,
+        st.count,
+        0,
+        b"",
+    );
     st.next
 }

@@ -1,2 +1,3 @@
 pub mod Emit
+pub mod Room
 pub mod Laws

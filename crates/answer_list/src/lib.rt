@@ -6,9 +6,12 @@ use answer_entry::returned;
 use answer_plan::Plan;
 use answer_plan::absent;
 use rules::Found;
+use rules::operation;
+use tables::book::BOOK;
 use tables::book::ENTRIES;
 use tables::book::PARENT;
 use tables::sets::DISCLOSE_ON_ERROR;
+use tables::sets::SETS;
 ghost use mathlib.Core.Path.{_≡_};
 ghost use mathlib.Core.List.{List, map};
 ghost use Prim.Native.Nat.{ℕ, _≤_, _<_};
@@ -24,11 +27,11 @@ ghost use Rattle.tables.specs.Book.{entries};
 ghost use Rattle.tables.specs.World.{World, Known};
 ghost use Rattle.answer_plan.specs.Plan.{planned};
 ghost use Rattle.answer_plan.specs.Sound.{Base, Numbered, Sound};
-ghost use Rattle.answer_entry.specs.Passing.{Indices, passing};
-ghost use Rattle.answer_list.specs.Hits.{listedAt};
+ghost use Rattle.answer_entry.specs.Passing.{Indices, passing, over};
+ghost use Rattle.answer_list.specs.Hits.{listedAt, listFound};
 
 // Is the entry of index `k` a child of number `b` that may be returned?
-fn child(book: &[u64; 1353], sets: &[u64; 2360], b: usize, k: usize) -> bool
+fn child(book: &[u64; BOOK], sets: &[u64; SETS], b: usize, k: usize) -> bool
     requires { ⌜ (k < entries (now book)) × (entries (now book) ≤ 256) × ((d p : Bytes) × (held : List ℕ) × Known d p (now book) held (now sets)) ⌝ }
     ensures { λ r. ⌜ ((σ : Setting) (es : List Stored) (d p : Bytes) (held : List ℕ) → World σ es d p (now (book .entry)) held (now (sets .entry)) → r ≡ listedAt σ es b k) ⌝ }
 {
@@ -39,7 +42,7 @@ fn child(book: &[u64; 1353], sets: &[u64; 2360], b: usize, k: usize) -> bool
 }
 
 // Notes the indices of the children of number `b` that may be returned, in order; how many they are.
-fn children(book: &[u64; 1353], sets: &[u64; 2360], b: usize, hits: &mut [usize; 256]) -> usize
+fn children(book: &[u64; BOOK], sets: &[u64; SETS], b: usize, hits: &mut [usize; 256]) -> usize
     requires { ⌜ (entries (now book) ≤ 256) × (length (now hits) ≡ 256) × ((d p : Bytes) × (held : List ℕ) × Known d p (now book) held (now sets)) ⌝ }
     ensures { λ n. ⌜ Indices (entries (now (book .entry))) n (now (hits .entry)) (now (hits .exit)) × ((σ : Setting) (es : List Stored) (d p : Bytes) (held : List ℕ) → World σ es d p (now (book .entry)) held (now (sets .entry)) → take n (now (hits .exit)) ≡ passing (listedAt σ es b) (length es)) ⌝ }
 {
@@ -58,20 +61,20 @@ fn children(book: &[u64; 1353], sets: &[u64; 2360], b: usize, hits: &mut [usize;
 
 // The plan of a list: the children of the base that may be returned, within the size limit.
 pub fn list(
-    book: &[u64; 1353],
-    sets: &[u64; 2360],
+    book: &[u64; BOOK],
+    sets: &[u64; SETS],
     target: Target,
     limit: u64,
     hits: &mut [usize; 256],
 ) -> Plan
     requires { ⌜ Numbered (entries (now book)) (target .base) (target .missing) × (length (now hits) ≡ 256) × ((d p : Bytes) × (held : List ℕ) × Known d p (now book) held (now sets)) ⌝ }
-    ensures { λ r. ⌜ Sound (entries (now (book .entry))) r (now (hits .exit)) × ((σ : Setting) (es : List Stored) (d p : Bytes) (held : List ℕ) (n : Name) (s : Selection) → World σ es d p (now (book .entry)) held (now (sets .entry)) → Base σ es n (target .base) (target .missing) → planned σ es s r (now (hits .exit)) ≡ answer σ (map entryOf es) n (Request.list limit)) ⌝ }
+    ensures { λ r. ⌜ Sound (entries (now (book .entry))) r (now (hits .exit)) × ((σ : Setting) (es : List Stored) (d p : Bytes) (held : List ℕ) (n : Name) (s : Selection) → World σ es d p (now (book .entry)) held (now (sets .entry)) → Base σ es n (target .base) (target .missing) → planned σ es s r (now (hits .exit)) ≡ answer σ (map entryOf es) n (Request.list limit)) × ((σ : Setting) (es : List Stored) (d p : Bytes) (held : List ℕ) → World σ es d p (now (book .entry)) held (now (sets .entry)) → now (hits .exit) ≡ over (listFound σ es (target .base)) (now (hits .entry))) ⌝ }
 {
     let base = target.base;
     let Found::At(b) = base else {
-        return absent(3, target.missing);
+        return absent(operation::LIST, target.missing);
     };
     let count = children(book, sets, b, hits);
     let open = may_entry(sets, b, DISCLOSE_ON_ERROR);
-    returned(3, target.missing, open, limit, count)
+    returned(operation::LIST, target.missing, open, limit, count)
 }

@@ -2,7 +2,9 @@
 use access_may::may_entry;
 use directory_lookup::find::Step;
 use directory_lookup::find::down;
+use tables::book::BOOK;
 use tables::sets::DISCLOSE_ON_ERROR;
+use tables::sets::SETS;
 ghost use mathlib.Core.Path.{_≡_};
 ghost use Prim.Native.Nat.{ℕ, _-_, _≤_};
 ghost use mathlib.Core.List.{List, map};
@@ -18,7 +20,7 @@ ghost use Rattle.tables.specs.World.{World, Known};
 ghost use Rattle.answer_matched.specs.Matched.{lastOf};
 
 // The entry number `e` if DiscloseOnError is granted on it, else `last`.
-fn disclosed(sets: &[u64; 2360], e: usize, last: usize) -> usize
+fn disclosed(sets: &[u64; SETS], e: usize, last: usize) -> usize
     requires { ⌜ (e ≤ 256) × ((d p : Bytes) × (book held : List ℕ) × Known d p book held (now sets)) ⌝ }
     ensures { λ r. ⌜ ((n : ℕ) → e ≤ n → last ≤ n → r ≤ n) × ((σ : Setting) (es : List Stored) (d p : Bytes) (book held : List ℕ) → World σ es d p book held (now (sets .entry)) → e ≤ length es → r ≡ lastOf σ es e last) ⌝ }
 {
@@ -30,8 +32,8 @@ fn disclosed(sets: &[u64; 2360], e: usize, last: usize) -> usize
 
 // The number of the entry that the matched name of the `parts` K 9 lines at position `place` of the sheet `q` names, 0 where it is empty.
 pub fn matched(
-    book: &[u64; 1353],
-    sets: &[u64; 2360],
+    book: &[u64; BOOK],
+    sets: &[u64; SETS],
     d: &[u8],
     q: &[u8],
     place: usize,

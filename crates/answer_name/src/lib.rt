@@ -1,27 +1,32 @@
 // Names in an answer, from the numbers of the book: an entry's naming part, and the parts of its full name. Entries have indices from 0 and numbers from 1;
 // 0 is the number of the root.
 use answer_line::emit;
+use sheet_kind::Kind;
+use tables::book::BOOK;
 use tables::book::NAMING;
 use tables::book::PARENT;
 use tables::book::WIDTH;
 use tables::book::naming_value;
 ghost use mathlib.Core.Path.{_≡_};
-ghost use Prim.Native.Nat.{ℕ, _+_, _*_, _≤_, _<_, _^_};
+ghost use Prim.Native.Nat.{ℕ, _+_, _*_, _≤_, _<_};
 ghost use mathlib.Core.List.{List, [], _∷_};
 ghost use lib.ListN.{length, getD};
 ghost use Rattle.rules.specs.Sheet.{Bytes};
 ghost use Rattle.rules.specs.Directory.{Stored, blank, nameAt};
 ghost use Rattle.rules.specs.Decision.{Setting};
 ghost use Rattle.rules.specs.Answer.{nameLines, entryLines};
+ghost use Rattle.sheet_kind.specs.Kinds.{numberOf};
+ghost use Rattle.sheet_kind.specs.declared.Kind.the-variants.{Child};
 ghost use Rattle.tables.specs.Book.{width, entries};
 ghost use Rattle.tables.specs.World.{Entries, Listed};
 ghost use Rattle.answer_line.specs.Emit.{Emits};
+ghost use Rattle.answer_line.specs.Room.{farthest, lineRoom, nameRoom};
 ghost use Rattle.answer_name.specs.Name.{namingLine};
 
 // A line of a kind with the naming part of the entry of index `k`, its bytes a part of the directory `d`.
-fn emit_part(out: &mut [u8], at: usize, book: &[u64; 1353], d: &[u8], k: usize, kind: u64) -> usize
-    requires { ⌜ Listed (now d) (now book) × (at ≤ 2 ^ 52) × (k < entries (now book)) ⌝ }
-    ensures { λ r. ⌜ (r ≤ at + 2 ^ 17) × ((σ : Setting) (es : List Stored) (held : List ℕ) → Entries σ es (now (d .entry)) (now (book .entry)) held → Emits (width (now (book .entry))) (now (out .entry)) at (namingLine kind (getD es k blank) ∷ []) (now (out .exit)) r) ⌝ }
+fn emit_part(out: &mut [u8], at: usize, book: &[u64; BOOK], d: &[u8], k: usize, kind: Kind) -> usize
+    requires { ⌜ Listed (now d) (now book) × (at + lineRoom ≤ farthest) × (k < entries (now book)) ⌝ }
+    ensures { λ r. ⌜ (r ≤ at + lineRoom) × ((σ : Setting) (es : List Stored) (held : List ℕ) → Entries σ es (now (d .entry)) (now (book .entry)) held → Emits (width (now (book .entry))) (now (out .entry)) at (namingLine (numberOf kind) (getD es k blank) ∷ []) (now (out .exit)) r) ⌝ }
 {
     let w = book[WIDTH] as usize;
     emit(
@@ -37,15 +42,15 @@ fn emit_part(out: &mut [u8], at: usize, book: &[u64; 1353], d: &[u8], k: usize, 
 }
 
 // The K 32 line of the entry of index `k`: its naming part.
-pub fn emit_child(out: &mut [u8], at: usize, book: &[u64; 1353], d: &[u8], k: usize) -> usize
-    requires { ⌜ Listed (now d) (now book) × (at ≤ 2 ^ 50) × (k < entries (now book)) ⌝ }
-    ensures { λ r. ⌜ (r ≤ at + 2 ^ 17) × ((σ : Setting) (es : List Stored) (held : List ℕ) → Entries σ es (now (d .entry)) (now (book .entry)) held → Emits (width (now (book .entry))) (now (out .entry)) at (namingLine 32 (getD es k blank) ∷ []) (now (out .exit)) r) ⌝ }
+pub fn emit_child(out: &mut [u8], at: usize, book: &[u64; BOOK], d: &[u8], k: usize) -> usize
+    requires { ⌜ Listed (now d) (now book) × (at + lineRoom ≤ farthest) × (k < entries (now book)) ⌝ }
+    ensures { λ r. ⌜ (r ≤ at + lineRoom) × ((σ : Setting) (es : List Stored) (held : List ℕ) → Entries σ es (now (d .entry)) (now (book .entry)) held → Emits (width (now (book .entry))) (now (out .entry)) at (namingLine (numberOf Child) (getD es k blank) ∷ []) (now (out .exit)) r) ⌝ }
 {
-    emit_part(out, at, book, d, k, 32)
+    emit_part(out, at, book, d, k, Kind::Child)
 }
 
 // The number of parts of the name of entry number `e`: its ancestors and itself.
-pub fn depth(book: &[u64; 1353], e: usize) -> usize
+pub fn depth(book: &[u64; BOOK], e: usize) -> usize
     requires { ⌜ ((d : Bytes) × Listed d (now book)) × (e ≤ entries (now book)) ⌝ }
     ensures { λ r. ⌜ ((σ : Setting) (es : List Stored) (d : Bytes) (held : List ℕ) → Entries σ es d (now (book .entry)) held → r ≡ length (nameAt es e)) ⌝ }
 {
@@ -59,25 +64,25 @@ pub fn depth(book: &[u64; 1353], e: usize) -> usize
 }
 
 // The K 9 lines of the full name of entry number `e`, from depth 1 down; the root has none.
-pub fn emit_name(out: &mut [u8], at: usize, book: &[u64; 1353], d: &[u8], e: usize) -> usize
-    requires { ⌜ Listed (now d) (now book) × (at ≤ 2 ^ 51) × (e ≤ entries (now book)) ⌝ }
-    ensures { λ r. ⌜ (r ≤ at + e * 2 ^ 17) × ((σ : Setting) (es : List Stored) (held : List ℕ) → Entries σ es (now (d .entry)) (now (book .entry)) held → Emits (width (now (book .entry))) (now (out .entry)) at (nameLines (nameAt es e)) (now (out .exit)) r) ⌝ }
+pub fn emit_name(out: &mut [u8], at: usize, book: &[u64; BOOK], d: &[u8], e: usize) -> usize
+    requires { ⌜ Listed (now d) (now book) × (at + e * lineRoom ≤ farthest) × (e ≤ entries (now book)) ⌝ }
+    ensures { λ r. ⌜ (r ≤ at + e * lineRoom) × ((σ : Setting) (es : List Stored) (held : List ℕ) → Entries σ es (now (d .entry)) (now (book .entry)) held → Emits (width (now (book .entry))) (now (out .entry)) at (nameLines (nameAt es e)) (now (out .exit)) r) ⌝ }
 {
     if e == 0 {
         return at;
     }
     let k = e - 1;
     let next = emit_name(out, at, book, d, book[PARENT + k] as usize);
-    emit_part(out, next, book, d, k, 9)
+    emit_part(out, next, book, d, k, Kind::NamePart)
 }
 
 // The K 33 line of entry number `e`, with the number of parts of its full name, and the name.
-pub fn emit_entry(out: &mut [u8], at: usize, book: &[u64; 1353], d: &[u8], e: usize) -> usize
-    requires { ⌜ Listed (now d) (now book) × (at ≤ 2 ^ 50) × (e ≤ entries (now book)) ⌝ }
-    ensures { λ r. ⌜ (r ≤ at + 2 ^ 26) × ((σ : Setting) (es : List Stored) (held : List ℕ) → Entries σ es (now (d .entry)) (now (book .entry)) held → Emits (width (now (book .entry))) (now (out .entry)) at (entryLines (nameAt es e)) (now (out .exit)) r) ⌝ }
+pub fn emit_entry(out: &mut [u8], at: usize, book: &[u64; BOOK], d: &[u8], e: usize) -> usize
+    requires { ⌜ Listed (now d) (now book) × (at + nameRoom ≤ farthest) × (e ≤ entries (now book)) ⌝ }
+    ensures { λ r. ⌜ (r ≤ at + nameRoom) × ((σ : Setting) (es : List Stored) (held : List ℕ) → Entries σ es (now (d .entry)) (now (book .entry)) held → Emits (width (now (book .entry))) (now (out .entry)) at (entryLines (nameAt es e)) (now (out .exit)) r) ⌝ }
 {
     let parts = depth(book, e);
     let w = book[WIDTH] as usize;
-    let next = emit(out, at, w, 33, 0, parts as u64, 0, b"");
+    let next = emit(out, at, w, Kind::ReturnedEntry, 0, parts as u64, 0, b"");
     emit_name(out, next, book, d, e)
 }

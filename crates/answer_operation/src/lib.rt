@@ -8,6 +8,10 @@ use answer_read::read;
 use answer_search::Query;
 use answer_search::search;
 use request_sheet::Asked;
+use rules::operation;
+use tables::book::BOOK;
+use tables::held::HELD;
+use tables::sets::SETS;
 ghost use mathlib.Core.Path.{_≡_};
 ghost use mathlib.Core.List.{List, map};
 ghost use lib.ListN.{length};
@@ -16,19 +20,21 @@ ghost use Rattle.rules.specs.Decision.{Setting};
 ghost use Rattle.rules.specs.Judge.{Grammar};
 ghost use Rattle.rules.specs.Request.{Request};
 ghost use Rattle.rules.specs.Answer.{answer};
-ghost use Rattle.request_sheet.specs.Noted.{Noted};
+ghost use Rattle.request_sheet.specs.Noted.{RequestNoted};
 ghost use Rattle.tables.specs.Book.{width, entries, schema};
 ghost use Rattle.tables.specs.World.{World, Known};
 ghost use Rattle.answer_plan.specs.Choice.{Chooses};
 ghost use Rattle.answer_plan.specs.Plan.{planned};
 ghost use Rattle.answer_plan.specs.Sound.{Base, Numbered, Sound};
 ghost use Rattle.answer_choice.specs.Selected.{selectionOf};
+ghost use Rattle.answer_entry.specs.Passing.{over};
+ghost use Rattle.answer_operation.specs.Hits.{foundBy};
 
 // The plan of the answer; the indices of the entries that list and search find are noted in `hits`.
 pub fn plan_of(
-    book: &[u64; 1353],
-    held: &[u64; 6345],
-    sets: &[u64; 2360],
+    book: &[u64; BOOK],
+    held: &[u64; HELD],
+    sets: &[u64; SETS],
     d: &[u8],
     p: &[u8],
     q: &[u8],
@@ -37,17 +43,17 @@ pub fn plan_of(
     choice: Choice,
     hits: &mut [usize; 256],
 ) -> Plan
-    requires { ⌜ Known (now d) (now p) (now book) (now held) (now sets) × Numbered (entries (now book)) (target .base) (target .missing) × (length (now hits) ≡ 256) × ((G : Grammar) × (x : Request) × Noted G (width (now book)) (now q) x asked) ⌝ }
-    ensures { λ r. ⌜ Sound (entries (now (book .entry))) r (now (hits .exit)) × ((σ : Setting) (es : List Stored) (G : Grammar) (x : Request) → World σ es (now (d .entry)) (now (p .entry)) (now (book .entry)) (now (held .entry)) (now (sets .entry)) → Noted G (width (now (book .entry))) (now (q .entry)) x asked → Chooses (schema (now (book .entry))) (selectionOf (x .operation)) choice → Base σ es (x .base) (target .base) (target .missing) → planned σ es (selectionOf (x .operation)) r (now (hits .exit)) ≡ answer σ (map entryOf es) (x .base) (x .operation)) ⌝ }
+    requires { ⌜ Known (now d) (now p) (now book) (now held) (now sets) × Numbered (entries (now book)) (target .base) (target .missing) × (length (now hits) ≡ 256) × ((G : Grammar) × (x : Request) × RequestNoted G (width (now book)) (now q) x asked) ⌝ }
+    ensures { λ r. ⌜ Sound (entries (now (book .entry))) r (now (hits .exit)) × ((σ : Setting) (es : List Stored) (G : Grammar) (x : Request) → World σ es (now (d .entry)) (now (p .entry)) (now (book .entry)) (now (held .entry)) (now (sets .entry)) → RequestNoted G (width (now (book .entry))) (now (q .entry)) x asked → Chooses (schema (now (book .entry))) (selectionOf (x .operation)) choice → Base σ es (x .base) (target .base) (target .missing) → planned σ es (selectionOf (x .operation)) r (now (hits .exit)) ≡ answer σ (map entryOf es) (x .base) (x .operation)) × ((σ : Setting) (es : List Stored) (G : Grammar) (x : Request) → World σ es (now (d .entry)) (now (p .entry)) (now (book .entry)) (now (held .entry)) (now (sets .entry)) → RequestNoted G (width (now (book .entry))) (now (q .entry)) x asked → now (hits .exit) ≡ over (foundBy σ es (target .base) (x .operation)) (now (hits .entry))) ⌝ }
 {
-    if asked.operation == 1 {
+    if asked.operation == operation::READ {
         return read(book, held, sets, d, p, choice, target);
     }
-    if asked.operation == 2 {
+    if asked.operation == operation::COMPARE {
         let v = sheet_line::part(q, asked.value, asked.length);
         return compare(book, held, sets, d, p, asked.attribute, v, target);
     }
-    if asked.operation == 3 {
+    if asked.operation == operation::LIST {
         return list(book, sets, target, asked.limit, hits);
     }
     let query = Query {

@@ -9,7 +9,9 @@ use Rattle.rules.specs.Sheet.{Line, line}
 use Rattle.rules.specs.Directory.{Stored, blank, nameAt, entryOf}
 use Rattle.rules.specs.Decision.{Setting}
 use Rattle.rules.specs.Request.{Selection}
-use Rattle.rules.specs.Answer.{nameLines, entryLines, information}
+use Rattle.rules.specs.declared.Outcome.{Outcome}
+use Rattle.rules.specs.declared.Outcome.the-variants.{Result, NoSuchObject, InsufficientAccessRights, NoSuchAttributeOrValue, InvalidAttributeSyntax}
+use Rattle.rules.specs.Answer.{outcomeNumber, nameLines, entryLines, information}
 use Rattle.answer_plan.specs.declared.Plan.{Plan}
 
 -- K 32: the entry of index `k` as a child
@@ -26,7 +28,7 @@ module _ (σ : Setting) (es : List Stored) (s : Selection) where
   unfoldable pub foundLines : ℕ → List Line
   foundLines k = entryLines (nameAt es (suc k)) ++ informationAt (suc k)
 
-  -- after line 30 of an outcome 0, by the operation
+  -- after line 30 of a result, by the operation
   unfoldable pub successLines : Plan → List ℕ → List Line
   successLines r hits =
       cond (eqb (r .operation) 1) (entryLines (nameAt es (r .name)) ++ informationAt (r .entry))
@@ -34,9 +36,14 @@ module _ (σ : Setting) (es : List Stored) (s : Selection) where
       (cond (eqb (r .operation) 3) (gather (childLines es) (take (r .shown) hits))
       (gather foundLines (take (r .shown) hits))))
 
+  -- after line 30, by the outcome
+  abbrev pub followed : Plan → List ℕ → Outcome → List Line
+  followed r hits Result = successLines r hits
+  followed r hits NoSuchObject = nameLines (nameAt es (r .name))
+  followed r hits InsufficientAccessRights = []
+  followed r hits NoSuchAttributeOrValue = []
+  followed r hits InvalidAttributeSyntax = []
+
   -- the whole answer; `hits` are the indices of the entries found
   unfoldable pub planned : Plan → List ℕ → List Line
-  planned r hits =
-      line 30 (r .operation) (r .outcome) (r .more) []
-      ∷ cond (eqb (r .outcome) 0) (successLines r hits)
-      (cond (eqb (r .outcome) 1) (nameLines (nameAt es (r .name))) [])
+  planned r hits = line 30 (r .operation) (outcomeNumber (r .outcome)) (r .more) [] ∷ followed r hits (r .outcome)

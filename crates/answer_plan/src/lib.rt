@@ -1,14 +1,15 @@
 // What an answer is made of, decided before a byte of it is written: the outcome, the entries whose lines follow, by number, and what is selected of them.
+use rules::Outcome;
 ghost use mathlib.Core.Path.{_≡_};
 ghost use Prim.Native.Nat.{_<_};
 ghost use Rattle.access_set.specs.Member.{bit};
-ghost use Rattle.answer_plan.specs.Outcome.{absentPlan, refusedPlan};
+ghost use Rattle.answer_plan.specs.Outcome.{isResult, absentPlan, refusedPlan};
 
 // The answer of one request. What an operation or outcome does not have is 0.
 pub struct Plan {
     // Line 30: operation, outcome, and whether the size limit cut something off.
     pub operation: u64,
-    pub outcome: u64,
+    pub outcome: Outcome,
     pub more: u64,
     // The number of the entry whose name is printed, 0 for the empty name: the matched name, or the name of the entry that is read.
     pub name: usize,
@@ -30,13 +31,13 @@ pub struct Choice {
     pub nothing: bool,
 }
 
-// No such object: outcome 1, with the matched name, that of entry number `missing`.
+// No such object, with the matched name, that of entry number `missing`.
 pub fn absent(operation: u64, missing: usize) -> Plan
     ensures { λ r. ⌜ r ≡ absentPlan operation missing ⌝ }
 {
     Plan {
         operation: operation,
-        outcome: 1,
+        outcome: Outcome::NoSuchObject,
         more: 0,
         name: missing,
         entry: 0,
@@ -46,7 +47,7 @@ pub fn absent(operation: u64, missing: usize) -> Plan
 }
 
 // An outcome with nothing after it.
-pub fn refused(operation: u64, outcome: u64) -> Plan
+pub fn refused(operation: u64, outcome: Outcome) -> Plan
     ensures { λ r. ⌜ r ≡ refusedPlan operation outcome ⌝ }
 {
     Plan {
@@ -57,6 +58,19 @@ pub fn refused(operation: u64, outcome: u64) -> Plan
         entry: 0,
         equal: 0,
         shown: 0,
+    }
+}
+
+// Is it a result?
+pub fn is_result(outcome: Outcome) -> bool
+    ensures { λ r. ⌜ r ≡ isResult outcome ⌝ }
+{
+    match outcome {
+        Outcome::Result => true,
+        Outcome::NoSuchObject => false,
+        Outcome::InsufficientAccessRights => false,
+        Outcome::NoSuchAttributeOrValue => false,
+        Outcome::InvalidAttributeSyntax => false,
     }
 }
 

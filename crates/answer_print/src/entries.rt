@@ -3,7 +3,10 @@ use answer_information::emit_information;
 use answer_name::emit_child;
 use answer_name::emit_entry;
 use answer_plan::Choice;
-ghost use Prim.Native.Nat.{ℕ, _+_, _≤_, _<_, _^_};
+use tables::book::BOOK;
+use tables::held::HELD;
+use tables::sets::SETS;
+ghost use Prim.Native.Nat.{ℕ, _+_, _*_, _≤_, _<_};
 ghost use mathlib.Core.List.{List, _++_};
 ghost use lib.ListN.{length, getD};
 ghost use Rattle.rules.specs.Lists.{gather};
@@ -14,6 +17,7 @@ ghost use Rattle.rules.specs.Answer.{entryLines};
 ghost use Rattle.tables.specs.Book.{width, entries, schema};
 ghost use Rattle.tables.specs.World.{Entries, Listed, World, Known};
 ghost use Rattle.answer_line.specs.Emit.{Emits};
+ghost use Rattle.answer_line.specs.Room.{farthest, lineRoom, foundRoom};
 ghost use Rattle.answer_plan.specs.Plan.{childLines, informationAt, foundLines};
 ghost use Rattle.answer_plan.specs.Choice.{Chooses};
 
@@ -21,11 +25,11 @@ ghost use Rattle.answer_plan.specs.Choice.{Chooses};
 pub(crate) fn emit_children(
     out: &mut [u8],
     at: usize,
-    book: &[u64; 1353],
+    book: &[u64; BOOK],
     d: &[u8],
     hits: &[usize],
 ) -> usize
-    requires { ⌜ Listed (now d) (now book) × (at ≤ 2 ^ 20) × (length (now hits) ≤ 256) × ((i : ℕ) → i < length (now hits) → getD (now hits) i 0 < entries (now book)) ⌝ }
+    requires { ⌜ Listed (now d) (now book) × (at + 256 * lineRoom ≤ farthest) × (length (now hits) ≤ 256) × ((i : ℕ) → i < length (now hits) → getD (now hits) i 0 < entries (now book)) ⌝ }
     ensures { λ r. ⌜ ((σ : Setting) (es : List Stored) (held : List ℕ) → Entries σ es (now (d .entry)) (now (book .entry)) held → Emits (width (now (book .entry))) (now (out .entry)) at (gather (childLines es) (now (hits .entry))) (now (out .exit)) r) ⌝ }
 {
     let mut next = at;
@@ -41,17 +45,17 @@ pub(crate) fn emit_children(
 pub(crate) fn emit_found(
     out: &mut [u8],
     at: usize,
-    book: &[u64; 1353],
-    held: &[u64; 6345],
-    sets: &[u64; 2360],
+    book: &[u64; BOOK],
+    held: &[u64; HELD],
+    sets: &[u64; SETS],
     d: &[u8],
     p: &[u8],
     choice: Choice,
     name: usize,
     e: usize,
 ) -> usize
-    requires { ⌜ Known (now d) (now p) (now book) (now held) (now sets) × (at ≤ 2 ^ 49) × (name ≤ entries (now book)) × (e ≤ entries (now book)) ⌝ }
-    ensures { λ r. ⌜ (r ≤ at + 2 ^ 41) × ((σ : Setting) (es : List Stored) (s : Selection) → World σ es (now (d .entry)) (now (p .entry)) (now (book .entry)) (now (held .entry)) (now (sets .entry)) → Chooses (schema (now (book .entry))) s choice → Emits (width (now (book .entry))) (now (out .entry)) at (entryLines (nameAt es name) ++ informationAt σ es s e) (now (out .exit)) r) ⌝ }
+    requires { ⌜ Known (now d) (now p) (now book) (now held) (now sets) × (at + foundRoom ≤ farthest) × (name ≤ entries (now book)) × (e ≤ entries (now book)) ⌝ }
+    ensures { λ r. ⌜ (r ≤ at + foundRoom) × ((σ : Setting) (es : List Stored) (s : Selection) → World σ es (now (d .entry)) (now (p .entry)) (now (book .entry)) (now (held .entry)) (now (sets .entry)) → Chooses (schema (now (book .entry))) s choice → Emits (width (now (book .entry))) (now (out .entry)) at (entryLines (nameAt es name) ++ informationAt σ es s e) (now (out .exit)) r) ⌝ }
 {
     let next = emit_entry(out, at, book, d, name);
     emit_information(out, next, book, held, sets, d, p, choice, e)
@@ -61,15 +65,15 @@ pub(crate) fn emit_found(
 pub(crate) fn emit_matches(
     out: &mut [u8],
     at: usize,
-    book: &[u64; 1353],
-    held: &[u64; 6345],
-    sets: &[u64; 2360],
+    book: &[u64; BOOK],
+    held: &[u64; HELD],
+    sets: &[u64; SETS],
     d: &[u8],
     p: &[u8],
     choice: Choice,
     hits: &[usize],
 ) -> usize
-    requires { ⌜ Known (now d) (now p) (now book) (now held) (now sets) × (at ≤ 2 ^ 20) × (length (now hits) ≤ 256) × ((i : ℕ) → i < length (now hits) → getD (now hits) i 0 < entries (now book)) ⌝ }
+    requires { ⌜ Known (now d) (now p) (now book) (now held) (now sets) × (at + 256 * foundRoom ≤ farthest) × (length (now hits) ≤ 256) × ((i : ℕ) → i < length (now hits) → getD (now hits) i 0 < entries (now book)) ⌝ }
     ensures { λ r. ⌜ ((σ : Setting) (es : List Stored) (s : Selection) → World σ es (now (d .entry)) (now (p .entry)) (now (book .entry)) (now (held .entry)) (now (sets .entry)) → Chooses (schema (now (book .entry))) s choice → Emits (width (now (book .entry))) (now (out .entry)) at (gather (foundLines σ es s) (now (hits .entry))) (now (out .exit)) r) ⌝ }
 {
     let mut next = at;

@@ -8,6 +8,8 @@ use Rattle.rules.specs.Permission.{Read, DiscloseOnError}
 use Rattle.rules.specs.Decision.{Setting, ofType, ofValue, granted}
 use Rattle.rules.specs.Request.{Selection}
 use Rattle.rules.specs.Answer.{selected, information}
+use Rattle.rules.specs.declared.Outcome.{Outcome}
+use Rattle.rules.specs.declared.Outcome.the-variants.{Result, InsufficientAccessRights, NoSuchAttributeOrValue}
 use Rattle.answer_plan.specs.declared.Plan.{Plan}
 
 module _ (σ : Setting) (s : Selection) (n : Name) where
@@ -24,12 +26,12 @@ abbrev pub asksNothing : Selection → Bool
 asksNothing s = s .listed && isEmpty (s .types)
 
 -- "if nothing is left: an empty type list succeeds; otherwise 2 if a selected held type has DiscloseOnError, else 3"
-unfoldable pub readOutcome : Setting → Selection → Entry → ℕ
+unfoldable pub readOutcome : Setting → Selection → Entry → Outcome
 readOutcome σ s e =
     cond (isEmpty (information σ s e) && not (asksNothing s))
-    (cond (any (λ h. disclosing σ s (e .name) (h .type)) (e .held)) 2 3)
-    0
+    (cond (any (λ h. disclosing σ s (e .name) (h .type)) (e .held)) InsufficientAccessRights NoSuchAttributeOrValue)
+    Result
 
 -- the entry of index `k`, its name printed or not
 abbrev pub readPlan : ℕ → Bool → Plan
-readPlan k b = record { operation = 1; outcome = 0; more = 0; name = cond b (k + 1) 0; entry = k + 1; equal = 0; shown = 0 }
+readPlan k b = record { operation = 1; outcome = Result; more = 0; name = cond b (k + 1) 0; entry = k + 1; equal = 0; shown = 0 }

@@ -9,13 +9,19 @@ use answer_plan::Choice;
 use answer_plan::Plan;
 use answer_plan::absent;
 use answer_plan::chosen;
+use answer_plan::is_result;
 use answer_plan::refused;
 use rules::Found;
+use rules::Outcome;
+use rules::operation;
+use tables::book::BOOK;
 use tables::book::FIRST;
+use tables::held::HELD;
 use tables::held::bytes;
 use tables::sets::DISCLOSE_ON_ERROR;
 use tables::sets::READ;
 use tables::sets::RETURN_DN;
+use tables::sets::SETS;
 ghost use mathlib.Core.Path.{_≡_};
 ghost use mathlib.Core.Bool.{cond};
 ghost use mathlib.Core.List.{List, map};
@@ -42,9 +48,9 @@ ghost use Rattle.answer_read.specs.Read.{readable, disclosing, readOutco
 
 // Is something returned for the value in row `i`, held by the entry of index `k`: is its type chosen, with Read, and, if values are wanted, has it Read itself?
 fn readable_row(
-    book: &[u64; 1353],
-    held: &[u64; 6345],
-    sets: &[u64; 2360],
+    book: &[u64; BOOK],
+    held: &[u64; HELD],
+    sets: &[u64; SETS],
     d: &[u8],
     p: &[u8],
     choice: Choice,
@@ -69,9 +75,9 @@ fn readable_row(
 
 // Is anything returned of the entry of index `k`?
 fn readable_any(
-    book: &[u64; 1353],
-    held: &[u64; 6345],
-    sets: &[u64; 2360],
+    book: &[u64; BOOK],
+    held: &[u64; HELD],
+    sets: &[u64; SETS],
     d: &[u8],
     p: &[u8],
     choice: Choice,
@@ -92,7 +98,7 @@ fn readable_any(
 }
 
 // Is the type of this rank chosen, with DiscloseOnError in the entry of index `k`?
-fn disclosing_rank(sets: &[u64; 2360], choice: Choice, k: usize, rank: usize) -> bool
+fn disclosing_rank(sets: &[u64; SETS], choice: Choice, k: usize, rank: usize) -> bool
     requires { ⌜ (k < 256) × (rank < 64) × ((d p : Bytes) × (book held : List ℕ) × Known d p book held (now sets)) ⌝ }
     ensures { λ r. ⌜ ((σ : Setting) (es : List Stored) (s : Selection) (d p : Bytes) (book held : List ℕ) → World σ es d p book held (now (sets .entry)) → Chooses (schema book) s choice → k < length es → rank < length (schema book) → r ≡ disclosing σ s (getD es k blank .name) (typeAt (schema book) rank)) ⌝ }
 {
@@ -104,9 +110,9 @@ fn disclosing_rank(sets: &[u64; 2360], choice: Choice, k: usize, rank: usize) ->
 
 // Has a chosen type that the entry of index `k` holds DiscloseOnError?
 fn discloses(
-    book: &[u64; 1353],
-    held: &[u64; 6345],
-    sets: &[u64; 2360],
+    book: &[u64; BOOK],
+    held: &[u64; HELD],
+    sets: &[u64; SETS],
     choice: Choice,
     k: usize,
 ) -> bool
@@ -124,29 +130,30 @@ fn discloses(
     false
 }
 
-// The outcome for an open entry, that of index `k`: 0, or where nothing is left 2 if a chosen type has DiscloseOnError, else 3.
+// The outcome for an open entry, that of index `k`: a result, or where nothing is left insufficient access rights if a chosen type has DiscloseOnError, else
+// no such attribute or value.
 fn outcome_of(
-    book: &[u64; 1353],
-    held: &[u64; 6345],
-    sets: &[u64; 2360],
+    book: &[u64; BOOK],
+    held: &[u64; HELD],
+    sets: &[u64; SETS],
     d: &[u8],
     p: &[u8],
     choice: Choice,
     k: usize,
-) -> u64
+) -> Outcome
     requires { ⌜ Known (now d) (now p) (now book) (now held) (now sets) × (k < entries (now book)) ⌝ }
     ensures { λ r. ⌜ ((σ : Setting) (es : List Stored) (s : Selection) → World σ es (now (d .entry)) (now (p .entry)) (now (book .entry)) (now (held .entry)) (now (sets .entry)) → Chooses (schema (now (book .entry))) s choice → r ≡ readOutcome σ s (entryOf (getD es k blank))) ⌝ }
 {
     if choice.nothing {
-        return 0;
+        return Outcome::Result;
     }
     if readable_any(book, held, sets, d, p, choice, k) {
-        return 0;
+        return Outcome::Result;
     }
     if discloses(book, held, sets, choice, k) {
-        return 2;
+        return Outcome::InsufficientAccessRights;
     }
-    3
+    Outcome::NoSuchAttributeOrValue
 }
 
 // The number of the entry of index `k` if its name is printed, else 0.
@@ -166,8 +173,8 @@ fn found(k: usize, named: bool) -> Plan
     ensures { λ r. ⌜ r ≡ readPlan k named ⌝ }
 {
     Plan {
-        operation: 1,
-        outcome: 0,
+        operation: operation::READ,
+        outcome: Outcome::Result,
         more: 0,
         name: number(k, named),
         entry: k + 1,
@@ -178,9 +185,9 @@ fn found(k: usize, named: bool) -> Plan
 
 // The plan for an open entry, that of index `k`.
 fn read_open(
-    book: &[u64; 1353],
-    held: &[u64; 6345],
-    sets: &[u64; 2360],
+    book: &[u64; BOOK],
+    held: &[u64; HELD],
+    sets: &[u64; SETS],
     d: &[u8],
     p: &[u8],
     choice: Choice,
@@ -190,17 +197,17 @@ fn read_open(
     ensures { λ r. ⌜ ((hits : List ℕ) → Sound (entries (now (book .entry))) r hits) × ((σ : Setting) (es : List Stored) (s : Selection) (hits : List ℕ) → World σ es (now (d .entry)) (now (p .entry)) (now (book .entry)) (now (held .entry)) (now (sets .entry)) → Chooses (schema (now (book .entry))) s choice → planned σ es s r hits ≡ Answer.readEntry σ s (entryOf (getD es k blank))) ⌝ }
 {
     let outcome = outcome_of(book, held, sets, d, p, choice, k);
-    if outcome != 0 {
-        return refused(1, outcome);
+    if !is_result(outcome) {
+        return refused(operation::READ, outcome);
     }
     found(k, may_entry(sets, k + 1, RETURN_DN))
 }
 
 // The plan for entry number `b`; the root, 0, is no entry.
 fn read_entry(
-    book: &[u64; 1353],
-    held: &[u64; 6345],
-    sets: &[u64; 2360],
+    book: &[u64; BOOK],
+    held: &[u64; HELD],
+    sets: &[u64; SETS],
     d: &[u8],
     p: &[u8],
     choice: Choice,
@@ -211,20 +218,20 @@ fn read_entry(
     ensures { λ r. ⌜ ((hits : List ℕ) → Sound (entries (now (book .entry))) r hits) × ((σ : Setting) (es : List Stored) (n : Name) (base : Found) (s : Selection) (hits : List ℕ) → World σ es (now (d .entry)) (now (p .entry)) (now (book .entry)) (now (held .entry)) (now (sets .entry)) → Chooses (schema (now (book .entry))) s choice → Base σ es n base missing → base ≡ At b → planned σ es s r hits ≡ Answer.answer σ (map entryOf es) n (Request.read s)) ⌝ }
 {
     let opened = opening(sets, b, READ);
-    if opened != 0 {
-        return withheld(1, opened, missing);
+    if !is_result(opened) {
+        return withheld(operation::READ, opened, missing);
     }
     if b == 0 {
-        return absent(1, missing);
+        return absent(operation::READ, missing);
     }
     read_open(book, held, sets, d, p, choice, b - 1)
 }
 
 // The plan of a read of the entry that is named: all its types or those chosen, with their values or without.
 pub fn read(
-    book: &[u64; 1353],
-    held: &[u64; 6345],
-    sets: &[u64; 2360],
+    book: &[u64; BOOK],
+    held: &[u64; HELD],
+    sets: &[u64; SETS],
     d: &[u8],
     p: &[u8],
     choice: Choice,
@@ -236,6 +243,6 @@ pub fn read(
     let base = target.base;
     match base {
         Found::At(b) => read_entry(book, held, sets, d, p, choice, b, target.missing),
-        Found::Nothing => absent(1, target.missing),
+        Found::Nothing => absent(operation::READ, target.missing),
     }
 }

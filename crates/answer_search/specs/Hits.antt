@@ -1,15 +1,24 @@
--- The entries that search returns, by number.
+-- The entries that search returns, by number and index.
 use Prim.Native.Nat.{ℕ, suc}
 use mathlib.Core.Bool.{Bool, _&&_}
-use mathlib.Core.List.{List}
+use mathlib.Core.List.{List, []}
 use lib.Dec.{eqb}
+use lib.ListN.{length}
 use Rattle.rules.specs.Directory.{Stored}
 use Rattle.rules.specs.Decision.{Setting}
 use Rattle.rules.specs.Filter.{Filter}
 use Rattle.rules.specs.Numbers.{withinNumber}
+use Rattle.rules.specs.declared.Found.{Found}
+use Rattle.rules.specs.declared.Found.the-variants.{At, Nothing}
+use Rattle.answer_entry.specs.Passing.{passing}
 use Rattle.answer_entry.specs.Returned.{returnableAt}
 use Rattle.filter_tree.specs.Tree.{matchesAt}
 
 -- search returns the entry of index `k`, of base number `b`
 unfoldable pub foundAt : Setting → List Stored → ℕ → ℕ → Filter → ℕ → Bool
 foundAt σ es b subset f k = withinNumber es subset b (suc k) && (returnableAt σ es (suc k) (eqb (suc k) b) && matchesAt σ es f k)
+
+-- the indices of those that search returns, of the base; none of an absent one
+unfoldable pub searchFound : Setting → List Stored → ℕ → Filter → Found → List ℕ
+searchFound σ es subset f (At b) = passing (foundAt σ es b subset f) (length es)
+searchFound σ es subset f Nothing = []

@@ -7,14 +7,21 @@ use answer_plan::Plan;
 use answer_plan::absent;
 use directory_lookup::climb::climbs;
 use filter_item::mask::mask;
+use filter_lines::lines::ROWS;
 use filter_lines::lines::note;
 use filter_tree::tree::matches;
 use rules::Found;
+use rules::operation;
+use rules::subset::BASE;
+use rules::subset::ONE_LEVEL;
+use tables::book::BOOK;
 use tables::book::ENTRIES;
 use tables::book::PARENT;
 use tables::book::WIDTH;
 use tables::book::schema;
+use tables::held::HELD;
 use tables::sets::DISCLOSE_ON_ERROR;
+use tables::sets::SETS;
 ghost use mathlib.Core.Path.{_≡_};
 ghost use mathlib.Core.List.{List, map};
 ghost use Prim.Native.Nat.{ℕ, suc, _+_, _*_, _≤_, _<_};
@@ -35,14 +42,13 @@ ghost use Rattle.tables.specs.Book as Book;
 ghost use Rattle.tables.specs.World.{World, Entries, Known};
 ghost use Rattle.answer_plan.specs.Plan.{planned};
 ghost use Rattle.answer_plan.specs.Sound.{Base, Numbered, Sound};
-ghost use Rattle.answer_entry.specs.Passing.{Indices, passing};
-ghost use Rattle.filter_lines.specs.Lines.{Lines, Typed, positionAt};
+ghost use Rattle.answer_entry.specs.Passing.{Indices, passing, over};
+ghost use Rattle.filter_lines.specs.Lines.{LINES, Lines, Typed, positionAt};
 ghost use Rattle.filter_item.specs.Mask.{Masks};
-ghost use Rattle.answer_search.specs.Hits.{foundAt};
+ghost use Rattle.answer_search.specs.Hits.{foundAt, searchFound};
 ghost use Rattle.answer_search.specs.Query.{Seeks};
 
-// What a search asks: at most how many entries (0 is no limit), the subset (0 the base, 1 its children, 2 the base and all below), and the position of the
-// filter's first line.
+// What a search asks: at most how many entries (0 is no limit), the subset, and the position of the filter's first line.
 pub struct Query {
     pub limit: u64,
     pub subset: u64,
@@ -58,14 +64,14 @@ pub struct Scope {
 }
 
 // Is the entry of index `k` in the subset of base number `b`?
-fn within(book: &[u64; 1353], b: usize, subset: u64, k: usize) -> bool
+fn within(book: &[u64; BOOK], b: usize, subset: u64, k: usize) -> bool
     requires { ⌜ (k < entries (now book)) × ((σ : Setting) × (es : List Stored) × (d : Bytes) × (held : List ℕ) × Entries σ es d (now book) held) ⌝ }
     ensures { λ r. ⌜ ((σ : Setting) (es : List Stored) (d : Bytes) (held : List ℕ) → Entries σ es d (now (book .entry)) held → r ≡ withinNumber es subset b (suc k)) ⌝ }
 {
-    if subset == 0 {
+    if subset == BASE {
         return k + 1 == b;
     }
-    if subset == 1 {
+    if subset == ONE_LEVEL {
         return book[PARENT + k] as usize == b;
     }
     climbs(book, b, k + 1)
@@ -73,13 +79,13 @@ fn within(book: &[u64; 1353], b: usize, subset: u64, k: usize) -> bool
 
 // Does search return the entry of index `k`? It is within the subset, may be returned, and the filter is true of it.
 fn found_at(
-    book: &[u64; 1353],
-    held: &[u64; 6345],
-    sets: &[u64; 2360],
+    book: &[u64; BOOK],
+    held: &[u64; HELD],
+    sets: &[u64; SETS],
     d: &[u8],
     p: &[u8],
     q: &[u8],
-    rows: &[u64; 1596],
+    rows: &[u64; ROWS],
     scope: Scope,
     k: usize,
 ) -> bool
@@ -97,13 +103,13 @@ fn found_at(
 
 // Notes the indices of the entries that search returns, in order; how many they are.
 fn found(
-    book: &[u64; 1353],
-    held: &[u64; 6345],
-    sets: &[u64; 2360],
+    book: &[u64; BOOK],
+    held: &[u64; HELD],
+    sets: &[u64; SETS],
     d: &[u8],
     p: &[u8],
     q: &[u8],
-    rows: &[u64; 1596],
+    rows: &[u64; ROWS],
     scope: Scope,
     hits: &mut [usize; 256],
 ) -> usize
@@ -125,9 +131,9 @@ fn found(
 
 // The plan of a search: the entries of the subset that may be returned and that the filter is true of, within the size limit.
 pub fn search(
-    book: &[u64; 1353],
-    held: &[u64; 6345],
-    sets: &[u64; 2360],
+    book: &[u64; BOOK],
+    held: &[u64; HELD],
+    sets: &[u64; SETS],
     d: &[u8],
     p: &[u8],
     q: &[u8],
@@ -135,14 +141,14 @@ pub fn search(
     query: Query,
     hits: &mut [usize; 256],
 ) -> Plan
-    requires { ⌜ Known (now d) (now p) (now book) (now held) (now sets) × Numbered (entries (now book)) (target .base) (target .missing) × (length (now hits) ≡ 256) × (length (now q) ≤ (5 * width (now book) + 1) * 265) ⌝ }
-    ensures { λ r. ⌜ Sound (entries (now (book .entry))) r (now (hits .exit)) × ((σ : Setting) (es : List Stored) (g : Grammar) (n : Name) (s : Search) → World σ es (now (d .entry)) (now (p .entry)) (now (book .entry)) (now (held .entry)) (now (sets .entry)) → Base σ es n (target .base) (target .missing) → Seeks g (width (now (book .entry))) (now (q .entry)) s query → planned σ es (s .selection) r (now (hits .exit)) ≡ answer σ (map entryOf es) n (Request.search s)) ⌝ }
+    requires { ⌜ Known (now d) (now p) (now book) (now held) (now sets) × Numbered (entries (now book)) (target .base) (target .missing) × (length (now hits) ≡ 256) × (length (now q) ≤ (5 * width (now book) + 1) * LINES) ⌝ }
+    ensures { λ r. ⌜ Sound (entries (now (book .entry))) r (now (hits .exit)) × ((σ : Setting) (es : List Stored) (g : Grammar) (n : Name) (s : Search) → World σ es (now (d .entry)) (now (p .entry)) (now (book .entry)) (now (held .entry)) (now (sets .entry)) → Base σ es n (target .base) (target .missing) → Seeks g (width (now (book .entry))) (now (q .entry)) s query → planned σ es (s .selection) r (now (hits .exit)) ≡ answer σ (map entryOf es) n (Request.search s)) × ((σ : Setting) (es : List Stored) (g : Grammar) (s : Search) → World σ es (now (d .entry)) (now (p .entry)) (now (book .entry)) (now (held .entry)) (now (sets .entry)) → Seeks g (width (now (book .entry))) (now (q .entry)) s query → now (hits .exit) ≡ over (searchFound σ es (s .subset) (s .filter) (target .base)) (now (hits .entry))) ⌝ }
 {
     let base = target.base;
     let Found::At(b) = base else {
-        return absent(4, target.missing);
+        return absent(operation::SEARCH, target.missing);
     };
-    let mut rows: [u64; 1596] = [0; 1596];
+    let mut rows: [u64; ROWS] = [0; ROWS];
     let lines = note(
         schema(book),
         book[WIDTH] as usize,
@@ -158,5 +164,5 @@ pub fn search(
     };
     let count = found(book, held, sets, d, p, q, &rows, scope, hits);
     let open = may_entry(sets, b, DISCLOSE_ON_ERROR);
-    returned(4, target.missing, open, query.limit, count)
+    returned(operation::SEARCH, target.missing, open, query.limit, count)
 }

@@ -2,6 +2,7 @@
 // lines of the entries begin, the book where their naming values do. Of a column no more is copied than there are types or entries.
 use directory_sheet::Notes;
 use rules::Format;
+use tables::book::BOOK;
 use tables::book::ENTRIES;
 use tables::book::FIRST;
 use tables::book::LENGTH;
@@ -15,6 +16,7 @@ ghost use mathlib.Core.Path.{_≡_};
 ghost use Prim.Native.Nat.{ℕ, _+_, _≤_, _<_};
 ghost use lib.ListN.{length, getD};
 ghost use Rattle.rules.specs.Sheet.{Usable};
+ghost use Rattle.tables.specs.Book.{BOOK};
 ghost use Rattle.directory_book.specs.Filled.{put, placesOf, filled, OfDirectory, StandsFor};
 
 // The first `n` numbers of `column` into the book, from `at` on.
@@ -54,8 +56,8 @@ fn put_places(book: &mut [u64], w: usize, lines: &[usize], n: usize)
 }
 
 // The book of what is noted of a directory in this format.
-pub fn note(f: Format, notes: Notes, book: &mut [u64; 1353])
-    requires { ⌜ Usable f × OfDirectory f notes × (length (now book) ≡ 1353) ⌝ }
+pub fn note(f: Format, notes: Notes, book: &mut [u64; BOOK])
+    requires { ⌜ Usable f × OfDirectory f notes × (length (now book) ≡ BOOK) ⌝ }
     ensures { λ _. ⌜ (now (book .exit) ≡ filled (f .width) notes (now (book .entry))) × StandsFor f notes (now (book .exit)) ⌝ }
 {
     let types = notes.types;

@@ -11,6 +11,10 @@ use Rattle.directory_ruling.specs.Mark.{Mark}
 use Rattle.directory_ruling.specs.declared.Ruling.{Ruling}
 use Rattle.directory_ruling.specs.Rulings.{refusing, ruledOf}
 
+-- how many depths are kept: of the root, which is 0, and of 256 entries
+abbrev pub depthCount : ℕ
+depthCount = 257
+
 -- an entry line by the tests of its parent's number, of the entry before it, of the count and of its depth
 abbrev pub placeNumber : Bool → Bool → Bool → Bool → ℕ
 placeNumber high lacks many deep = cond high 2 (cond lacks 6 (cond many 3 (cond deep 3 0)))
@@ -24,6 +28,6 @@ unfoldable pub entryRuling : ℕ → List ℕ → ℕ → Bool → Line → Byte
 entryRuling top depths count lacks x s ks table ms =
     cond (columnsFit top x)
     (cond (eqb (x .kind) 2)
-    (cond (eqb (placeRefusal depths count lacks (x .a)) 0) (ruledOf (x .a) (x .b) x s ks table ms) (refusing (placeRefusal depths count lacks (x .a))))
+    (cond (eqb (placeRefusal depths count lacks (x .a)) 0) (ruledOf (x .a) (x .b) (x .place) (x .length) s ks table ms) (refusing (placeRefusal depths count lacks (x .a))))
     (refusing 3))
     (refusing 2)

@@ -1,32 +1,40 @@
 // An entry line, K 2: its place below its parent, and the ruling on its naming value.
+use directory_ruling::Claim;
+use directory_ruling::MARKS;
 use directory_ruling::Ruling;
 use directory_ruling::refusing;
 use directory_ruling::ruled;
+use rules::refusal;
 use sheet_form::columns::directory_columns;
+use sheet_kind::Kind;
+use sheet_kind::is;
 use sheet_line::Line;
 ghost use mathlib.Core.Path.{_≡_};
 ghost use Prim.Native.Nat.{_≤_};
 ghost use lib.ListN.{length};
 ghost use Rattle.directory_ruling.specs.Rulings.{ValueSought, Decides};
-ghost use Rattle.directory_entry.specs.EntryLine.{placeRefusal, entryRuling};
+ghost use Rattle.directory_entry.specs.EntryLine.{depthCount, placeRefusal, entryRuling};
+
+// How many depths are kept: of the root, which is 0, and of 256 entries.
+pub const DEPTHS: usize = 257;
 
 // What refuses an entry line after `count` entries whatever its value is, or 0. The entry before it lacks its naming value or not.
-fn misplaced(depths: &[usize; 257], count: usize, lacks: bool, a: u64) -> u64
-    requires { ⌜ (count ≤ 256) × (length (now depths) ≡ 257) ⌝ }
+fn misplaced(depths: &[usize; DEPTHS], count: usize, lacks: bool, a: u64) -> u64
+    requires { ⌜ (count ≤ 256) × (length (now depths) ≡ depthCount) ⌝ }
     ensures { λ r. ⌜ r ≡ placeRefusal (now (depths .entry)) count lacks a ⌝ }
 {
     if (count as u64) < a {
-        return 2;
+        return refusal::NOT_ALLOWED;
     }
     if lacks {
-        return 6;
+        return refusal::NAMING_VALUE_NOT_HELD;
     }
     if 256 <= count {
-        return 3;
+        return refusal::OUT_OF_ORDER;
     }
     let parent = a as usize;
     if 8 <= depths[parent] {
-        return 3;
+        return refusal::OUT_OF_ORDER;
     }
     0
 }
@@ -36,25 +44,32 @@ pub fn entry_line(
     s: &[u8],
     top: u64,
     schema: &[u64],
-    depths: &[usize; 257],
-    marks: &[usize; 4419],
+    depths: &[usize; DEPTHS],
+    marks: &[usize; MARKS],
     count: usize,
     lacks: bool,
     line: Line,
 ) -> Ruling
-    requires { ⌜ ValueSought (now s) (now schema) (now marks) line × (count ≤ 256) × (length (now depths) ≡ 257) ⌝ }
+    requires { ⌜ ValueSought (now s) (now schema) (now marks) line × (count ≤ 256) × (length (now depths) ≡ depthCount) ⌝ }
     ensures { λ r. ⌜ Decides (now (s .entry)) (now (schema .entry)) (now (marks .entry)) (entryRuling top (now (depths .entry)) count lacks line) r ⌝ }
 {
     if !directory_columns(line, top) {
-        return refusing(2);
+        return refusing(refusal::NOT_ALLOWED);
     }
-    if line.kind != 2 {
-        return refusing(3);
+    if !is(line.kind, Kind::Entry) {
+        return refusing(refusal::OUT_OF_ORDER);
     }
     let refusal = misplaced(depths, count, lacks, line.a);
     if refusal != 0 {
         return refusing(refusal);
     }
     let rank = directory_schema::rank(schema, 0, line.b);
-    ruled(s, schema, marks, line.a as usize, line.b, rank, line)
+    let c = Claim {
+        owner: line.a as usize,
+        attribute: line.b,
+        rank,
+        place: line.place,
+        length: line.length,
+    };
+    ruled(s, schema, marks, c)
 }

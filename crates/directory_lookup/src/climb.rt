@@ -1,4 +1,5 @@
 // Entries below others: from an entry's number up by the numbers of the parents, each below the number before it.
+use tables::book::BOOK;
 use tables::book::PARENT;
 ghost use mathlib.Core.Path.{_≡_};
 ghost use Prim.Native.Nat.{ℕ, _≤_};
@@ -11,7 +12,7 @@ ghost use Rattle.tables.specs.Book.{entries};
 ghost use Rattle.tables.specs.World.{Entries, Listed};
 
 // Is entry number `e` number `b` or below it?
-pub fn climbs(book: &[u64; 1353], b: usize, e: usize) -> bool
+pub fn climbs(book: &[u64; BOOK], b: usize, e: usize) -> bool
     requires { ⌜ ((d : Bytes) × Listed d (now book)) × (e ≤ entries (now book)) ⌝ }
     ensures { λ r. ⌜ ((σ : Setting) (es : List Stored) (d : Bytes) (held : List ℕ) → Entries σ es d (now (book .entry)) held → r ≡ Numbers.climbs es e b e) ⌝ }
 {

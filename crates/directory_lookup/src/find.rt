@@ -4,6 +4,7 @@ use name::equal_by;
 use name::syntax_of;
 use rules::Found;
 use sheet_line::Taken;
+use tables::book::BOOK;
 use tables::book::ENTRIES;
 use tables::book::NAMING;
 use tables::book::PARENT;
@@ -34,7 +35,7 @@ pub enum Step {
 }
 
 // Is the entry of index `k` the child of `parent` with the naming part `t`, `v`? The type's syntax is `s`. Numbers are compared before bytes.
-fn is_child(book: &[u64; 1353], d: &[u8], k: usize, parent: usize, t: u64, s: u64, v: &[u8]) -> bool
+fn is_child(book: &[u64; BOOK], d: &[u8], k: usize, parent: usize, t: u64, s: u64, v: &[u8]) -> bool
     requires { ⌜ Listed (now d) (now book) × (k < entries (now book)) ⌝ }
     ensures { λ r. ⌜ r ≡ isChild (now (book .entry)) (now (d .entry)) k parent t s (now (v .entry)) ⌝ }
 {
@@ -44,11 +45,15 @@ fn is_child(book: &[u64; 1353], d: &[u8], k: usize, parent: usize, t: u64, s: u6
     if t != book[NAMING + k] {
         return false;
     }
-    equal_by(s, v, naming_value(book, d, k))
+    let u = naming_value(book, d, k);
+    if !value_syntax::same(s, v, u) {
+        return false;
+    }
+    equal_by(s, v, u)
 }
 
 // The number of the child of entry `parent` with the naming part `t`, `v`. The type's syntax is `s`. A child stands after its parent.
-fn child_by(book: &[u64; 1353], d: &[u8], parent: usize, t: u64, s: u64, v: &[u8]) -> Found
+fn child_by(book: &[u64; BOOK], d: &[u8], parent: usize, t: u64, s: u64, v: &[u8]) -> Found
     requires { ⌜ Listed (now d) (now book) ⌝ }
     ensures { λ r. ⌜ UpTo (entries (now (book .entry))) r × ((σ : Setting) (es : List Stored) (held : List ℕ) → Entries σ es (now (d .entry)) (now (book .entry)) held → syntaxIn (Book.schema (now (book .entry))) t ≡ At s → r ≡ childFrom (σ .schema) parent (part t (now (v .entry))) es 0) ⌝ }
 {
@@ -64,7 +69,7 @@ fn child_by(book: &[u64; 1353], d: &[u8], parent: usize, t: u64, s: u64, v: &[u8
 }
 
 // The number of the child of entry `parent` with the naming part `t`, `v`.
-pub fn child(book: &[u64; 1353], d: &[u8], parent: usize, t: u64, v: &[u8]) -> Found
+pub fn child(book: &[u64; BOOK], d: &[u8], parent: usize, t: u64, v: &[u8]) -> Found
     requires { ⌜ Listed (now d) (now book) ⌝ }
     ensures { λ r. ⌜ UpTo (entries (now (book .entry))) r × ((σ : Setting) (es : List Stored) (held : List ℕ) → Entries σ es (now (d .entry)) (now (book .entry)) held → r ≡ childFrom (σ .schema) parent (part t (now (v .entry))) es 0) ⌝ }
 {
@@ -75,7 +80,7 @@ pub fn child(book: &[u64; 1353], d: &[u8], parent: usize, t: u64, v: &[u8]) -> F
 }
 
 // One part down from entry `from`, by the K 9 line at position `j` of the sheet `s`.
-pub fn down(book: &[u64; 1353], d: &[u8], from: usize, s: &[u8], j: usize) -> Step
+pub fn down(book: &[u64; BOOK], d: &[u8], from: usize, s: &[u8], j: usize) -> Step
     requires { ⌜ Listed (now d) (now book) ⌝ }
     ensures { λ r. ⌜ Within (entries (now (book .entry))) r × ((σ : Setting) (es : List Stored) (held : List ℕ) → Entries σ es (now (d .entry)) (now (book .entry)) held → r ≡ stepOf (σ .schema) es from (now (s .entry)) (takenAt (width (now (book .entry))) (now (s .entry)) j)) ⌝ }
 {
@@ -93,7 +98,7 @@ pub fn down(book: &[u64; 1353], d: &[u8], from: usize, s: &[u8], j: usize) -> St
 }
 
 // The number of the entry named by the `n` K 9 lines at position `i` of the sheet `s`.
-pub fn resolve(book: &[u64; 1353], d: &[u8], s: &[u8], i: usize, n: usize) -> Found
+pub fn resolve(book: &[u64; BOOK], d: &[u8], s: &[u8], i: usize, n: usize) -> Found
     requires { ⌜ Listed (now d) (now book) ⌝ }
     ensures { λ r. ⌜ UpTo (entries (now (book .entry))) r × ((σ : Setting) (es : List Stored) (held : List ℕ) → Entries σ es (now (d .entry)) (now (book .entry)) held → r ≡ walk (σ .schema) es 0 (partsOf n (linesAt (width (now (book .entry))) (now (s .entry)) i))) ⌝ }
 {

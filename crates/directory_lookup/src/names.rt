@@ -1,5 +1,6 @@
 // Names that stand as K 9 lines on two sheets, compared part by part where they stand.
 use sheet_line::Taken;
+use tables::book::BOOK;
 use tables::book::WIDTH;
 use tables::book::schema;
 ghost use mathlib.Core.Path.{_≡_};
@@ -21,7 +22,7 @@ fn same_part(types: &[u64], a: u64, v: &[u8], b: u64, u: &[u8]) -> bool
 
 // Is the name of the `m` parts at position `j` of `t` at or below the name of the `n` parts at position `i` of `s`?
 pub fn covers(
-    book: &[u64; 1353],
+    book: &[u64; BOOK],
     s: &[u8],
     i: usize,
     n: usize,

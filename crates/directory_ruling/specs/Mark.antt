@@ -7,7 +7,7 @@ use mathlib.Core.Bool.{Bool, true, false, _&&_, cond}
 use mathlib.Core.List.{List, [], _∷_}
 use lib.Dec.{eqb}
 use lib.Bits.{bitOr}
-use lib.ListN.{length, getD, take, drop, set}
+use lib.ListN.{length, getD, take, drop, set, replicate}
 use Rattle.rules.specs.Lists.{any}
 use Rattle.rules.specs.Sheet.{Bytes}
 use Rattle.rules.specs.Value.{same}
@@ -47,9 +47,9 @@ labelAt key v = digest key v / 2048 % 2048 * 65536 + key
 abbrev pub labelOf : Bytes → Mark → ℕ
 labelOf s m = labelAt (m .key) (markedBytes s m)
 
--- the slot of a value under a key: the digest's 14 high bits, none of them the bucket's
+-- the slot of a value under a key: the digest's 16 high bits, none of them the bucket's
 abbrev pub slotAt : ℕ → Bytes → ℕ
-slotAt key v = digest key v / 262144 % 16384
+slotAt key v = digest key v / 65536 % 65536
 
 -- and that of a mark's value
 abbrev pub slotOf : Bytes → Mark → ℕ
@@ -87,9 +87,9 @@ heads = 2115
 abbrev pub slots : ℕ
 slots = 4163
 
--- and where they end, after 256 words of 64 slots
+-- and where they end, after 1,024 words of 64 slots
 abbrev pub tableLength : ℕ
-tableLength = 4419
+tableLength = 5187
 
 -- the newest mark of bucket `b` by its number, 0 where there is none
 abbrev pub headAt : List ℕ → ℕ → ℕ
@@ -112,7 +112,14 @@ pub record Room (t : List ℕ) (n : ℕ) (r : Ruling) : Type 0 where
   pub table : length t ≡ tableLength
   pub number : n < heads
   pub bucket : r .bucket < 2048
-  pub slot : r .slot < 16384
+  pub slot : r .slot < 65536
+
+-- the table of the marks `ms`, and nothing else in it
+unfoldable pub tableOf : Bytes → List Mark → List ℕ
+tableOf s [] = replicate tableLength 0
+tableOf s (m ∷ ms) =
+    let t = tableOf s ms in
+    withMark t (length ms) (record { refusal = 0; rank = 0; bucket = bucketOf s m; slot = slotOf s m; mark = packed (labelOf s m) m (headAt t (bucketOf s m)) })
 
 -- ---- buckets as chains
 
@@ -139,6 +146,7 @@ Slotted s t (m ∷ ms) = (slotIn t (slotOf s m) ≡ true) × Slotted s t ms
 
 -- and the newest of each bucket
 pub record Chain (s : Bytes) (t : List ℕ) (ms : List Mark) : Type 0 where
+  pub whole : t ≡ tableOf s ms
   pub table : length t ≡ tableLength
   pub chained : Chained s t ms
   pub newest : (b : ℕ) → b < 2048 → headAt t b ≡ lastIn s b ms

@@ -4,37 +4,37 @@ use mathlib.Core.Path.{_≡_}
 use mathlib.Core.Bool.{cond}
 use mathlib.Core.Option.{Option}
 use mathlib.Core.List.{List}
-use lib.ListN.{length}
+use lib.ListN.{length, take, drop}
 use Rattle.rules.specs.Sheet.{Bytes}
 use Rattle.rules.specs.Name.{allowed}
 use Rattle.rules.specs.Directory.{Stored, Reading}
 use Rattle.rules.specs.Places.{schemaOf}
 use Rattle.sheet_line.specs.declared.Line.{Line}
-use Rattle.sheet_line.specs.Line.{bytesOf}
 use Rattle.directory_schema.specs.Schema.{rankOf, Rising}
-use Rattle.directory_ruling.specs.Mark.{Mark, mark, bucketAt, labelAt, slotAt, packed, headAt, MarkWithin, Chain, heads}
-use Rattle.directory_ruling.specs.Twins.{keyOf, twins}
+use Rattle.directory_ruling.specs.Mark.{Mark, mark, bucketOf, labelOf, slotOf, packed, headAt, MarkWithin, Chain, heads}
+use Rattle.directory_ruling.specs.Twins.{lastOwner, keyOf, twins}
 use Rattle.directory_ruling.specs.declared.Ruling.{Ruling}
+use Rattle.directory_ruling.specs.declared.Claim.{Claim}
 
 -- a line refused
 abbrev pub refusing : ℕ → Ruling
 refusing n = record { refusal = n; rank = 0; bucket = 0; slot = 0; mark = 0 }
 
--- the mark of a line's value, of this owner and type
-abbrev pub markOf : List ℕ → ℕ → ℕ → Line → Mark
-markOf ks owner t x = mark (keyOf ks owner t) (x .place) (x .length)
+-- the mark of a value of this owner and type, by where its bytes begin and how many they are
+abbrev pub markOf : List ℕ → ℕ → ℕ → ℕ → ℕ → Mark
+markOf ks owner t place size = mark (keyOf ks owner t) place size
 
 -- a value that the schema allows and its owner does not have yet
-abbrev pub marking : Bytes → List ℕ → List ℕ → ℕ → ℕ → Line → Ruling
-marking s ks table owner t x =
-    let key = keyOf ks owner t in
-    let v = bytesOf s x in
-    record { refusal = 0; rank = rankOf ks t; bucket = bucketAt key v; slot = slotAt key v; mark = packed (labelAt key v) (markOf ks owner t x) (headAt table (bucketAt key v)) }
+abbrev pub marking : Bytes → List ℕ → List ℕ → ℕ → ℕ → ℕ → ℕ → Ruling
+marking s ks table owner t place size =
+    let m = markOf ks owner t place size in
+    record { refusal = 0; rank = rankOf ks t; bucket = bucketOf s m; slot = slotOf s m; mark = packed (labelOf s m) m (headAt table (bucketOf s m)) }
 
--- a value of type `t` that the line brings its owner
-unfoldable pub ruledOf : ℕ → ℕ → Line → Bytes → List ℕ → List ℕ → List Mark → Ruling
-ruledOf owner t x s ks table ms =
-    cond (allowed (schemaOf ks) t (bytesOf s x)) (cond (twins s ks owner t (bytesOf s x) ms) (refusing 5) (marking s ks table owner t x)) (refusing 4)
+-- a value of type `t` that a line brings its owner
+unfoldable pub ruledOf : ℕ → ℕ → ℕ → ℕ → Bytes → List ℕ → List ℕ → List Mark → Ruling
+ruledOf owner t place size s ks table ms =
+    let v = take size (drop place s) in
+    cond (allowed (schemaOf ks) t v) (cond (twins s ks owner t v ms) (refusing 5) (marking s ks table owner t place size)) (refusing 4)
 
 -- what deciding needs
 pub record Ready (s : Bytes) (ks table : List ℕ) (ms : List Mark) : Type 0 where
@@ -54,11 +54,13 @@ pub record ValueSought (s : Bytes) (ks table : List ℕ) (x : Line) : Type 0 whe
   pub ready : Ready s ks table all
   pub within : MarkWithin s (mark 0 (x .place) (x .length))
 
--- and is claimed for this owner as one of type `t`, of this rank
-pub record Claimed (s : Bytes) (ks table : List ℕ) (owner t rank : ℕ) (x : Line) : Type 0 where
-  pub sought : ValueSought s ks table x
-  pub ranked : rank ≡ rankOf ks t
-  pub low : owner ≤ 513
+-- and so may a value that is claimed
+pub record Claimed (s : Bytes) (ks table : List ℕ) (c : Claim) : Type 0 where
+  pub all : List Mark
+  pub ready : Ready s ks table all
+  pub within : MarkWithin s (mark 0 (c .place) (c .length))
+  pub ranked : c .rank ≡ rankOf ks (c .attribute)
+  pub low : c .owner ≤ lastOwner
 
 -- what was read: the schema as numbers, the entries before the last, and the last
 abbrev pub reading : List ℕ → List Stored → Option Stored → Reading

@@ -13,9 +13,17 @@ use Rattle.rules.specs.Places.{schemaOf}
 use Rattle.directory_ruling.specs.Mark.{Mark, twin}
 use Rattle.directory_schema.specs.Schema.{rankOf, syntaxOf}
 
--- the owner of an entry's values, by the entry's number; an entry line's owner is its parent's number
+-- the first owner of values; those before it are the owners of entry lines, which are their parents' numbers: 0, the root, to 256
+abbrev pub valueOwners : ℕ
+valueOwners = 257
+
+-- the owner of an entry's values, by the entry's number
 abbrev pub ownerOf : ℕ → ℕ
-ownerOf number = 257 + number
+ownerOf number = valueOwners + number
+
+-- the last owner, as there are at most 256 entries
+abbrev pub lastOwner : ℕ
+lastOwner = ownerOf 256
 
 -- the owner and the rank of a type as one number, of which the rank has 6 bits
 abbrev pub keyOf : List ℕ → ℕ → ℕ → ℕ

@@ -4,11 +4,14 @@ mod mark;
 
 use mark::HEADS;
 use mark::SLOTS;
-use sheet_line::Line;
+use rules::refusal;
 ghost use mathlib.Core.Path.{_≡_};
 ghost use Rattle.directory_ruling.specs.Rulings.{Claimed, Decides, ruledOf};
 ghost use Rattle.directory_ruling.specs.Mark.{Room, withMark};
 ghost use Rattle.directory_ruling.specs.Rulings as Rulings;
+
+// How many numbers the table of the marks has.
+pub const MARKS: usize = 5187;
 
 // A line's refusal; where that is 0 its type's rank, and the bucket, slot and mark of its value.
 pub struct Ruling {
@@ -17,6 +20,15 @@ pub struct Ruling {
     pub bucket: usize,
     pub slot: usize,
     pub mark: usize,
+}
+
+// A value that a line brings its owner: its type and the rank of that, where its bytes begin, and how many they are.
+pub struct Claim {
+    pub owner: usize,
+    pub attribute: u64,
+    pub rank: usize,
+    pub place: usize,
+    pub length: usize,
 }
 
 // A line refused.
@@ -32,44 +44,37 @@ pub fn refusing(number: u64) -> Ruling
     }
 }
 
-// A value of type `t`, of this rank, that the line brings its owner: 4, or 5 where the owner has one equal to it.
-pub fn ruled(
-    s: &[u8],
-    schema: &[u64],
-    marks: &[usize; 4419],
-    owner: usize,
-    t: u64,
-    rank: usize,
-    line: Line,
-) -> Ruling
-    requires { ⌜ Claimed (now s) (now schema) (now marks) owner t rank line ⌝ }
-    ensures { λ r. ⌜ Decides (now (s .entry)) (now (schema .entry)) (now (marks .entry)) (ruledOf owner t line) r ⌝ }
+// The ruling on a value: 4, or 5 where its owner has one equal to it.
+pub fn ruled(s: &[u8], schema: &[u64], marks: &[usize; MARKS], c: Claim) -> Ruling
+    requires { ⌜ Claimed (now s) (now schema) (now marks) c ⌝ }
+    ensures { λ r. ⌜ Decides (now (s .entry)) (now (schema .entry)) (now (marks .entry)) (ruledOf (c .owner) (c .attribute) (c .place) (c .length)) r ⌝ }
 {
-    let v = sheet_line::bytes(s, line);
-    if !directory_schema::allowed(schema, rank, t, v) {
-        return refusing(4);
+    let rank = c.rank;
+    let v = sheet_line::part(s, c.place, c.length);
+    if !directory_schema::allowed(schema, rank, c.attribute, v) {
+        return refusing(refusal::OUTSIDE_SCHEMA);
     }
-    let key = owner * 64 + rank;
+    let key = c.owner * 64 + rank;
     let digest = value_syntax::digest::digest(key as u64, v);
     let bucket = (digest % 2048) as usize;
     let label = (digest / 2048 % 2048) as usize * 65536 + key;
     let head = marks[HEADS + bucket];
-    let slot = (digest / 262144 % 16384) as usize;
+    let slot = (digest / 65536 % 65536) as usize;
     let may = mark::slotted(marks, slot);
     if mark::twin(s, marks, may, head, label, schema[rank] % 4, v) {
-        return refusing(5);
+        return refusing(refusal::TWICE);
     }
     Ruling {
         refusal: 0,
         rank,
         bucket,
         slot,
-        mark: ((label * 65536 + line.place) * 128 + line.length) * 16384 + head,
+        mark: ((label * 65536 + c.place) * 128 + c.length) * 16384 + head,
     }
 }
 
 // The mark that was ruled on, as the next after `n` marks.
-pub fn note(marks: &mut [usize; 4419], n: usize, r: Ruling)
+pub fn note(marks: &mut [usize; MARKS], n: usize, r: Ruling)
     requires { ⌜ Room (now marks) n r ⌝ }
     ensures { λ _. ⌜ now (marks .exit) ≡ withMark (now (marks .entry)) n r ⌝ }
 {

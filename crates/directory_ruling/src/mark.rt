@@ -1,8 +1,9 @@
 // A mark for each entry line and value line taken: it finds an equal value of the same owner and type without going through all
 // of them. A mark is one number: label, place and length of its value, and the mark before it in its bucket (from 1; 0: none).
 // The label is the key with a tag above it, 11 bits of the value's digest: bytes are compared only where both agree. Of the
-// 16,384 slots, by the digest's 14 high bits, each mark's is set: a bucket is gone through only where the value's slot is.
-// The table of the marks holds 2,115 marks, then the newest mark of each of 2,048 buckets, then the slots as bits of 256 words.
+// 65,536 slots, by the digest's 16 high bits, each mark's is set: a bucket is gone through only where the value's slot is.
+// The table of the marks holds 2,115 marks, then the newest mark of each of 2,048 buckets, then the slots as bits of 1,024 words.
+use crate::MARKS;
 ghost use mathlib.Core.Path.{_≡_};
 ghost use Prim.Native.Nat.{_+_, _≤_, _<_};
 ghost use lib.ListN.{length};
@@ -36,8 +37,8 @@ fn bears(s: &[u8], m: usize, label: usize, syntax: u64, v: &[u8]) -> bool
 }
 
 // Whether a mark has this slot.
-pub(crate) fn slotted(marks: &[usize; 4419], slot: usize) -> bool
-    requires { ⌜ (slot < 16384) × (length (now marks) ≡ Mark.tableLength) ⌝ }
+pub(crate) fn slotted(marks: &[usize; MARKS], slot: usize) -> bool
+    requires { ⌜ (slot < 65536) × (length (now marks) ≡ Mark.tableLength) ⌝ }
     ensures { λ r. ⌜ r ≡ Mark.slotIn (now (marks .entry)) slot ⌝ }
 {
     let j = slot % 64;
@@ -47,7 +48,7 @@ pub(crate) fn slotted(marks: &[usize; 4419], slot: usize) -> bool
 // Whether a mark with this label, from `head` on in its bucket, has an equal value: none where no mark may.
 pub(crate) fn twin(
     s: &[u8],
-    marks: &[usize; 4419],
+    marks: &[usize; MARKS],
     may: bool,
     head: usize,
     label: usize,

@@ -1,4 +1,5 @@
 pub mod Lines
 pub mod Schema
+pub mod Zeros
 pub mod Types
 pub mod Laws

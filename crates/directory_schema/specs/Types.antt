@@ -5,16 +5,18 @@ use mathlib.Core.Bool.{Bool, cond}
 use mathlib.Core.Option.{none}
 use mathlib.Core.List.{List, []}
 use lib.Dec.{leb}
-use lib.ListN.{length, take}
+use lib.ListN.{length, take, replicate}
 use Rattle.rules.specs.Sheet.{Bytes, lines}
 use Rattle.rules.specs.declared.Format.{Format}
 use Rattle.rules.specs.Judge.{refuse, fold}
 use Rattle.rules.specs.Directory.{Reading, lastType, step, finish, nothing}
 use Rattle.rules.specs.Places.{schemaOf}
 use Rattle.sheet_line.specs.declared.Line.{Line}
+use Rattle.sheet_line.specs.declared.Taken.the-variants as Taken
 use Rattle.sheet_line.specs.Line.{takenAt}
 use Rattle.directory_schema.specs.Lines.{judgedFrom, columnsFit, Other}
 use Rattle.directory_schema.specs.Schema.{Rising}
+use Rattle.directory_schema.specs.Zeros.{ZerosFrom}
 use Rattle.directory_schema.specs.declared.TypeLines.{TypeLines}
 
 -- the types read so far, as numbers, and no entry
@@ -29,19 +31,28 @@ typeNumber form low full = cond form (cond low 3 (cond full 3 0)) 2
 unfoldable pub typeRefusal : ℕ → Line → ℕ → ℕ → ℕ
 typeRefusal top x last n = typeNumber (columnsFit top x) (leb (x .a) last) (leb 64 n)
 
+-- the K 1 lines refused: the number, and nothing else
+abbrev pub typesRefused : ℕ → TypeLines
+typesRefused n = record { refusal = n; count = 0; schema = replicate 64 0; at = 0; taken = Taken.End }
+
 -- `n` types have been read, up to position `i`
 pub record TypesRead (f : Format) (s : Bytes) (schema : List ℕ) (n last i : ℕ) : Type 0 where
   pub room : length schema ≡ 64
   pub most : n ≤ 64
+  pub rest : ZerosFrom n schema
   pub within : i ≤ length s
   pub rising : Rising 0 (take n schema)
   pub newest : last ≡ lastType (schemaOf (take n schema))
   pub same : fold (step (f .top)) finish 2 nothing (lines (f .width) s) ≡ judgedFrom f s (typed (take n schema)) i
 
--- the K 1 lines that were read, and where they end: at a refusal, or at another line
-pub record TypesJudged (f : Format) (s : Bytes) (schema : List ℕ) (r : TypeLines) : Type 0 where
+-- the K 1 lines that were read, up to another line
+pub record TypesEnded (f : Format) (s : Bytes) (r : TypeLines) : Type 0 where
   pub last : ℕ
-  pub read : TypesRead f s schema (r .count) last (r .at)
+  pub read : TypesRead f s (r .schema) (r .count) last (r .at)
   pub stands : r .taken ≡ takenAt (f .width) s (r .at)
-  pub other : r .refusal ≡ 0 → Other 1 (r .taken)
-  pub refused : (r .refusal ≡ 0 → ⊥) → fold (step (f .top)) finish 2 nothing (lines (f .width) s) ≡ refuse (r .refusal)
+  pub other : Other 1 (r .taken)
+
+-- the K 1 lines of a sheet, up to another line or to a refusal, which is the sheet's
+pub record TypesJudged (f : Format) (s : Bytes) (r : TypeLines) : Type 0 where
+  pub ended : r .refusal ≡ 0 → TypesEnded f s r
+  pub refused : (r .refusal ≡ 0 → ⊥) → (r ≡ typesRefused (r .refusal)) × (fold (step (f .top)) finish 2 nothing (lines (f .width) s) ≡ refuse (r .refusal))

@@ -1,21 +1,24 @@
 // The schema: the K 1 lines, noted as one number for each attribute type (its number times 4, and its syntax), and looked up.
 use rules::Format;
+use rules::refusal;
 use sheet_form::columns::directory_columns;
+use sheet_kind::Kind;
+use sheet_kind::is;
 use sheet_line::Line;
 use sheet_line::Taken;
 ghost use mathlib.Core.Path.{_≡_};
 ghost use Prim.Native.Nat.{_≤_};
-ghost use lib.ListN.{length};
 ghost use Rattle.rules.specs.Sheet.{Usable};
 ghost use Rattle.rules.specs.Name as Name;
 ghost use Rattle.rules.specs.Places.{schemaOf};
 ghost use Rattle.directory_schema.specs.Schema.{rankOf, Rising};
-ghost use Rattle.directory_schema.specs.Types.{typeRefusal, TypesJudged};
+ghost use Rattle.directory_schema.specs.Types.{typeRefusal, typesRefused, TypesJudged};
 
-// How the K 1 lines ended: the refusal or 0, how many there are, and what stands after them, with its position.
+// How the K 1 lines ended: the refusal or 0, how many there are, their numbers, and what stands after them, with its position.
 pub struct TypeLines {
     pub refusal: u64,
     pub count: usize,
+    pub schema: [u64; 64],
     pub at: usize,
     pub taken: Taken,
 }
@@ -55,22 +58,36 @@ fn type_line(line: Line, top: u64, last: u64, n: usize) -> u64
     ensures { λ r. ⌜ r ≡ typeRefusal top line last n ⌝ }
 {
     if !directory_columns(line, top) {
-        return 2;
+        return refusal::NOT_ALLOWED;
     }
     if line.a <= last {
-        return 3;
+        return refusal::OUT_OF_ORDER;
     }
     if 64 <= n {
-        return 3;
+        return refusal::OUT_OF_ORDER;
     }
     0
 }
 
-// The K 1 lines of a sheet.
-pub fn types(s: &[u8], f: Format, schema: &mut [u64; 64]) -> TypeLines
-    requires { ⌜ Usable f × (length (now schema) ≡ 64) ⌝ }
-    ensures { λ r. ⌜ TypesJudged f (now (s .entry)) (now (schema .exit)) r ⌝ }
+// The K 1 lines refused: the number, and nothing else.
+fn refused(number: u64) -> TypeLines
+    ensures { λ r. ⌜ r ≡ typesRefused number ⌝ }
 {
+    TypeLines {
+        refusal: number,
+        count: 0,
+        schema: [0; 64],
+        at: 0,
+        taken: Taken::End,
+    }
+}
+
+// The K 1 lines of a sheet.
+pub fn types(s: &[u8], f: Format) -> TypeLines
+    requires { ⌜ Usable f ⌝ }
+    ensures { λ r. ⌜ TypesJudged f (now (s .entry)) r ⌝ }
+{
+    let mut schema: [u64; 64] = [0; 64];
     let mut n: usize = 0;
     let mut last: u64 = 0;
     let mut at: usize = 0;
@@ -80,26 +97,23 @@ pub fn types(s: &[u8], f: Format, schema: &mut [u64; 64]) -> TypeLines
             return TypeLines {
                 refusal: 0,
                 count: n,
+                schema,
                 at,
                 taken,
             };
         };
-        if line.kind != 1 {
+        if !is(line.kind, Kind::AttributeType) {
             return TypeLines {
                 refusal: 0,
                 count: n,
+                schema,
                 at,
                 taken,
             };
         }
         let refusal = type_line(line, f.top, last, n);
         if refusal != 0 {
-            return TypeLines {
-                refusal,
-                count: n,
-                at,
-                taken,
-            };
+            return refused(refusal);
         }
         schema[n] = line.a * 4 + line.b;
         n += 1;

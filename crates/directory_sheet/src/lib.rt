@@ -1,12 +1,17 @@
 // The directory sheet judged line by line: the refusal that the rules give, or 0 with what later steps need of the sheet,
 // noted on the way: the schema as numbers, each entry line's position, parent, naming type and length, and the values that each entry holds.
+use directory_entry::DEPTHS;
+use directory_ruling::MARKS;
 use rules::Format;
+use rules::refusal;
 use sheet_line::Taken;
+use tables::book::FIRST_ROWS;
+use tables::held::HELD;
 ghost use mathlib.Core.Path.{_≡_};
-ghost use lib.ListN.{length};
 ghost use Rattle.rules.specs.Sheet.{Usable};
-ghost use Rattle.directory_sheet.specs.Judged.{DirectoryJudged};
-ghost use Rattle.directory_sheet.specs.Entries.{Opened, endNumber, refusedWith, nothingNoted};
+ghost use Rattle.tables.specs.Held.{noneHeld};
+ghost use Rattle.directory_sheet.specs.Judged.{nothingNoted, DirectoryJudged};
+ghost use Rattle.directory_sheet.specs.Entries.{Opened, endNumber};
 
 // The refusal or 0, and what is noted; `first` has the row of each entry's first value, and then the row after the last value.
 pub struct Notes {
@@ -18,15 +23,15 @@ pub struct Notes {
     pub parents: [usize; 256],
     pub naming: [u64; 256],
     pub lengths: [usize; 256],
-    pub first: [usize; 257],
+    pub first: [usize; FIRST_ROWS],
 }
 
-// Nothing noted yet.
-fn blank() -> Notes
-    ensures { λ r. ⌜ r ≡ nothingNoted ⌝ }
+// Nothing noted, with a refusal or 0.
+fn blank(refusal: u64) -> Notes
+    ensures { λ r. ⌜ r ≡ nothingNoted refusal ⌝ }
 {
     Notes {
-        refusal: 0,
+        refusal,
         types: 0,
         schema: [0; 64],
         count: 0,
@@ -34,17 +39,16 @@ fn blank() -> Notes
         parents: [0; 256],
         naming: [0; 256],
         lengths: [0; 256],
-        first: [0; 257],
+        first: [0; FIRST_ROWS],
     }
 }
 
-// The notes with a refusal.
-fn refused(notes: Notes, number: u64) -> Notes
-    ensures { λ r. ⌜ r ≡ refusedWith notes number ⌝ }
+// The directory refused: nothing is noted, and no value is held.
+fn refused(number: u64, held: &mut [u64; HELD]) -> Notes
+    ensures { λ r. ⌜ (r ≡ nothingNoted number) × (now (held .exit) ≡ noneHeld) ⌝ }
 {
-    let mut r = notes;
-    r.refusal = number;
-    r
+    *held = [0; HELD];
+    blank(number)
 }
 
 // The refusal where no line stands, or 0.
@@ -52,11 +56,11 @@ fn ended(taken: Taken, lacks: bool) -> u64
     ensures { λ r. ⌜ r ≡ endNumber taken lacks ⌝ }
 {
     match taken {
-        Taken::Line(_) => 2,
-        Taken::NotInForm => 2,
+        Taken::Line(_) => refusal::NOT_ALLOWED,
+        Taken::NotInForm => refusal::NOT_ALLOWED,
         Taken::End => {
             if lacks {
-                return 6;
+                return refusal::NAMING_VALUE_NOT_HELD;
             }
             0
         }
@@ -71,26 +75,30 @@ fn entries(
     begun: Notes,
     from: usize,
     first: Taken,
-    held: &mut [u64; 6345],
+    held: &mut [u64; HELD],
 ) -> Notes
     requires { ⌜ Opened f (now s) (now schema) begun (now held) from first ⌝ }
     ensures { λ r. ⌜ DirectoryJudged f (now (s .entry)) r (now (held .exit)) ⌝ }
 {
     let mut notes = begun;
-    let mut depths: [usize; 257] = [0; 257];
-    let mut marks: [usize; 4419] = [0; 4419];
+    let mut depths: [usize; DEPTHS] = [0; DEPTHS];
+    let mut marks: [usize; MARKS] = [0; MARKS];
     let mut n: usize = 0;
     let mut lacks = false;
     let mut at = from;
     let mut taken = first;
     loop {
         let Taken::Line(line) = taken else {
-            return refused(notes, ended(taken, lacks));
+            let refusal = ended(taken, lacks);
+            if refusal != 0 {
+                return refused(refusal, held);
+            }
+            return notes;
         };
         let count = notes.count;
         let x = directory_entry::entry_line(s, f.top, schema, &depths, &marks, count, lacks, line);
         if x.refusal != 0 {
-            return refused(notes, x.refusal);
+            return refused(x.refusal, held);
         }
         directory_ruling::note(&mut marks, n, x);
         let e = directory_values::Current {
@@ -100,7 +108,7 @@ fn entries(
         };
         let run = directory_values::values(s, f, schema, e, n + 1, &mut marks, held);
         if run.refusal != 0 {
-            return refused(notes, run.refusal);
+            return refused(run.refusal, held);
         }
         let p = line.a as usize;
         notes.at[count] = at;
@@ -117,21 +125,21 @@ fn entries(
     }
 }
 
-// The whole sheet, and in `held` a row for each value.
-pub fn judge(s: &[u8], f: Format, held: &mut [u64; 6345]) -> Notes
-    requires { ⌜ Usable f × (length (now held) ≡ 6345) ⌝ }
+// The whole sheet, and in `held`, where no value is at first, a row for each value.
+pub fn judge(s: &[u8], f: Format, held: &mut [u64; HELD]) -> Notes
+    requires { ⌜ Usable f × (now held ≡ noneHeld) ⌝ }
     ensures { λ r. ⌜ DirectoryJudged f (now (s .entry)) r (now (held .exit)) ⌝ }
 {
-    let mut notes = blank();
     if 65536 < s.len() {
-        return refused(notes, 1);
+        return blank(refusal::TOO_LONG);
     }
-    let mut schema: [u64; 64] = [0; 64];
-    let t = directory_schema::types(s, f, &mut schema);
+    let t = directory_schema::types(s, f);
     if t.refusal != 0 {
-        return refused(notes, t.refusal);
+        return blank(t.refusal);
     }
     let types = t.count;
+    let schema = t.schema;
+    let mut notes = blank(0);
     notes.types = types;
     notes.schema = schema;
     let taken = t.taken;

@@ -16,7 +16,7 @@ use Rattle.directory_ruling.specs.Rulings.{refusing, ruledOf}
 -- a value line of entry `number`, after a value of type `last`, where `top` is the highest type
 unfoldable pub valueRuling : ℕ → ℕ → ℕ → Line → Bytes → List ℕ → List ℕ → List Mark → Ruling
 valueRuling top number last x s ks table ms =
-    cond (columnsFit top x) (cond (ltb (x .a) last) (refusing 3) (ruledOf (ownerOf number) (x .a) x s ks table ms)) (refusing 2)
+    cond (columnsFit top x) (cond (ltb (x .a) last) (refusing 3) (ruledOf (ownerOf number) (x .a) (x .place) (x .length) s ks table ms)) (refusing 2)
 
 -- the value that a line brings
 abbrev pub broughtBy : Bytes → Line → Part

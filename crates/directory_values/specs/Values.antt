@@ -1,7 +1,7 @@
 -- The value lines of one entry: what is known before them, and after some of them.
 use Prim.Native.Nat.{ℕ, _+_, _*_, _≤_}
 use mathlib.Core.Path.{_≡_}
-use mathlib.Core.Bool.{Bool, true}
+use mathlib.Core.Bool.{Bool, true, false}
 use mathlib.Core.Option.{some}
 use mathlib.Core.List.{List, [], _∷_, _++_}
 use lib.ListN.{length}
@@ -12,9 +12,11 @@ use Rattle.rules.specs.Name.{Part, part, allowed, samePart}
 use Rattle.rules.specs.Judge.{Verdict, refuse}
 use Rattle.rules.specs.Directory.{Stored, Directory, withValues}
 use Rattle.rules.specs.Places.{linesAt, valuesOf, schemaOf}
+use Rattle.sheet_line.specs.declared.Taken.the-variants as Taken
 use Rattle.sheet_line.specs.Line.{takenAt, bytesOf}
 use Rattle.directory_schema.specs.Lines.{judgedFrom, Other}
 use Rattle.directory_schema.specs.Schema.{rankOf}
+use Rattle.tables.specs.Held.{HELD}
 use Rattle.directory_ruling.specs.Mark.{Mark}
 use Rattle.directory_ruling.specs.Twins.{ownerOf, Named, Valued}
 use Rattle.directory_ruling.specs.Rulings.{Ready, reading}
@@ -37,7 +39,7 @@ pub record Begun (f : Format) (s : Bytes) (ks table held : List ℕ) (n : ℕ) (
   pub space : 31 * n ≤ e .line .next
   pub named : Named s ks (complete ++ (d ∷ [])) ms
   pub valued : Valued s ks (ownerOf (e .number)) [] ms
-  pub rows : length held ≡ 6345
+  pub rows : length held ≡ HELD
   pub fewer : e .first ≤ n
 
 -- some entry stands there
@@ -68,16 +70,38 @@ pub record ValuesRead (f : Format) (s : Bytes) (ks table before held : List ℕ)
   pub rows : RowsWritten ks s vs before held (e .first) to
   pub fewer : to ≤ n
 
--- the values that were read, and where they end: at a refusal, or at another line
-pub record ValuesJudged (f : Format) (s : Bytes) (ks table before held : List ℕ) (e : Current) (complete : List Stored) (d : Stored) (r : ValueLines) : Type 0 where
+-- the value lines refused: the number, and nothing else
+abbrev pub valuesRefused : ℕ → ValueLines
+valuesRefused n = record { refusal = n; at = 0; taken = Taken.End; marks = 0; found = false; to = 0 }
+
+-- the values that were read, up to another line
+pub record ValuesEnded (f : Format) (s : Bytes) (ks table before held : List ℕ) (e : Current) (complete : List Stored) (d : Stored) (r : ValueLines) : Type 0 where
   pub values : List Part
   pub all : List Mark
   pub last : ℕ
   pub from : ℕ
   pub read : ValuesRead f s ks table before held (r .marks) (r .found) last from (r .at) (r .to) e complete d values all
   pub stands : r .taken ≡ takenAt (f .width) s (r .at)
-  pub other : r .refusal ≡ 0 → Other 3 (r .taken)
-  pub refused : (r .refusal ≡ 0 → ⊥) → judgedWith f s ks complete d [] (e .line .next) ≡ refuse (r .refusal)
+  pub other : Other 3 (r .taken)
+
+-- the values that were read, up to a line for which the entry is refused
+pub record ValuesStopped (f : Format) (s : Bytes) (ks table before held : List ℕ) (e : Current) (complete : List Stored) (d : Stored) (r : ValueLines) : Type 0 where
+  pub values : List Part
+  pub all : List Mark
+  pub marks : ℕ
+  pub found : Bool
+  pub last : ℕ
+  pub from : ℕ
+  pub at : ℕ
+  pub to : ℕ
+  pub read : ValuesRead f s ks table before held marks found last from at to e complete d values all
+  pub number : judgedWith f s ks complete d [] (e .line .next) ≡ refuse (r .refusal)
+  pub only : r ≡ valuesRefused (r .refusal)
+
+-- the values of an entry
+pub record ValuesJudged (f : Format) (s : Bytes) (ks table before held : List ℕ) (e : Current) (complete : List Stored) (d : Stored) (r : ValueLines) : Type 0 where
+  pub ended : r .refusal ≡ 0 → ValuesEnded f s ks table before held e complete d r
+  pub refused : (r .refusal ≡ 0 → ⊥) → ValuesStopped f s ks table before held e complete d r
 
 -- whatever stood before the run
 abbrev pub ValuesAnswered : Format → Bytes → List ℕ → List ℕ → List ℕ → ℕ → Current → List ℕ → List ℕ → ValueLines → Type 0

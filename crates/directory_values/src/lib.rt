@@ -1,12 +1,18 @@
 // The value lines, K 3, of one entry.
+use directory_ruling::Claim;
+use directory_ruling::MARKS;
 use directory_ruling::Ruling;
 use directory_ruling::note;
 use directory_ruling::refusing;
 use directory_ruling::ruled;
 use rules::Format;
+use rules::refusal;
 use sheet_form::columns::directory_columns;
+use sheet_kind::Kind;
+use sheet_kind::is;
 use sheet_line::Line;
 use sheet_line::Taken;
+use tables::held::HELD;
 use tables::held::PLACE;
 use tables::held::SIZE;
 ghost use mathlib.Core.Path.{_≡_};
@@ -17,10 +23,11 @@ ghost use lib.ListN.{length, getD};
 ghost use Rattle.rules.specs.Value as Value;
 ghost use Rattle.sheet_line.specs.Line.{bytesOf};
 ghost use Rattle.directory_schema.specs.Schema.{rankOf};
+ghost use Rattle.tables.specs.Held.{ROWS, HELD};
 ghost use Rattle.directory_ruling.specs.Rulings.{ValueSought, Decides};
 ghost use Rattle.directory_values.specs.ValueLine.{valueRuling};
 ghost use Rattle.directory_values.specs.Rows.{written};
-ghost use Rattle.directory_values.specs.Values.{ValuesAsked, ValuesAnswered};
+ghost use Rattle.directory_values.specs.Values.{valuesRefused, ValuesAsked, ValuesAnswered};
 
 // The last entry: its number, its line, and the row of its first value.
 pub struct Current {
@@ -40,12 +47,15 @@ pub struct ValueLines {
     pub to: usize,
 }
 
+// The first owner of values; those before it are the owners of entry lines.
+const VALUE_OWNERS: usize = 257;
+
 // A value line of entry `number`, after a value of type `last`, whose rank is at least `from`. `top` is the highest type.
 fn value_line(
     s: &[u8],
     top: u64,
     schema: &[u64],
-    marks: &[usize; 4419],
+    marks: &[usize; MARKS],
     number: usize,
     last: u64,
     from: usize,
@@ -55,13 +65,21 @@ fn value_line(
     ensures { λ r. ⌜ Decides (now (s .entry)) (now (schema .entry)) (now (marks .entry)) (valueRuling top number last line) r ⌝ }
 {
     if !directory_columns(line, top) {
-        return refusing(2);
+        return refusing(refusal::NOT_ALLOWED);
     }
     if line.a < last {
-        return refusing(3);
+        return refusing(refusal::OUT_OF_ORDER);
     }
     let rank = directory_schema::rank(schema, from, line.a);
-    ruled(s, schema, marks, 257 + number, line.a, rank, line)
+    let owner = VALUE_OWNERS + number;
+    let c = Claim {
+        owner,
+        attribute: line.a,
+        rank,
+        place: line.place,
+        length: line.length,
+    };
+    ruled(s, schema, marks, c)
 }
 
 // Whether the naming value of an entry is among its values, with the one that `line` brings.
@@ -84,13 +102,27 @@ fn holding(s: &[u8], schema: &[u64], rank: usize, naming: Line, found: bool, lin
 }
 
 // Row `i` of the values held.
-fn put_row(held: &mut [u64; 6345], i: usize, rank: usize, line: Line)
-    requires { ⌜ (i < 2115) × (length (now held) ≡ 6345) ⌝ }
+fn put_row(held: &mut [u64; HELD], i: usize, rank: usize, line: Line)
+    requires { ⌜ (i < ROWS) × (length (now held) ≡ HELD) ⌝ }
     ensures { λ _. ⌜ now (held .exit) ≡ written (now (held .entry)) i rank (line .place) (line .length) ⌝ }
 {
     held[i] = rank as u64;
     held[PLACE + i] = line.place as u64;
     held[SIZE + i] = line.length as u64;
+}
+
+// The value lines refused: the number, and nothing else.
+fn refused(number: u64) -> ValueLines
+    ensures { λ r. ⌜ r ≡ valuesRefused number ⌝ }
+{
+    ValueLines {
+        refusal: number,
+        at: 0,
+        taken: Taken::End,
+        marks: 0,
+        found: false,
+        to: 0,
+    }
 }
 
 // The value lines after the line of `e`, each with its row.
@@ -100,8 +132,8 @@ pub fn values(
     schema: &[u64],
     e: Current,
     marked: usize,
-    marks: &mut [usize; 4419],
-    held: &mut [u64; 6345],
+    marks: &mut [usize; MARKS],
+    held: &mut [u64; HELD],
 ) -> ValueLines
     requires { ⌜ ValuesAsked f (now s) (now schema) (now marks) (now held) marked e ⌝ }
     ensures { λ r. ⌜ ValuesAnswered f (now (s .entry)) (now (schema .entry)) (now (marks .entry)) (now (held .entry)) marked e (now (marks .exit)) (now (held .exit)) r ⌝ }
@@ -124,7 +156,7 @@ pub fn values(
                 to,
             };
         };
-        if line.kind != 3 {
+        if !is(line.kind, Kind::Value) {
             return ValueLines {
                 refusal: 0,
                 at,
@@ -136,14 +168,7 @@ pub fn values(
         }
         let x = value_line(s, f.top, schema, marks, e.number, last, from, line);
         if x.refusal != 0 {
-            return ValueLines {
-                refusal: x.refusal,
-                at,
-                taken,
-                marks: n,
-                found,
-                to,
-            };
+            return refused(x.refusal);
         }
         found = holding(s, schema, x.rank, e.line, found, line);
         put_row(held, to, x.rank, line);

@@ -9,7 +9,9 @@ use answer_reply::refused;
 use respond::requested;
 use rules::Format;
 use rules::Limits;
+use tables::book::BOOK;
 use tables::book::schema;
+use tables::held::HELD;
 ghost use lib.ListN.{length};
 ghost use Rattle.rules.specs.Sheet.{Usable};
 ghost use Rattle.rules.specs.Directory.{Directory};
@@ -27,8 +29,8 @@ pub struct Terms {
 // The answer over an accepted directory: permissions come next, their items in order of weight, and the ground is laid.
 fn permitted(
     out: &mut [u8],
-    book: &[u64; 1353],
-    held: &[u64; 6345],
+    book: &[u64; BOOK],
+    held: &[u64; HELD],
     d: &[u8],
     p: &[u8],
     q: &[u8],
@@ -65,12 +67,12 @@ pub fn serve(d: &[u8], p: &[u8], q: &[u8], out: &mut [u8], terms: Terms) -> Repl
     requires { ⌜ Usable (terms .format) ⌝ }
     ensures { λ r. ⌜ Replies (serveAt (terms .format) (terms .limits) (now (d .entry)) (now (p .entry)) (now (q .entry)) (length (now (out .entry)))) (now (out .entry)) r (now (out .exit)) ⌝ }
 {
-    let mut held: [u64; 6345] = [0; 6345];
+    let mut held: [u64; HELD] = [0; HELD];
     let notes = directory_sheet::judge(d, terms.format, &mut held);
     if notes.refusal != 0 {
         return refused(notes.refusal);
     }
-    let mut book: [u64; 1353] = [0; 1353];
+    let mut book: [u64; BOOK] = [0; BOOK];
     directory_book::note(terms.format, notes, &mut book);
     permitted(out, &book, &held, d, p, q, terms)
 }

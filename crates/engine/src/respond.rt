@@ -14,8 +14,11 @@ use answer_reply::Reply;
 use answer_reply::refused;
 use directory_lookup::find::resolve;
 use request_sheet::Asked;
+use tables::book::BOOK;
 use tables::book::parents;
 use tables::book::schema;
+use tables::held::HELD;
+use tables::sets::SETS;
 ghost use mathlib.Core.Path.{_≡_};
 ghost use mathlib.Core.List.{List, map};
 ghost use Prim.Native.Nat.{ℕ};
@@ -28,10 +31,11 @@ ghost use Rattle.rules.specs.Request.{Request};
 ghost use Rattle.rules.specs.Answer.{answer};
 ghost use Rattle.rules.specs.Serve.{Ground, fitting};
 ghost use Rattle.answer_reply.specs.Reply.{Replies};
-ghost use Rattle.request_sheet.specs.Noted.{Noted};
+ghost use Rattle.request_sheet.specs.Noted.{RequestNoted};
 ghost use Rattle.directory_schema.specs.Schema.{Rising};
 ghost use Rattle.tables.specs.Book.{width};
 ghost use Rattle.tables.specs.Book as Book;
+ghost use Rattle.tables.specs.Sets as Sets;
 ghost use Rattle.tables.specs.World.{World, Entries, Known};
 ghost use Rattle.access_scope.specs.Scopes.{Asker};
 ghost use Rattle.access_items.specs.Sorted.{Sorted};
@@ -41,16 +45,16 @@ ghost use Rattle.engine.specs.Judges.{GroundAt};
 // The answer, once the tables are filled.
 fn respond(
     out: &mut [u8],
-    book: &[u64; 1353],
-    held: &[u64; 6345],
-    sets: &[u64; 2360],
+    book: &[u64; BOOK],
+    held: &[u64; HELD],
+    sets: &[u64; SETS],
     d: &[u8],
     p: &[u8],
     q: &[u8],
     asked: Asked,
 ) -> Reply
-    requires { ⌜ Known (now d) (now p) (now book) (now held) (now sets) × ((G : Grammar) × (x : Request) × Noted G (width (now book)) (now q) x asked) ⌝ }
-    ensures { λ r. ⌜ ((σ : Setting) (es : List Stored) (G : Grammar) (x : Request) → World σ es (now (d .entry)) (now (p .entry)) (now (book .entry)) (now (held .entry)) (now (sets .entry)) → Noted G (width (now (book .entry))) (now (q .entry)) x asked → Replies (fitting (length (now (out .entry))) (print (width (now (book .entry))) (answer σ (map entryOf es) (x .base) (x .operation)))) (now (out .entry)) r (now (out .exit))) ⌝ }
+    requires { ⌜ Known (now d) (now p) (now book) (now held) (now sets) × ((G : Grammar) × (x : Request) × RequestNoted G (width (now book)) (now q) x asked) ⌝ }
+    ensures { λ r. ⌜ ((σ : Setting) (es : List Stored) (G : Grammar) (x : Request) → World σ es (now (d .entry)) (now (p .entry)) (now (book .entry)) (now (held .entry)) (now (sets .entry)) → RequestNoted G (width (now (book .entry))) (now (q .entry)) x asked → Replies (fitting (length (now (out .entry))) (print (width (now (book .entry))) (answer σ (map entryOf es) (x .base) (x .operation)))) (now (out .entry)) r (now (out .exit))) ⌝ }
 {
     let target = Target {
         base: resolve(book, d, q, asked.base, asked.base_parts),
@@ -64,7 +68,7 @@ fn respond(
 
 // The sets of the items that are for the requester. `order` has the items' numbers in order of weight.
 fn note_sets(
-    book: &[u64; 1353],
+    book: &[u64; BOOK],
     d: &[u8],
     p: &[u8],
     q: &[u8],
@@ -72,9 +76,9 @@ fn note_sets(
     scopes: &[u64],
     order: &[usize],
     who: Requester,
-    sets: &mut [u64],
+    sets: &mut [u64; SETS],
 )
-    requires { ⌜ (now sets ≡ replicate 2360 0) × Rising 0 (Book.schema (now book)) × ((σ : Setting) × (es : List Stored) × (held : List ℕ) × Entries σ es (now d) (now book) held × Asker σ (width (now book)) (now q) who × Sorted (width (now book)) (now p) (σ .items) (now rights) (now scopes) (now order)) ⌝ }
+    requires { ⌜ (now sets ≡ replicate Sets.SETS 0) × Rising 0 (Book.schema (now book)) × ((σ : Setting) × (es : List Stored) × (held : List ℕ) × Entries σ es (now d) (now book) held × Asker σ (width (now book)) (now q) who × Sorted (width (now book)) (now p) (σ .items) (now rights) (now scopes) (now order)) ⌝ }
     ensures { λ _. ⌜ ((σ : Setting) (es : List Stored) (held : List ℕ) → Entries σ es (now (d .entry)) (now (book .entry)) held → Asker σ (width (now (book .entry))) (now (q .entry)) who → Sorted (width (now (book .entry))) (now (p .entry)) (σ .items) (now (rights .entry)) (now (scopes .entry)) (now (order .entry)) → World σ es (now (d .entry)) (now (p .entry)) (now (book .entry)) held (now (sets .exit))) ⌝ }
 {
     let count = order.len();
@@ -93,8 +97,8 @@ fn note_sets(
 // The answer over a ground: the request judged, asked within the limits, what the requester may, and the reply.
 pub fn requested(
     out: &mut [u8],
-    book: &[u64; 1353],
-    held: &[u64; 6345],
+    book: &[u64; BOOK],
+    held: &[u64; HELD],
     d: &[u8],
     p: &[u8],
     q: &[u8],
@@ -116,7 +120,7 @@ pub fn requested(
         place: asked.requester,
         parts: asked.requester_parts,
     };
-    let mut sets: [u64; 2360] = [0; 2360];
+    let mut sets: [u64; SETS] = [0; SETS];
     note_sets(book, d, p, q, rights, scopes, order, who, &mut sets);
     respond(out, book, held, &sets, d, p, q, asked)
 }

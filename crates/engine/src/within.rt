@@ -1,13 +1,14 @@
 // What a program is limited to, put into what is asked.
 use request_sheet::Asked;
 use rules::Limits;
+use rules::operation;
 ghost use mathlib.Core.Path.{_≡_};
 ghost use Prim.Native.Nat.{ℕ};
 ghost use Rattle.rules.specs.Sheet.{Bytes};
 ghost use Rattle.rules.specs.Judge.{Grammar};
 ghost use Rattle.rules.specs.Request.{Request};
 ghost use Rattle.rules.specs.Serve as Serve;
-ghost use Rattle.request_sheet.specs.Noted.{Noted};
+ghost use Rattle.request_sheet.specs.Noted.{RequestNoted};
 
 // The smaller of two size limits, of which 0 is none.
 fn tighter(a: u64, b: u64) -> u64
@@ -27,9 +28,9 @@ fn tighter(a: u64, b: u64) -> u64
 
 // What is asked, within the limits: read and compare as they stand, list and search with at most as many entries.
 pub fn within(asked: Asked, limits: Limits) -> Asked
-    ensures { λ r. ⌜ ((G : Grammar) (w : ℕ) (q : Bytes) (x : Request) → Noted G w q x asked → Noted G w q (Serve.within limits x) r) ⌝ }
+    ensures { λ r. ⌜ ((G : Grammar) (w : ℕ) (q : Bytes) (x : Request) → RequestNoted G w q x asked → RequestNoted G w q (Serve.within limits x) r) ⌝ }
 {
-    if asked.operation < 3 {
+    if asked.operation < operation::LIST {
         return asked;
     }
     let mut next = asked;

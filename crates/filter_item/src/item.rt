@@ -6,20 +6,21 @@ use super::rows::some_equal;
 use super::rows::some_ordered;
 use super::seen::END;
 use super::seen::in_word;
-use filter_lines::AT_LEAST;
-use filter_lines::AT_MOST;
-use filter_lines::EQUALITY;
-use filter_lines::PRESENT;
 use filter_lines::lines::LINE;
 use filter_lines::lines::RANK;
+use filter_lines::lines::ROWS;
 use filter_lines::lines::SECOND;
 use filter_lines::lines::value_of;
 use filter_lines::pieces::pieces_fit;
 use filter_lines::truth::truth_of;
 use rules::Truth;
+use sheet_kind::Kind;
+use sheet_kind::is;
+use tables::book::BOOK;
 use tables::book::FIRST;
 use tables::book::SCHEMA;
 use tables::book::TYPES;
+use tables::held::HELD;
 ghost use mathlib.Core.Path.{_≡_};
 ghost use mathlib.Core.Bool.{true, _&&_};
 ghost use mathlib.Core.List.{List};
@@ -38,22 +39,22 @@ ghost use Rattle.filter_item.specs.Rows.{Within};
 ghost use Rattle.filter_item.specs.Seen.{SeenAt};
 
 // Do the value or the pieces of the item in line `k` fit the syntax `s`, and has the syntax the item's rule?
-fn defined(s: u64, q: &[u8], rows: &[u64; 1596], lines: usize, k: usize) -> bool
+fn defined(s: u64, q: &[u8], rows: &[u64; ROWS], lines: usize, k: usize) -> bool
     requires { ⌜ Placed (now q) (now rows) lines × (k < lines) ⌝ }
     ensures { λ r. ⌜ r ≡ definedBy s (kindAt (now (rows .entry)) k) (piecesAt (now (q .entry)) (now (rows .entry)) lines k) (valueAt (now (q .entry)) (now (rows .entry)) k) ⌝ }
 {
     let kind = rows[k * LINE];
     let v = value_of(q, rows, k);
-    if kind == EQUALITY {
+    if is(kind, Kind::Equality) {
         return value_syntax::fits(s, v);
     }
-    if kind == AT_LEAST {
+    if is(kind, Kind::AtLeast) {
         return value_syntax::ordered(s) & value_syntax::fits(s, v);
     }
-    if kind == AT_MOST {
+    if is(kind, Kind::AtMost) {
         return value_syntax::ordered(s) & value_syntax::fits(s, v);
     }
-    if kind == PRESENT {
+    if is(kind, Kind::Present) {
         return true;
     }
     value_syntax::searchable(s) & pieces_fit(s, q, rows, lines, k + 1, rows[k * LINE + SECOND])
@@ -65,7 +66,7 @@ fn decidable(
     rank: usize,
     s: u64,
     q: &[u8],
-    rows: &[u64; 1596],
+    rows: &[u64; ROWS],
     lines: usize,
     k: usize,
 ) -> bool
@@ -78,15 +79,15 @@ fn decidable(
     false
 }
 
-// Is the item in line `k`, which is defined, true: is its rank held (kind 26), or does some value with FilterMatch granted pass its test?
+// Is the item in line `k`, which is defined, true: is its rank held, for "present", or does some value with FilterMatch granted pass its test?
 fn satisfied(
-    held: &[u64; 6345],
+    held: &[u64; HELD],
     values: &[u64; 34],
     d: &[u8],
     sought: Sought,
     s: u64,
     q: &[u8],
-    rows: &[u64; 1596],
+    rows: &[u64; ROWS],
     lines: usize,
     k: usize,
 ) -> bool
@@ -94,17 +95,17 @@ fn satisfied(
     ensures { λ r. ⌜ r ≡ satisfiedIn (now (d .entry)) (now (held .entry)) (now (values .entry)) (sought .first) (sought .end) (sought .rank) s (kindAt (now (rows .entry)) k) (piecesAt (now (q .entry)) (now (rows .entry)) lines k) (valueAt (now (q .entry)) (now (rows .entry)) k) ⌝ }
 {
     let kind = rows[k * LINE];
-    if kind == PRESENT {
+    if is(kind, Kind::Present) {
         return holds(held, sought);
     }
     let v = value_of(q, rows, k);
-    if kind == EQUALITY {
+    if is(kind, Kind::Equality) {
         return some_equal(held, values, d, sought, s, v);
     }
-    if kind == AT_LEAST {
+    if is(kind, Kind::AtLeast) {
         return some_ordered(held, values, d, sought, s, true, v);
     }
-    if kind == AT_MOST {
+    if is(kind, Kind::AtMost) {
         return some_ordered(held, values, d, sought, s, false, v);
     }
     some_containing(held, values, d, sought, q, rows, lines, k)
@@ -112,14 +113,14 @@ fn satisfied(
 
 // The truth of the item in line `line` for the entry of index `k`. `types` and `values` are what was seen of the entry.
 pub fn item(
-    book: &[u64; 1353],
-    held: &[u64; 6345],
+    book: &[u64; BOOK],
+    held: &[u64; HELD],
     d: &[u8],
     types: u64,
     values: &[u64; 34],
     k: usize,
     q: &[u8],
-    rows: &[u64; 1596],
+    rows: &[u64; ROWS],
     lines: usize,
     line: usize,
 ) -> Truth

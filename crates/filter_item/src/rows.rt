@@ -1,10 +1,12 @@
 // The rows of an entry's values, gone through for one item: those of the item's rank on whose values FilterMatch is granted are tested, in their
 // order, up to the first that passes.
 use filter_lines::lines::LINE;
+use filter_lines::lines::ROWS;
 use filter_lines::lines::SECOND;
 use filter_lines::pieces::substrings;
 use filter_lines::truth::not_below;
 use rules::Order;
+use tables::held::HELD;
 use tables::held::bytes;
 ghost use mathlib.Core.Path.{_≡_};
 ghost use mathlib.Core.Bool.{_&&_, not};
@@ -25,7 +27,7 @@ pub struct Sought {
 }
 
 // Is row `i` of the rank that is sought, and FilterMatch granted on its value?
-fn seen_row(held: &[u64; 6345], values: &[u64; 34], sought: Sought, i: usize) -> bool
+fn seen_row(held: &[u64; HELD], values: &[u64; 34], sought: Sought, i: usize) -> bool
     requires { ⌜ (sought .first ≤ i) × (i < 2115) ⌝ }
     ensures { λ r. ⌜ r ≡ seenAt (now (held .entry)) (now (values .entry)) (sought .first) (sought .rank) i ⌝ }
 {
@@ -37,7 +39,7 @@ fn seen_row(held: &[u64; 6345], values: &[u64; 34], sought: Sought, i: usize) ->
 }
 
 // Is the rank held?
-pub(crate) fn holds(held: &[u64; 6345], sought: Sought) -> bool
+pub(crate) fn holds(held: &[u64; HELD], sought: Sought) -> bool
     requires { ⌜ sought .end ≤ 2115 ⌝ }
     ensures { λ r. ⌜ r ≡ heldRow (now (held .entry)) (sought .first) (sought .end) (sought .rank) ⌝ }
 {
@@ -65,7 +67,7 @@ fn equal(s: u64, v: &[u8], u: &[u8]) -> bool
 
 // Does row `i` count, with a value equal to `v` under the syntax `s`?
 fn equal_row(
-    held: &[u64; 6345],
+    held: &[u64; HELD],
     values: &[u64; 34],
     d: &[u8],
     sought: Sought,
@@ -84,7 +86,7 @@ fn equal_row(
 
 // Does some row count, with a value equal to `v`?
 pub(crate) fn some_equal(
-    held: &[u64; 6345],
+    held: &[u64; HELD],
     values: &[u64; 34],
     d: &[u8],
     sought: Sought,
@@ -129,7 +131,7 @@ fn beside(s: u64, least: bool, v: &[u8], u: &[u8]) -> bool
 
 // Does row `i` count, with a value not below `v`, or not above it?
 fn ordered_row(
-    held: &[u64; 6345],
+    held: &[u64; HELD],
     values: &[u64; 34],
     d: &[u8],
     sought: Sought,
@@ -149,7 +151,7 @@ fn ordered_row(
 
 // Does some row count, with a value not below `v`, or not above it?
 pub(crate) fn some_ordered(
-    held: &[u64; 6345],
+    held: &[u64; HELD],
     values: &[u64; 34],
     d: &[u8],
     sought: Sought,
@@ -173,12 +175,12 @@ pub(crate) fn some_ordered(
 
 // Does row `i` count, with a value in which the pieces of the item in line `k` stand?
 fn containing_row(
-    held: &[u64; 6345],
+    held: &[u64; HELD],
     values: &[u64; 34],
     d: &[u8],
     sought: Sought,
     q: &[u8],
-    rows: &[u64; 1596],
+    rows: &[u64; ROWS],
     lines: usize,
     k: usize,
     i: usize,
@@ -201,12 +203,12 @@ fn containing_row(
 
 // Does some row count, with a value in which the pieces of the item in line `k` stand?
 pub(crate) fn some_containing(
-    held: &[u64; 6345],
+    held: &[u64; HELD],
     values: &[u64; 34],
     d: &[u8],
     sought: Sought,
     q: &[u8],
-    rows: &[u64; 1596],
+    rows: &[u64; ROWS],
     lines: usize,
     k: usize,
 ) -> bool

@@ -1,10 +1,13 @@
 // FilterMatch on the types and values of an entry, asked once, before the items of a filter.
 use access_may::may_type;
 use access_may::may_value;
+use tables::book::BOOK;
 use tables::book::FIRST;
 use tables::book::TYPES;
+use tables::held::HELD;
 use tables::held::bytes;
 use tables::sets::FILTER_MATCH;
+use tables::sets::SETS;
 ghost use mathlib.Core.Path.{_≡_};
 ghost use mathlib.Core.Bool.{_&&_, cond};
 ghost use mathlib.Core.List.{List};
@@ -49,7 +52,7 @@ pub(crate) fn bit_if(b: bool, j: usize) -> u64
 }
 
 // Is the type of rank `r` asked about, and FilterMatch granted on it in entry number `e`?
-fn type_seen(sets: &[u64; 2360], e: usize, asked: u64, r: usize) -> bool
+fn type_seen(sets: &[u64; SETS], e: usize, asked: u64, r: usize) -> bool
     requires { ⌜ (e ≤ 256) × (r < 64) × ((d p : Bytes) × (book held : List ℕ) × Known d p book held (now sets)) ⌝ }
     ensures { λ x. ⌜ ((σ : Setting) (es : List Stored) (d p : Bytes) (book held : List ℕ) → World σ es d p book held (now (sets .entry)) → e ≤ length es → r < length (schema book) → x ≡ (bit asked r && grantedAt σ es e (ofType (typeAt (schema book) r)) FilterMatch)) ⌝ }
 {
@@ -60,7 +63,7 @@ fn type_seen(sets: &[u64; 2360], e: usize, asked: u64, r: usize) -> bool
 }
 
 // FilterMatch on the first `n` types of the schema, of those that are asked about.
-fn seen_types(sets: &[u64; 2360], n: usize, e: usize, asked: u64) -> u64
+fn seen_types(sets: &[u64; SETS], n: usize, e: usize, asked: u64) -> u64
     requires { ⌜ (e ≤ 256) × (n ≤ 64) × ((d p : Bytes) × (book held : List ℕ) × Known d p book held (now sets)) ⌝ }
     ensures { λ x. ⌜ ((σ : Setting) (es : List Stored) (d p : Bytes) (book held : List ℕ) → World σ es d p book held (now (sets .entry)) → e ≤ length es → n ≤ length (schema book) → SeenTypes σ es book e asked n x) ⌝ }
 {
@@ -75,9 +78,9 @@ fn seen_types(sets: &[u64; 2360], n: usize, e: usize, asked: u64) -> u64
 
 // Is the type of the value in row `i`, of the entry of index `k`, asked about, and FilterMatch granted on the value?
 fn value_seen(
-    book: &[u64; 1353],
-    held: &[u64; 6345],
-    sets: &[u64; 2360],
+    book: &[u64; BOOK],
+    held: &[u64; HELD],
+    sets: &[u64; SETS],
     d: &[u8],
     p: &[u8],
     k: usize,
@@ -96,9 +99,9 @@ fn value_seen(
 
 // FilterMatch on the values of the entry of index `k`, of those whose types are asked about.
 fn seen_values(
-    book: &[u64; 1353],
-    held: &[u64; 6345],
-    sets: &[u64; 2360],
+    book: &[u64; BOOK],
+    held: &[u64; HELD],
+    sets: &[u64; SETS],
     d: &[u8],
     p: &[u8],
     k: usize,
@@ -122,9 +125,9 @@ fn seen_values(
 
 // FilterMatch on the types and values of the entry of index `k`, for the ranks whose bits are set in `asked`.
 pub fn ask(
-    book: &[u64; 1353],
-    held: &[u64; 6345],
-    sets: &[u64; 2360],
+    book: &[u64; BOOK],
+    held: &[u64; HELD],
+    sets: &[u64; SETS],
     d: &[u8],
     p: &[u8],
     k: usize,

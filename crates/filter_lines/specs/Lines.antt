@@ -1,5 +1,5 @@
 -- A filter's lines noted by six numbers each: kind, A, B, where the line begins, where its bytes begin, and the rank of type A in the schema.
-use Prim.Native.Nat.{ℕ, zero, suc, _+_, _-_, _*_, _≤_, _<_}
+use Prim.Native.Nat.{ℕ, zero, suc, _+_, _-_, _*_, _/_, _≤_, _<_}
 use mathlib.Core.Path.{_≡_}
 use mathlib.Core.Bool.{Bool, cond}
 use mathlib.Core.List.{List, [], _∷_}
@@ -11,6 +11,14 @@ use Rattle.sheet_line.specs.Line.{takenAt}
 use Rattle.sheet_line.specs.declared.Line.{Line}
 use Rattle.sheet_line.specs.declared.Taken.the-variants as Taken
 use Rattle.name.specs.Schema.{rankIn}
+
+-- how many lines there can be: a request in columns of 6 bytes has at most 8,192 bytes, and a line at least 31
+abbrev pub LINES : ℕ
+LINES = 8192 / 31 + 1
+
+-- how many numbers are noted: a row for each line, and one for the position after the last
+abbrev pub ROWS : ℕ
+ROWS = (LINES + 1) * 6
 
 -- the numbers of line `k`, and where the next line begins
 abbrev pub kindAt : List ℕ → ℕ → ℕ
@@ -56,7 +64,7 @@ piecesAt q rows lines k = piecesIn q rows (k + 1) (lesser (secondAt rows k) (lin
 -- the bytes of the first `count` lines lie on the sheet
 pub record Placed (q : Bytes) (rows : List ℕ) (count : ℕ) : Type 0 where
   pub room : count * 6 + 6 ≤ length rows
-  pub few : count ≤ 265
+  pub few : count ≤ LINES
   pub begins : (k : ℕ) → k < count → placeAt rows k < nextAt rows k
   pub within : (k : ℕ) → k < count → nextAt rows k ≤ length q
 
@@ -80,6 +88,10 @@ pub record Lines (w : ℕ) (q : Bytes) (rows : List ℕ) (count : ℕ) : Type 0 
 -- .. with the ranks of their types
 pub record Typed (schema rows : List ℕ) (count : ℕ) : Type 0 where
   pub rank : (k : ℕ) → k < count → typeRank rows k ≡ rankIn schema (firstAt rows k)
+
+-- what stands beyond the first `count` rows and the position after them is as it was `before`
+abbrev pub Beyond : ℕ → List ℕ → List ℕ → Type 0
+Beyond count before rows = (i : ℕ) → count * 6 ≤ i → (i ≡ count * 6 + 3 → ⊥) → getD rows i 0 ≡ getD before i 0
 
 -- row `n`, but for its position, and the position of the next
 unfoldable pub noted : List ℕ → ℕ → ℕ → ℕ → ℕ → ℕ → ℕ → ℕ → List ℕ

@@ -3,18 +3,17 @@ pub mod lines;
 pub mod pieces;
 pub mod truth;
 
-// The kinds of operators.
-pub const AND: u64 = 20;
+use sheet_kind::Kind;
+use sheet_kind::is;
+ghost use mathlib.Core.Path.{_≡_};
+ghost use mathlib.Core.Bool.{_||_};
+ghost use lib.Dec.{eqb};
+ghost use Rattle.sheet_kind.specs.Kinds.{numberOf};
+ghost use Rattle.sheet_kind.specs.declared.Kind.the-variants.{And, Or};
 
-pub const OR: u64 = 21;
-
-pub const NOT: u64 = 22;
-
-// The kinds of items, a substrings item apart.
-pub const EQUALITY: u64 = 23;
-
-pub const AT_LEAST: u64 = 24;
-
-pub const AT_MOST: u64 = 25;
-
-pub const PRESENT: u64 = 26;
+// Does a line of this kind join its parts, being "and" or "or"?
+pub fn joins(kind: u64) -> bool
+    ensures { λ r. ⌜ r ≡ (eqb kind (numberOf And) || eqb kind (numberOf Or)) ⌝ }
+{
+    is(kind, Kind::And) | is(kind, Kind::Or)
+}

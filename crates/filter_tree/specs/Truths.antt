@@ -13,10 +13,10 @@ use Rattle.filter_lines.specs.Lines.{kindAt, firstAt, valueAt, piecesAt}
 use Rattle.filter_item.specs.Items.{assertionBy}
 
 -- a truth as a number
-abbrev pub numberOf : Truth → ℕ
-numberOf Undefined = 0
-numberOf False = 1
-numberOf True = 2
+abbrev pub truthNumber : Truth → ℕ
+truthNumber Undefined = 0
+truthNumber False = 1
+truthNumber True = 2
 
 -- the truth that a number stands for
 unfoldable pub truthOf : ℕ → Truth

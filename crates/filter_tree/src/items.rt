@@ -1,10 +1,14 @@
 // The truths of a filter's items for an entry, found one after the other and noted by a number for each line, before the filter is evaluated.
 use filter_item::item::item;
-use filter_lines::AND;
-use filter_lines::NOT;
-use filter_lines::OR;
+use filter_lines::joins;
 use filter_lines::lines::LINE;
+use filter_lines::lines::LINES;
+use filter_lines::lines::ROWS;
 use rules::Truth;
+use sheet_kind::Kind;
+use sheet_kind::is;
+use tables::book::BOOK;
+use tables::held::HELD;
 ghost use mathlib.Core.Path.{_≡_};
 ghost use Prim.Native.Nat.{ℕ, _<_};
 ghost use mathlib.Core.List.{List};
@@ -17,11 +21,11 @@ ghost use Rattle.tables.specs.World.{Entries};
 ghost use Rattle.filter_lines.specs.Lines.{Placed, Typed};
 ghost use Rattle.filter_item.specs.Mask.{Masks};
 ghost use Rattle.filter_item.specs.Seen.{SeenAt};
-ghost use Rattle.filter_tree.specs.Truths.{numberOf, truthOf, TruthAt, Truths};
+ghost use Rattle.filter_tree.specs.Truths.{truthNumber, truthOf, TruthAt, Truths};
 
 // A truth as a number.
-fn number_of(t: Truth) -> u8
-    ensures { λ r. ⌜ r ≡ numberOf t ⌝ }
+fn truth_number(t: Truth) -> u8
+    ensures { λ r. ⌜ r ≡ truthNumber t ⌝ }
 {
     match t {
         Truth::Undefined => 0,
@@ -48,14 +52,14 @@ pub(crate) fn truth_at(truths: &[u8], k: usize) -> Truth
 
 // The number for line `line`: that of its item's truth for the entry of index `k`, and 0 for an operator.
 fn line_truth(
-    book: &[u64; 1353],
-    held: &[u64; 6345],
+    book: &[u64; BOOK],
+    held: &[u64; HELD],
     d: &[u8],
     types: u64,
     values: &[u64; 34],
     k: usize,
     q: &[u8],
-    rows: &[u64; 1596],
+    rows: &[u64; ROWS],
     lines: usize,
     line: usize,
 ) -> u8
@@ -63,31 +67,31 @@ fn line_truth(
     ensures { λ r. ⌜ ((σ : Setting) (es : List Stored) (asked : ℕ) → Entries σ es (now (d .entry)) (now (book .entry)) (now (held .entry)) → SeenAt σ es (now (d .entry)) (now (book .entry)) (now (held .entry)) k asked types (now (values .entry)) → Masks (now (rows .entry)) lines asked → TruthAt (itemTruth σ (entryOf (getD es k blank))) (now (q .entry)) (now (rows .entry)) lines line r) ⌝ }
 {
     let kind = rows[line * LINE];
-    if (kind == AND) | (kind == OR) {
+    if joins(kind) {
         return 0;
     }
-    if kind == NOT {
+    if is(kind, Kind::Not) {
         return 0;
     }
-    number_of(item(book, held, d, types, values, k, q, rows, lines, line))
+    truth_number(item(book, held, d, types, values, k, q, rows, lines, line))
 }
 
 // The truth of the item in each line, for the entry of index `k`.
 pub(crate) fn note_truths(
-    book: &[u64; 1353],
-    held: &[u64; 6345],
+    book: &[u64; BOOK],
+    held: &[u64; HELD],
     d: &[u8],
     types: u64,
     values: &[u64; 34],
     k: usize,
     q: &[u8],
-    rows: &[u64; 1596],
+    rows: &[u64; ROWS],
     lines: usize,
-) -> [u8; 265]
+) -> [u8; LINES]
     requires { ⌜ ((σ : Setting) × (es : List Stored) × Entries σ es (now d) (now book) (now held)) × (k < entries (now book)) × Placed (now q) (now rows) lines × Typed (schema (now book)) (now rows) lines ⌝ }
     ensures { λ r. ⌜ ((σ : Setting) (es : List Stored) (asked : ℕ) → Entries σ es (now (d .entry)) (now (book .entry)) (now (held .entry)) → SeenAt σ es (now (d .entry)) (now (book .entry)) (now (held .entry)) k asked types (now (values .entry)) → Masks (now (rows .entry)) lines asked → Truths (itemTruth σ (entryOf (getD es k blank))) (now (q .entry)) (now (rows .entry)) lines lines r) ⌝ }
 {
-    let mut truths: [u8; 265] = [0; 265];
+    let mut truths: [u8; LINES] = [0; LINES];
     let mut line: usize = 0;
     while line < lines {
         truths[line] = line_truth(book, held, d, types, values, k, q, rows, lines, line);

@@ -5,18 +5,18 @@ use super::truth::is_true;
 use super::truth::joined;
 use super::truth::negated;
 use filter_item::seen::ask;
-use filter_lines::AND;
-use filter_lines::AT_LEAST;
-use filter_lines::AT_MOST;
-use filter_lines::EQUALITY;
-use filter_lines::NOT;
-use filter_lines::OR;
-use filter_lines::PRESENT;
+use filter_lines::joins;
 use filter_lines::lines::FIRST;
 use filter_lines::lines::LINE;
+use filter_lines::lines::ROWS;
 use filter_lines::lines::SECOND;
 use filter_lines::truth::truth_of;
 use rules::Truth;
+use sheet_kind::Kind;
+use sheet_kind::is;
+use tables::book::BOOK;
+use tables::held::HELD;
+use tables::sets::SETS;
 ghost use mathlib.Core.Path.{_≡_};
 ghost use Prim.Native.Nat.{ℕ, _+_, _*_, _≤_, _<_};
 ghost use mathlib.Core.List.{List};
@@ -37,23 +37,23 @@ ghost use Rattle.filter_item.specs.Mask.{Masks};
 ghost use Rattle.filter_tree.specs.Tree.{afterBy, matchesAt};
 ghost use Rattle.filter_tree.specs.Truths.{Truths};
 
-// The line after the item in line `k`: a substrings item (kind 27) has those of its pieces.
+// The line after the item in line `k`: a substrings item has those of its pieces.
 fn after_item(rows: &[u64], lines: usize, k: usize) -> usize
     requires { ⌜ (lines * 6 + 6 ≤ length (now rows)) × (k < lines) ⌝ }
     ensures { λ r. ⌜ (r ≤ lines) × ((w : ℕ) (q : Bytes) → Lines w q (now (rows .entry)) lines → linesAt w q (positionAt (now (rows .entry)) r) ≡ afterBy (kindAt (now (rows .entry)) k) (secondAt (now (rows .entry)) k) (linesAt w q (positionAt (now (rows .entry)) (k + 1)))) ⌝ }
 {
     let kind = rows[k * LINE];
     let next = k + 1;
-    if kind == EQUALITY {
+    if is(kind, Kind::Equality) {
         return next;
     }
-    if kind == AT_LEAST {
+    if is(kind, Kind::AtLeast) {
         return next;
     }
-    if kind == AT_MOST {
+    if is(kind, Kind::AtMost) {
         return next;
     }
-    if kind == PRESENT {
+    if is(kind, Kind::Present) {
         return next;
     }
     let pieces = rows[k * LINE + SECOND];
@@ -88,7 +88,7 @@ pub fn evaluate(rows: &[u64], truths: &[u8], lines: usize, k: usize, depth: usiz
         };
     }
     let kind = rows[k * LINE];
-    if kind == NOT {
+    if is(kind, Kind::Not) {
         let part = evaluate(rows, truths, lines, k + 1, depth - 1);
         let truth = part.truth;
         return Step {
@@ -96,8 +96,8 @@ pub fn evaluate(rows: &[u64], truths: &[u8], lines: usize, k: usize, depth: usiz
             next: part.next,
         };
     }
-    if (kind == AND) | (kind == OR) {
-        let conjunction = kind == AND;
+    if joins(kind) {
+        let conjunction = is(kind, Kind::And);
         let mut truth = truth_of(conjunction);
         let mut next = k + 1;
         let mut left = rows[k * LINE + FIRST];
@@ -118,13 +118,13 @@ pub fn evaluate(rows: &[u64], truths: &[u8], lines: usize, k: usize, depth: usiz
 
 // Is the filter, whose lines are `rows`, true for the entry of index `k`? `asked` is the mask of the ranks that occur in it.
 pub fn matches(
-    book: &[u64; 1353],
-    held: &[u64; 6345],
-    sets: &[u64; 2360],
+    book: &[u64; BOOK],
+    held: &[u64; HELD],
+    sets: &[u64; SETS],
     d: &[u8],
     p: &[u8],
     q: &[u8],
-    rows: &[u64; 1596],
+    rows: &[u64; ROWS],
     lines: usize,
     asked: u64,
     k: usize,

@@ -1,12 +1,9 @@
 // An item of the permission sheet: its five lines, and the two names between them.
 use rules::Format;
-use sheet_due::after_due;
-use sheet_due::after_group;
-use sheet_due::due_at;
 use sheet_due::grammar::Grammar;
-use sheet_due::group_at;
-use sheet_due::reached_at;
+use sheet_kind::Kind;
 use sheet_line::Line;
+use sheet_reader::Reader;
 ghost use mathlib.Core.Path.{_≡_};
 ghost use Rattle.rules.specs.Sheet.{Usable};
 ghost use Rattle.rules.specs.Places.{schemaOf};
@@ -22,28 +19,27 @@ pub struct Lines {
     pub mask: Line,
 }
 
-// The item at `at`: "K 4 to 8, in that order, once each", the parts of a name following as K 9.
+// The item at `at`: "K 4 to 8, in that order, once each", the parts of a name following as K 9. One reader goes through its lines.
 pub fn item_at(p: &[u8], f: Format, schema: &[u64], at: usize) -> Lines
     requires { ⌜ Usable f ⌝ }
     ensures { λ r. ⌜ r ≡ itemLines f (now (p .entry)) (schemaOf (now (schema .entry))) at ⌝ }
 {
     let g = Grammar::Permissions;
-    let d4 = due_at(p, f, g, schema, reached_at(at), 4);
-    let d5 = group_at(p, f, g, schema, after_due(d4), 5, 9);
-    let d6 = group_at(p, f, g, schema, after_group(d5), 6, 9);
-    let d7 = due_at(p, f, g, schema, after_group(d6), 7);
-    let d8 = due_at(p, f, g, schema, after_due(d7), 8);
-    let head = d4.line;
-    let base = d5.line;
-    let user = d6.line;
-    let target = d7.line;
-    let mask = d8.line;
+    let head = Reader::new(p, at).due(f, g, schema, 0, Kind::Item);
+    let base = head.rest
+        .group(f, g, schema, head.refusal, Kind::Base, Kind::NamePart);
+    let user = base.rest.group(f, g, schema, base.refusal, Kind::UserClass, Kind::NamePart);
+    let target = user.rest
+        .due(f, g, schema, user.refusal, Kind::ProtectedItem);
+    let mask = target
+        .rest
+        .due(f, g, schema, target.refusal, Kind::Permissions);
     Lines {
-        refusal: d8.refusal,
-        head,
-        base,
-        user,
-        target,
-        mask,
+        refusal: mask.refusal,
+        head: head.line,
+        base: base.line,
+        user: user.line,
+        target: target.line,
+        mask: mask.line,
     }
 }

@@ -1,4 +1,4 @@
--- What the judge of the permission sheet gives: the refusal number, or the items as rows of numbers. The contract of `judge` is `Judged`.
+-- What the judge of the permission sheet gives: the refusal number, or the items as rows of numbers. The contract of `judge` is `PermissionsJudged`.
 -- An item has a row of rights (what a question about it touches) and a row of scopes (which entries and which users it is for, by name and level).
 -- Names and values are noted by their positions on the sheet, a value by its digest too.
 use Prim.Native.Nat.{ℕ, _+_, _-_, _*_, _≤_, _<_}
@@ -13,7 +13,7 @@ use Rattle.rules.specs.Permission.{Item, permissionsOf}
 use Rattle.rules.specs.Places.{linesAt, partsOf, schemaOf}
 use Rattle.rules.specs.Laws.Decision.{weight}
 use Rattle.value_syntax.specs.Digest.{digest}
-use Rattle.permission_sheet.specs.declared.Items.{Items}
+use Rattle.permission_sheet.specs.declared.NotedItems.{NotedItems}
 
 -- ---- the numbers of a row, by their places in it
 
@@ -128,19 +128,19 @@ pub record Table (w : ℕ) (p : Bytes) (is : List Item) (rights scopes : List �
   pub scopes-rest : drop (length is * SCOPES) scopes ≡ replicate (256 * SCOPES - length is * SCOPES) 0
 
 -- the accepted items `is`
-pub record Noted (f : Format) (p : Bytes) (is : List Item) (r : Items) : Type 0 where
+pub record PermissionsNoted (f : Format) (p : Bytes) (is : List Item) (r : NotedItems) : Type 0 where
   pub refusal : r .refusal ≡ 0
   pub count : r .count ≡ length is
   pub table : Table (f .width) p is (r .rights) (r .scopes)
   pub types : (k : ℕ) → k < length is → getD is k blank .type ≤ f .top
 
 -- nothing but a refusal
-abbrev pub refused : ℕ → Items
+abbrev pub refused : ℕ → NotedItems
 refused n = record { refusal = n; count = 0; rights = replicate 2048 0; scopes = replicate 1792 0 }
 
 -- what the sheet `p` in the format `f` gives, judged against the schema
-pub record Judged (f : Format) (p : Bytes) (schema : List ℕ) (r : Items) : Type 0 where
+pub record PermissionsJudged (f : Format) (p : Bytes) (schema : List ℕ) (r : NotedItems) : Type 0 where
   pub refusal : r .refusal ≡ refusalOf (permissionsOf f (schemaOf schema) p)
   pub accepted : r .refusal ≡ 0 → (is : List Item) × (permissionsOf f (schemaOf schema) p ≡ accept is)
-  pub noted : (is : List Item) → permissionsOf f (schemaOf schema) p ≡ accept is → Noted f p is r
+  pub noted : (is : List Item) → permissionsOf f (schemaOf schema) p ≡ accept is → PermissionsNoted f p is r
   pub nothing : (n : ℕ) → permissionsOf f (schemaOf schema) p ≡ refuse n → r ≡ refused n

@@ -3,13 +3,14 @@
 mod row;
 
 use rules::Format;
+use rules::refusal;
 use sheet_due::grammar::Grammar;
 use sheet_due::misplaced_by;
 use sheet_due::seen_at;
 ghost use mathlib.Core.Path.{_≡_};
 ghost use Rattle.rules.specs.Sheet.{Usable};
-ghost use Rattle.permission_sheet.specs.Noted.{Judged};
-ghost use Rattle.permission_sheet.specs.Noted as Noted;
+ghost use Rattle.permission_sheet.specs.Noted.{PermissionsJudged};
+ghost use Rattle.permission_sheet.specs.Noted as PermissionsNoted;
 
 // The places of an item's numbers in its row of rights, and the length of the row.
 pub const SCORE: usize = 0;
@@ -48,7 +49,7 @@ pub const LEVEL: usize = 6;
 pub const SCOPES: usize = 7;
 
 // The refusal number (0: none), and the items: 256 rows of rights and 256 rows of scopes.
-pub struct Items {
+pub struct NotedItems {
     pub refusal: u64,
     pub count: usize,
     pub rights: [u64; 2048],
@@ -56,10 +57,10 @@ pub struct Items {
 }
 
 // No items, but a refusal number.
-fn refused(number: u64) -> Items
-    ensures { λ r. ⌜ r ≡ Noted.refused number ⌝ }
+fn refused(number: u64) -> NotedItems
+    ensures { λ r. ⌜ r ≡ PermissionsNoted.refused number ⌝ }
 {
-    Items {
+    NotedItems {
         refusal: number,
         count: 0,
         rights: [0; 2048],
@@ -68,12 +69,12 @@ fn refused(number: u64) -> Items
 }
 
 // The permission sheet `p`, in the format `f`, judged against the schema.
-pub fn judge(p: &[u8], f: Format, schema: &[u64]) -> Items
+pub fn judge(p: &[u8], f: Format, schema: &[u64]) -> NotedItems
     requires { ⌜ Usable f ⌝ }
-    ensures { λ r. ⌜ Judged f (now (p .entry)) (now (schema .entry)) r ⌝ }
+    ensures { λ r. ⌜ PermissionsJudged f (now (p .entry)) (now (schema .entry)) r ⌝ }
 {
     if 65536 < p.len() {
-        return refused(11);
+        return refused(refusal::PERMISSIONS_TOO_LONG);
     }
     let mut rights: [u64; 2048] = [0; 2048];
     let mut scopes: [u64; 1792] = [0; 1792];
@@ -92,7 +93,7 @@ pub fn judge(p: &[u8], f: Format, schema: &[u64]) -> Items
         count += 1;
         at = lines.mask.next;
     }
-    Items {
+    NotedItems {
         refusal: 0,
         count,
         rights,

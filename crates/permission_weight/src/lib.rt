@@ -1,5 +1,8 @@
 // Which item decides: precedence, then the rank of its user, then explicitness as one weight; and the weight with what it grants
 // as one score.
+use rules::what::ONE_TYPE;
+use rules::what::ONE_VALUE;
+use rules::who::ENTRY_ITSELF;
 ghost use mathlib.Core.Path.{_≡_};
 ghost use Prim.Native.Nat.{_≤_};
 ghost use Rattle.permission_weight.specs.Weight.{rankOf, explicitOf, weightOf, scoreOf};
@@ -8,20 +11,20 @@ ghost use Rattle.permission_weight.specs.Weight.{rankOf, explicitOf, wei
 fn rank(who: u64) -> u64
     ensures { λ r. ⌜ r ≡ rankOf who ⌝ }
 {
-    if 2 <= who {
+    if ENTRY_ITSELF <= who {
         return 2;
     }
     who
 }
 
-// "Names the type (3) or the value (5) explicitly".
+// "Names the type or the value explicitly".
 fn explicit(what: u64) -> u64
     ensures { λ r. ⌜ r ≡ explicitOf what ⌝ }
 {
-    if what == 3 {
+    if what == ONE_TYPE {
         return 1;
     }
-    if what == 5 {
+    if what == ONE_VALUE {
         return 1;
     }
     0

@@ -3,10 +3,13 @@
 use request_piece::Step;
 use request_piece::pieces_at;
 use rules::Format;
+use rules::refusal;
 use sheet_due::Seen;
 use sheet_due::grammar::Grammar;
 use sheet_due::misplaced_by;
 use sheet_due::seen_at;
+use sheet_kind::Kind;
+use sheet_kind::kind_of;
 use sheet_line::Line;
 ghost use mathlib.Core.Path.{_≡_};
 ghost use Rattle.rules.specs.Sheet.{Usable};
@@ -39,29 +42,28 @@ fn node_of(q: &[u8], f: Format, left: u64, line: Line) -> Node
     ensures { λ r. ⌜ r ≡ nodeOf (requestGrammar (f .top)) (f .width) (now (q .entry)) left line ⌝ }
 {
     let next = line.next;
-    let kind = line.kind;
-    match kind {
-        20 => Node::Operator {
+    match kind_of(line.kind) {
+        Kind::And => Node::Operator {
             count: line.a,
             next,
             left,
         },
-        21 => Node::Operator {
+        Kind::Or => Node::Operator {
             count: line.a,
             next,
             left,
         },
-        22 => Node::Operator {
+        Kind::Not => Node::Operator {
             count: 1,
             next,
             left,
         },
-        23 => Node::Item { next, left },
-        24 => Node::Item { next, left },
-        25 => Node::Item { next, left },
-        26 => Node::Item { next, left },
-        27 => item_of(pieces_at(q, next, f, line.b, left)),
-        _ => Node::Refused(23),
+        Kind::Equality => Node::Item { next, left },
+        Kind::AtLeast => Node::Item { next, left },
+        Kind::AtMost => Node::Item { next, left },
+        Kind::Present => Node::Item { next, left },
+        Kind::Substrings => item_of(pieces_at(q, next, f, line.b, left)),
+        _ => Node::Refused(refusal::REQUEST_OUT_OF_ORDER),
     }
 }
 
@@ -73,13 +75,13 @@ fn node_by(q: &[u8], f: Format, left: u64, seen: Seen) -> Node
     match seen {
         Seen::Line(line) => {
             if left == 0 {
-                Node::Refused(23)
+                Node::Refused(refusal::REQUEST_OUT_OF_ORDER)
             } else {
                 node_of(q, f, left - 1, line)
             }
         }
-        Seen::NotAllowed => Node::Refused(22),
-        Seen::Missing => Node::Refused(23),
+        Seen::NotAllowed => Node::Refused(refusal::REQUEST_NOT_ALLOWED),
+        Seen::Missing => Node::Refused(refusal::REQUEST_OUT_OF_ORDER),
     }
 }
 

@@ -2,6 +2,7 @@
 use request_filter::filter_at;
 use request_piece::Step;
 use rules::Format;
+use rules::operation;
 use sheet_due::Reached;
 use sheet_due::after_due;
 use sheet_due::after_group;
@@ -10,6 +11,7 @@ use sheet_due::grammar::Grammar;
 use sheet_due::group_at;
 use sheet_due::no_line;
 use sheet_due::reached_at;
+use sheet_kind::Kind;
 use sheet_line::Line;
 ghost use mathlib.Core.Path.{_≡_};
 ghost use Rattle.rules.specs.Sheet.{Usable};
@@ -70,7 +72,15 @@ fn read_at(q: &[u8], f: Format, at: usize) -> Body
     requires { ⌜ Usable f ⌝ }
     ensures { λ r. ⌜ r ≡ readAt (requestGrammar (f .top)) (f .width) (now (q .entry)) at ⌝ }
 {
-    let group = group_at(q, f, Grammar::Request, &[], reached_at(at), 12, 13);
+    let group = group_at(
+        q,
+        f,
+        Grammar::Request,
+        &[],
+        reached_at(at),
+        Kind::Selection,
+        Kind::SelectedType,
+    );
     body_of(after_group(group), group.line, no_line(), no_line())
 }
 
@@ -79,7 +89,7 @@ fn compare_at(q: &[u8], f: Format, at: usize) -> Body
     requires { ⌜ Usable f ⌝ }
     ensures { λ r. ⌜ r ≡ compareAt (requestGrammar (f .top)) (f .width) (now (q .entry)) at ⌝ }
 {
-    let due = due_at(q, f, Grammar::Request, &[], reached_at(at), 14);
+    let due = due_at(q, f, Grammar::Request, &[], reached_at(at), Kind::Assertion);
     body_of(after_due(due), no_line(), due.line, no_line())
 }
 
@@ -95,8 +105,23 @@ fn search_at(q: &[u8], f: Format, at: usize) -> Body
     requires { ⌜ Usable f ⌝ }
     ensures { λ r. ⌜ r ≡ searchAt (requestGrammar (f .top)) (f .width) (now (q .entry)) at ⌝ }
 {
-    let group = group_at(q, f, Grammar::Request, &[], reached_at(at), 12, 13);
-    let due = due_at(q, f, Grammar::Request, &[], after_group(group), 15);
+    let group = group_at(
+        q,
+        f,
+        Grammar::Request,
+        &[],
+        reached_at(at),
+        Kind::Selection,
+        Kind::SelectedType,
+    );
+    let due = due_at(
+        q,
+        f,
+        Grammar::Request,
+        &[],
+        after_group(group),
+        Kind::Subset,
+    );
     let end = filter_from(q, f, after_due(due));
     body_of(end, group.line, no_line(), due.line)
 }
@@ -107,9 +132,9 @@ pub fn body_at(q: &[u8], f: Format, at: usize, op: u64) -> Body
     ensures { λ r. ⌜ r ≡ bodyAt (requestGrammar (f .top)) (f .width) (now (q .entry)) at op ⌝ }
 {
     match op {
-        1 => read_at(q, f, at),
-        2 => compare_at(q, f, at),
-        3 => list_at(at),
+        operation::READ => read_at(q, f, at),
+        operation::COMPARE => compare_at(q, f, at),
+        operation::LIST => list_at(at),
         _ => search_at(q, f, at),
     }
 }

@@ -1,8 +1,11 @@
 // The pieces of a substrings item in a request's filter, one line each, with the lines that are still allowed counted down.
 use rules::Format;
+use rules::refusal;
 use sheet_due::Seen;
 use sheet_due::grammar::Grammar;
 use sheet_due::seen_at;
+use sheet_kind::Kind;
+use sheet_kind::is;
 use sheet_line::Line;
 ghost use mathlib.Core.Path.{_≡_};
 ghost use mathlib.Core.Bool.{true};
@@ -31,8 +34,8 @@ fn in_place(a: u64, first: bool, after: u64) -> bool
 fn piece_of(first: bool, after: u64, left: u64, line: Line) -> Step
     ensures { λ r. ⌜ r ≡ pieceOf 20 first after left line ⌝ }
 {
-    if line.kind != 28 {
-        return Step::Refused(23);
+    if !is(line.kind, Kind::Piece) {
+        return Step::Refused(refusal::REQUEST_OUT_OF_ORDER);
     }
     if in_place(line.a, first, after) {
         Step::Read {
@@ -40,7 +43,7 @@ fn piece_of(first: bool, after: u64, left: u64, line: Line) -> Step
             left,
         }
     } else {
-        Step::Refused(23)
+        Step::Refused(refusal::REQUEST_OUT_OF_ORDER)
     }
 }
 
@@ -51,13 +54,13 @@ fn piece_by(first: bool, after: u64, left: u64, seen: Seen) -> Step
     match seen {
         Seen::Line(line) => {
             if left == 0 {
-                Step::Refused(23)
+                Step::Refused(refusal::REQUEST_OUT_OF_ORDER)
             } else {
                 piece_of(first, after, left - 1, line)
             }
         }
-        Seen::NotAllowed => Step::Refused(22),
-        Seen::Missing => Step::Refused(23),
+        Seen::NotAllowed => Step::Refused(refusal::REQUEST_NOT_ALLOWED),
+        Seen::Missing => Step::Refused(refusal::REQUEST_OUT_OF_ORDER),
     }
 }
 

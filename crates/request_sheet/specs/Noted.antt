@@ -86,7 +86,7 @@ NotedOperation G w q (list limit) r = NotedList limit r
 NotedOperation G w q (search s) r = NotedSearch G w q s r
 
 -- the request `x` as noted in `r`
-pub record Noted (G : Grammar) (w : ℕ) (q : Bytes) (x : Request) (r : Asked) : Type 0 where
+pub record RequestNoted (G : Grammar) (w : ℕ) (q : Bytes) (x : Request) (r : Asked) : Type 0 where
   pub level : r .level ≡ x .requester .level
   pub requester : NotedName w q (x .requester .name) (r .requester) (r .«requester_parts»)
   pub base : NotedName w q (x .base) (r .base) (r .«base_parts»)
@@ -117,9 +117,9 @@ refused n =
     }
 
 -- the result `r` for the sheet `q` in the format `f`: the refusal of the rules, and what is noted of a request that they accept
-pub record Judged (f : Format) (q : Bytes) (r : Asked) : Type 0 where
+pub record RequestJudged (f : Format) (q : Bytes) (r : Asked) : Type 0 where
   pub refusal : r .refusal ≡ refusalOf (requestOf f q)
-  pub noted : (x : Request) → requestOf f q ≡ accept x → Noted (requestGrammar (f .top)) (f .width) q x r
+  pub noted : (x : Request) → requestOf f q ≡ accept x → RequestNoted (requestGrammar (f .top)) (f .width) q x r
   -- no refusal is an acceptance
   pub accepted : r .refusal ≡ 0 → (x : Request) × (requestOf f q ≡ accept x)
   -- of a refused request nothing is noted

@@ -3,17 +3,19 @@
 use request_operation::Body;
 use request_operation::body_at;
 use rules::Format;
+use rules::refusal;
 use sheet_due::Seen;
 use sheet_due::after_group;
 use sheet_due::grammar::Grammar;
 use sheet_due::group_at;
 use sheet_due::reached_at;
 use sheet_due::seen_at;
+use sheet_kind::Kind;
 use sheet_line::Line;
 ghost use mathlib.Core.Path.{_≡_};
 ghost use Rattle.rules.specs.Sheet.{Usable};
 ghost use Rattle.rules.specs.Request.{requestGrammar};
-ghost use Rattle.request_sheet.specs.Noted.{refused, Judged};
+ghost use Rattle.request_sheet.specs.Noted.{refused, RequestJudged};
 ghost use Rattle.request_sheet.specs.Whole.{asked, endBy, withBody, askedOf};
 
 // What a request asks. Of a refused one, all but the refusal is 0; of an accepted one, what its operation does not have is 0.
@@ -23,7 +25,6 @@ pub struct Asked {
     // The position of the first K 9 line, and how many there are.
     pub requester: usize,
     pub requester_parts: usize,
-    // 1 read, 2 compare, 3 list, 4 search.
     pub operation: u64,
     pub base: usize,
     pub base_parts: usize,
@@ -97,8 +98,8 @@ fn end_by(requester: Line, base: Line, body: Body, seen: Seen) -> Asked
     ensures { λ r. ⌜ r ≡ endBy 20 requester base body seen ⌝ }
 {
     match seen {
-        Seen::Line(_) => refuse(23),
-        Seen::NotAllowed => refuse(22),
+        Seen::Line(_) => refuse(refusal::REQUEST_OUT_OF_ORDER),
+        Seen::NotAllowed => refuse(refusal::REQUEST_NOT_ALLOWED),
         Seen::Missing => accept(requester, base, body),
     }
 }
@@ -125,11 +126,19 @@ fn asked_of(q: &[u8], f: Format) -> Asked
     ensures { λ r. ⌜ r ≡ askedOf (requestGrammar (f .top)) (f .width) (now (q .entry)) ⌝ }
 {
     if 8192 < q.len() {
-        return refuse(21);
+        return refuse(refusal::REQUEST_TOO_LONG);
     }
     let g = Grammar::Request;
-    let requester = group_at(q, f, g, &[], reached_at(0), 10, 9);
-    let base = group_at(q, f, g, &[], after_group(requester), 11, 9);
+    let requester = group_at(q, f, g, &[], reached_at(0), Kind::Requester, Kind::NamePart);
+    let base = group_at(
+        q,
+        f,
+        g,
+        &[],
+        after_group(requester),
+        Kind::Operation,
+        Kind::NamePart,
+    );
     if base.refusal != 0 {
         return refuse(base.refusal);
     }
@@ -140,7 +149,7 @@ fn asked_of(q: &[u8], f: Format) -> Asked
 // The request in the sheet `q`, in the format `f`.
 pub fn judge(q: &[u8], f: Format) -> Asked
     requires { ⌜ Usable f ⌝ }
-    ensures { λ r. ⌜ Judged f (now (q .entry)) r ⌝ }
+    ensures { λ r. ⌜ RequestJudged f (now (q .entry)) r ⌝ }
 {
     asked_of(q, f)
 }

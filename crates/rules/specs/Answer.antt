@@ -14,6 +14,8 @@ use Rattle.rules.specs.Permission.{Read, Browse, ReturnDN, DiscloseOnErr
 use Rattle.rules.specs.Decision.{Setting, entry, ofType, ofValue, granted}
 use Rattle.rules.specs.Filter.{isTrue, evaluate}
 use Rattle.rules.specs.FilterItem.{holds, someValue, itemTruth}
+use Rattle.rules.specs.declared.Outcome.{Outcome}
+use Rattle.rules.specs.declared.Outcome.the-variants.{Result, NoSuchObject, InsufficientAccessRights, NoSuchAttributeOrValue, InvalidAttributeSyntax}
 use Rattle.rules.specs.Request.{Selection, Search, Operation, read, compare, list, search}
 
 -- ---- answer lines
@@ -22,9 +24,17 @@ abbrev pub bit : Bool → ℕ
 bit true = 1
 bit false = 0
 
+-- "B 0 result; 1 noSuchObject ..; 2 insufficientAccessRights; 3 noSuchAttributeOrValue; 4 invalidAttributeSyntax"
+abbrev pub outcomeNumber : Outcome → ℕ
+outcomeNumber Result = 0
+outcomeNumber NoSuchObject = 1
+outcomeNumber InsufficientAccessRights = 2
+outcomeNumber NoSuchAttributeOrValue = 3
+outcomeNumber InvalidAttributeSyntax = 4
+
 -- line 30: "A operation, B outcome"
-unfoldable pub outcome : ℕ → ℕ → List Line
-outcome op b = line 30 op b 0 [] ∷ []
+unfoldable pub outcome : ℕ → Outcome → List Line
+outcome op o = line 30 op (outcomeNumber o) 0 [] ∷ []
 
 -- a name as K 9 lines
 unfoldable pub nameLines : Name → List Line
@@ -43,8 +53,8 @@ valueLines t (v ∷ vs) = line 34 t (length (v ∷ vs)) 0 [] ∷ map (line 35 0 
 unfoldable pub limited : ℕ → ℕ → List (List Line) → List Line
 limited op limit hits =
     cond (eqb limit 0)
-    (line 30 op 0 0 [] ∷ gather (λ hit. hit) hits)
-    (line 30 op 0 (bit (ltb limit (length hits))) [] ∷ gather (λ hit. hit) (take limit hits))
+    (line 30 op (outcomeNumber Result) 0 [] ∷ gather (λ hit. hit) hits)
+    (line 30 op (outcomeNumber Result) (bit (ltb limit (length hits))) [] ∷ gather (λ hit. hit) (take limit hits))
 
 -- the type is selected by K 12: all, or listed
 unfoldable pub selected : Selection → ℕ → Bool
@@ -74,8 +84,8 @@ module _ (σ : Setting) where
   unfoldable pub readEntry : Selection → Entry → List Line
   readEntry s e =
       cond (isEmpty (information s e) && not (s .listed && isEmpty (s .types)))
-      (outcome 1 (cond (any (λ h. selected s (h .type) && granted σ (e .name) (ofType (h .type)) DiscloseOnError) (e .held)) 2 3))
-      (outcome 1 0 ++ (entryLines (given (granted σ (e .name) entry ReturnDN) (e .name)) ++ information s e))
+      (outcome 1 (cond (any (λ h. selected s (h .type) && granted σ (e .name) (ofType (h .type)) DiscloseOnError) (e .held)) InsufficientAccessRights NoSuchAttributeOrValue))
+      (outcome 1 Result ++ (entryLines (given (granted σ (e .name) entry ReturnDN) (e .name)) ++ information s e))
 
   -- "if Compare on the type is refused, 2 if the type is held and has DiscloseOnError, else 3; not held, 3; value outside the
   -- syntax, 4; else K 31, A 1 if a value with Compare granted is equal, else 0"
@@ -84,10 +94,10 @@ module _ (σ : Setting) where
       cond (granted σ (e .name) (ofType t) Compare)
       (cond (holds e t)
       (cond (allowed (σ .schema) t v)
-      (outcome 2 0 ++ (line 31 (bit (someValue σ e t Compare (λ w. equal (σ .schema) t v w))) 0 0 [] ∷ []))
-      (outcome 2 4))
-      (outcome 2 3))
-      (outcome 2 (cond (holds e t && granted σ (e .name) (ofType t) DiscloseOnError) 2 3))
+      (outcome 2 Result ++ (line 31 (bit (someValue σ e t Compare (λ w. equal (σ .schema) t v w))) 0 0 [] ∷ []))
+      (outcome 2 InvalidAttributeSyntax))
+      (outcome 2 NoSuchAttributeOrValue))
+      (outcome 2 (cond (holds e t && granted σ (e .name) (ofType t) DiscloseOnError) InsufficientAccessRights NoSuchAttributeOrValue))
 
   -- ---- which entries list and search return
 
@@ -132,7 +142,7 @@ module _ (σ : Setting) where
 
     -- "noSuchObject, with the matched name as K 9 lines": a proper beginning of the name asked for
     unfoldable pub noSuchObject : ℕ → Name → List Line
-    noSuchObject op n = outcome op 1 ++ nameLines (matchedName n (length n - 1))
+    noSuchObject op n = outcome op NoSuchObject ++ nameLines (matchedName n (length n - 1))
 
     unfoldable pub named : Name → Option Entry
     named n = first (λ e. sameName (σ .schema) n (e .name)) es
@@ -142,7 +152,7 @@ module _ (σ : Setting) where
     unfoldable pub opened : ℕ → ℕ → Name → (Entry → List Line) → Option Entry → List Line
     opened op q n answer none = noSuchObject op n
     opened op q n answer (some e) =
-        cond (granted σ (e .name) entry q) (answer e) (cond (granted σ (e .name) entry DiscloseOnError) (outcome op 2) (noSuchObject op n))
+        cond (granted σ (e .name) entry q) (answer e) (cond (granted σ (e .name) entry DiscloseOnError) (outcome op InsufficientAccessRights) (noSuchObject op n))
 
     -- "list and search with nothing to return give 1 unless DiscloseOnError is granted on the base"
     unfoldable pub returned : ℕ → Name → ℕ → List (List Line) → List Line

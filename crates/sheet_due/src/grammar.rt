@@ -1,5 +1,10 @@
 // The two sheets whose lines are due one after the other: the forms of their lines, where `top` is the highest type, their
 // refusals, and the further test of the permission sheet.
+use rules::refusal::PERMISSIONS;
+use rules::refusal::REQUEST;
+use rules::what;
+use sheet_kind::Kind;
+use sheet_kind::is;
 use sheet_line::Line;
 ghost use mathlib.Core.Path.{_≡_};
 ghost use Prim.Native.Nat.{_+_, _≤_};
@@ -32,8 +37,8 @@ pub fn refusal(g: Grammar, fault: u64) -> u64
     ensures { λ r. ⌜ r ≡ refusalsOf g + fault ⌝ }
 {
     match g {
-        Grammar::Permissions => 10 + fault,
-        Grammar::Request => 20 + fault,
+        Grammar::Permissions => PERMISSIONS + fault,
+        Grammar::Request => REQUEST + fault,
     }
 }
 
@@ -42,16 +47,16 @@ fn sound_item(s: &[u8], schema: &[u64], line: Line) -> bool
     requires { ⌜ line .place + line .length ≤ ListN.length (now s) ⌝ }
     ensures { λ r. ⌜ r ≡ soundItem (schemaOf (now (schema .entry))) (lineOf (now (s .entry)) line) ⌝ }
 {
-    if line.kind == 7 {
-        if line.a < 3 {
+    if is(line.kind, Kind::ProtectedItem) {
+        if line.a < what::ONE_TYPE {
             return true;
         }
-        if line.a == 5 {
+        if line.a == what::ONE_VALUE {
             return name::allowed(schema, line.b, sheet_line::bytes(s, line));
         }
         return name::known(schema, line.b);
     }
-    if line.kind == 9 {
+    if is(line.kind, Kind::NamePart) {
         return name::allowed(schema, line.a, sheet_line::bytes(s, line));
     }
     true

@@ -7,11 +7,17 @@ use grammar::in_form;
 use grammar::refusal;
 use grammar::sound;
 use rules::Format;
+use rules::refusal::NOT_ALLOWED;
+use rules::refusal::OUT_OF_ORDER;
+use rules::refusal::OUTSIDE_SCHEMA;
+use sheet_kind::Kind;
+use sheet_kind::is;
 use sheet_line::Line;
 use sheet_line::Taken;
 ghost use mathlib.Core.Path.{_≡_};
 ghost use Rattle.rules.specs.Sheet.{Usable};
 ghost use Rattle.rules.specs.Places.{schemaOf};
+ghost use Rattle.sheet_kind.specs.Kinds.{numberOf};
 ghost use Rattle.sheet_due.specs.Grammars.{formsOf, refusalsOf, grammarOf};
 ghost use Rattle.sheet_due.specs.Lines.{seenAt, misplacedBy, reachedAt, afterDue, afterGroup, noLine, notDue, dueAt, linesDue, groupAt};
 
@@ -64,9 +70,9 @@ pub fn misplaced_by(g: Grammar, seen: Seen) -> u64
     ensures { λ r. ⌜ r ≡ misplacedBy (refusalsOf g) seen ⌝ }
 {
     match seen {
-        Seen::Line(_) => refusal(g, 3),
-        Seen::NotAllowed => refusal(g, 2),
-        Seen::Missing => refusal(g, 3),
+        Seen::Line(_) => refusal(g, OUT_OF_ORDER),
+        Seen::NotAllowed => refusal(g, NOT_ALLOWED),
+        Seen::Missing => refusal(g, OUT_OF_ORDER),
     }
 }
 
@@ -124,25 +130,25 @@ fn not_due(refusal: u64) -> Due
 }
 
 // The line of a kind that is due, unless there is a refusal already.
-pub fn due_at(s: &[u8], f: Format, g: Grammar, schema: &[u64], from: Reached, kind: u64) -> Due
+pub fn due_at(s: &[u8], f: Format, g: Grammar, schema: &[u64], from: Reached, kind: Kind) -> Due
     requires { ⌜ Usable f ⌝ }
-    ensures { λ r. ⌜ r ≡ dueAt (grammarOf (f .top) (schemaOf (now (schema .entry))) g) (f .width) (now (s .entry)) from kind ⌝ }
+    ensures { λ r. ⌜ r ≡ dueAt (grammarOf (f .top) (schemaOf (now (schema .entry))) g) (f .width) (now (s .entry)) from (numberOf kind) ⌝ }
 {
     if from.refusal != 0 {
         return not_due(from.refusal);
     }
     match seen_at(s, f, g, from.next) {
         Seen::Line(line) => {
-            if line.kind != kind {
-                return not_due(refusal(g, 3));
+            if !is(line.kind, kind) {
+                return not_due(refusal(g, OUT_OF_ORDER));
             }
             if sound(s, schema, g, line) {
                 return Due { refusal: 0, line };
             }
-            not_due(refusal(g, 4))
+            not_due(refusal(g, OUTSIDE_SCHEMA))
         }
-        Seen::NotAllowed => not_due(refusal(g, 2)),
-        Seen::Missing => not_due(refusal(g, 3)),
+        Seen::NotAllowed => not_due(refusal(g, NOT_ALLOWED)),
+        Seen::Missing => not_due(refusal(g, OUT_OF_ORDER)),
     }
 }
 
@@ -153,11 +159,11 @@ pub fn lines_due(
     g: Grammar,
     schema: &[u64],
     from: Reached,
-    kind: u64,
+    kind: Kind,
     count: u64,
 ) -> Reached
     requires { ⌜ Usable f ⌝ }
-    ensures { λ r. ⌜ r ≡ linesDue (grammarOf (f .top) (schemaOf (now (schema .entry))) g) (f .width) (now (s .entry)) kind count from ⌝ }
+    ensures { λ r. ⌜ r ≡ linesDue (grammarOf (f .top) (schemaOf (now (schema .entry))) g) (f .width) (now (s .entry)) (numberOf kind) count from ⌝ }
 {
     let mut reached = from;
     let mut n = count;
@@ -175,11 +181,11 @@ pub fn group_at(
     g: Grammar,
     schema: &[u64],
     from: Reached,
-    kind: u64,
-    part: u64,
+    kind: Kind,
+    part: Kind,
 ) -> Group
     requires { ⌜ Usable f ⌝ }
-    ensures { λ r. ⌜ r ≡ groupAt (grammarOf (f .top) (schemaOf (now (schema .entry))) g) (f .width) (now (s .entry)) from kind part ⌝ }
+    ensures { λ r. ⌜ r ≡ groupAt (grammarOf (f .top) (schemaOf (now (schema .entry))) g) (f .width) (now (s .entry)) from (numberOf kind) (numberOf part) ⌝ }
 {
     let due = due_at(s, f, g, schema, from, kind);
     let line = due.line;

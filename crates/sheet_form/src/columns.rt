@@ -1,13 +1,19 @@
 // The columns of a line, judged by its kind wherever it stands, where `top` is the highest type: is the kind one of its sheet's, and each number allowed?
 use super::bounds::or;
 use super::bounds::row;
-use super::kind::Kind;
-use super::kind::kind_of;
+use rules::operation;
+use rules::subset;
+use rules::what;
+use rules::who;
+use sheet_kind::Kind;
+use sheet_kind::is;
+use sheet_kind::kind_of;
 use sheet_line::Line;
 ghost use mathlib.Core.Path.{_≡_};
 ghost use Prim.Native.Nat.{ℕ};
-ghost use lib.ListN.{drop};
 ghost use Rattle.rules.specs.Columns.{directoryForms, permissionForms, requestForms};
+ghost use Rattle.sheet_kind.specs.Kinds.{numberOf};
+ghost use Rattle.sheet_kind.specs.declared.Kind.the-variants.{UserClass, ProtectedItem, Operation, Selection};
 ghost use Rattle.sheet_form.specs.Columns.{inFormOf, columnsIn};
 
 // The most parts of a name, the most bytes of a line, and the highest number of all.
@@ -17,48 +23,108 @@ const BYTES: usize = 64;
 
 const ANY: u64 = 18446744073709551615;
 
-// Who: name parts after 1 and 3 only.
+// Who: name parts only after a name.
 fn user_class_columns(line: Line) -> bool
-    ensures { λ r. ⌜ ((top : ℕ) → r ≡ inFormOf (permissionForms top) 6 (line .a) (line .b) (line .c) (line .length)) ⌝ }
+    ensures { λ r. ⌜ ((top : ℕ) → r ≡ inFormOf (permissionForms top) (numberOf UserClass) (line .a) (line .b) (line .c) (line .length)) ⌝ }
 {
     or(
-        row(line, 0, 0, 0, 0, 0, 0, 0, 0),
+        row(line, who::ALL_USERS, who::ALL_USERS, 0, 0, 0, 0, 0, 0),
         or(
-            row(line, 1, 1, 0, PARTS, 0, 0, 0, 0),
+            row(
+                line,
+                who::AT_OR_BELOW,
+                who::AT_OR_BELOW,
+                0,
+                PARTS,
+                0,
+                0,
+                0,
+                0,
+            ),
             or(
-                row(line, 2, 2, 0, 0, 0, 0, 0, 0),
-                row(line, 3, 3, 0, PARTS, 0, 0, 0, 0),
+                row(line, who::ENTRY_ITSELF, who::ENTRY_ITSELF, 0, 0, 0, 0, 0, 0),
+                row(line, who::NAMED_USER, who::NAMED_USER, 0, PARTS, 0, 0, 0, 0),
             ),
         ),
     )
 }
 
-// What: a type after 3 to 5, and a value after 5.
+// What: a type where one is named, and a value for one value.
 fn protected_item_columns(line: Line, top: u64) -> bool
-    ensures { λ r. ⌜ r ≡ inFormOf (permissionForms top) 7 (line .a) (line .b) (line .c) (line .length) ⌝ }
+    ensures { λ r. ⌜ r ≡ inFormOf (permissionForms top) (numberOf ProtectedItem) (line .a) (line .b) (line .c) (line .length) ⌝ }
 {
     or(
-        row(line, 0, 2, 0, 0, 0, 0, 0, 0),
+        row(
+            line,
+            what::ENTRY,
+            what::ALL_TYPES_AND_VALUES,
+            0,
+            0,
+            0,
+            0,
+            0,
+            0,
+        ),
         or(
-            row(line, 3, 4, 1, top, 0, 0, 0, 0),
-            row(line, 5, 5, 1, top, 0, 0, 0, BYTES),
+            row(
+                line,
+                what::ONE_TYPE,
+                what::VALUES_OF_TYPE,
+                1,
+                top,
+                0,
+                0,
+                0,
+                0,
+            ),
+            row(
+                line,
+                what::ONE_VALUE,
+                what::ONE_VALUE,
+                1,
+                top,
+                0,
+                0,
+                0,
+                BYTES,
+            ),
         ),
     )
 }
 
 // The operation: a size limit for list and search only.
 fn operation_columns(line: Line) -> bool
-    ensures { λ r. ⌜ ((top : ℕ) → r ≡ inFormOf (requestForms top) 11 (line .a) (line .b) (line .c) (line .length)) ⌝ }
+    ensures { λ r. ⌜ ((top : ℕ) → r ≡ inFormOf (requestForms top) (numberOf Operation) (line .a) (line .b) (line .c) (line .length)) ⌝ }
 {
     or(
-        row(line, 1, 2, 0, PARTS, 0, 0, 0, 0),
-        row(line, 3, 4, 0, PARTS, 0, ANY, 0, 0),
+        row(
+            line,
+            operation::READ,
+            operation::COMPARE,
+            0,
+            PARTS,
+            0,
+            0,
+            0,
+            0,
+        ),
+        row(
+            line,
+            operation::LIST,
+            operation::SEARCH,
+            0,
+            PARTS,
+            0,
+            ANY,
+            0,
+            0,
+        ),
     )
 }
 
 // The selection: a number of types only where they are listed.
 fn selection_columns(line: Line) -> bool
-    ensures { λ r. ⌜ ((top : ℕ) → r ≡ inFormOf (requestForms top) 12 (line .a) (line .b) (line .c) (line .length)) ⌝ }
+    ensures { λ r. ⌜ ((top : ℕ) → r ≡ inFormOf (requestForms top) (numberOf Selection) (line .a) (line .b) (line .c) (line .length)) ⌝ }
 {
     or(
         row(line, 0, 0, 0, 0, 0, 1, 0, 0),
@@ -66,35 +132,20 @@ fn selection_columns(line: Line) -> bool
     )
 }
 
-// A line of a filter.
-fn filter_columns(line: Line, top: u64) -> bool
-    ensures { λ r. ⌜ r ≡ inFormOf (drop 9 (requestForms top)) (line .kind) (line .a) (line .b) (line .c) (line .length) ⌝ }
-{
-    let kind = line.kind;
-    match kind {
-        20 => row(line, 0, 127, 0, 0, 0, 0, 0, 0),
-        21 => row(line, 0, 127, 0, 0, 0, 0, 0, 0),
-        22 => row(line, 0, 0, 0, 0, 0, 0, 0, 0),
-        23 => row(line, 1, top, 0, 0, 0, 0, 0, BYTES),
-        24 => row(line, 1, top, 0, 0, 0, 0, 0, BYTES),
-        25 => row(line, 1, top, 0, 0, 0, 0, 0, BYTES),
-        26 => row(line, 1, top, 0, 0, 0, 0, 0, 0),
-        27 => row(line, 1, top, 1, 8, 0, 0, 0, 0),
-        28 => row(line, 0, 2, 0, 0, 0, 0, 1, BYTES),
-        _ => false,
-    }
-}
-
-// A line of the directory.
+// A line of the directory. Value lines are the most.
 pub fn directory_columns(line: Line, top: u64) -> bool
     ensures { λ r. ⌜ r ≡ columnsIn (directoryForms top) line ⌝ }
 {
-    match kind_of(line.kind) {
-        Kind::AttributeType => row(line, 1, top, 0, 2, 0, 0, 0, 0),
-        Kind::Entry => row(line, 0, ANY, 1, top, 0, 0, 0, BYTES),
-        Kind::Value => row(line, 1, top, 0, 0, 0, 0, 0, BYTES),
-        _ => false,
+    if is(line.kind, Kind::Value) {
+        return row(line, 1, top, 0, 0, 0, 0, 0, BYTES);
     }
+    if is(line.kind, Kind::Entry) {
+        return row(line, 0, ANY, 1, top, 0, 0, 0, BYTES);
+    }
+    if is(line.kind, Kind::AttributeType) {
+        return row(line, 1, top, 0, 2, 0, 0, 0, 0);
+    }
+    false
 }
 
 // A line of the permissions.
@@ -123,8 +174,16 @@ pub fn request_columns(line: Line, top: u64) -> bool
         Kind::Selection => selection_columns(line),
         Kind::SelectedType => row(line, 1, top, 0, 0, 0, 0, 0, 0),
         Kind::Assertion => row(line, 1, top, 0, 0, 0, 0, 0, BYTES),
-        Kind::Subset => row(line, 0, 2, 0, 0, 0, 0, 0, 0),
-        Kind::Filter => filter_columns(line, top),
+        Kind::Subset => row(line, subset::BASE, subset::SUBTREE, 0, 0, 0, 0, 0, 0),
+        Kind::And => row(line, 0, 127, 0, 0, 0, 0, 0, 0),
+        Kind::Or => row(line, 0, 127, 0, 0, 0, 0, 0, 0),
+        Kind::Not => row(line, 0, 0, 0, 0, 0, 0, 0, 0),
+        Kind::Equality => row(line, 1, top, 0, 0, 0, 0, 0, BYTES),
+        Kind::AtLeast => row(line, 1, top, 0, 0, 0, 0, 0, BYTES),
+        Kind::AtMost => row(line, 1, top, 0, 0, 0, 0, 0, BYTES),
+        Kind::Present => row(line, 1, top, 0, 0, 0, 0, 0, 0),
+        Kind::Substrings => row(line, 1, top, 1, 8, 0, 0, 0, 0),
+        Kind::Piece => row(line, 0, 2, 0, 0, 0, 0, 1, BYTES),
         _ => false,
     }
 }

@@ -1,4 +1,4 @@
-// Which lines a sheet allows: what a line is by its kind, and whether its columns are in a form of its sheet, wherever it stands.
+// The forms of lines: whether a sheet has a line's kind and allows its numbers, wherever the line stands. It judges a line that was
+// taken, and reads no byte.
 mod bounds;
 pub mod columns;
-pub mod kind;

@@ -1,4 +1,5 @@
-// One line at the front of a sheet's rest. The width of a column is a parameter of every function.
+// The frame of a line: five columns of numbers, then as many bytes as the last one says, then byte 10; what the numbers mean is not asked.
+// The line at the front of a sheet's rest is told by it. The width of a column is a parameter of every function.
 use rules::Column;
 use rules::Front;
 use sheet_column::brief;

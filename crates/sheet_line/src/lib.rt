@@ -1,6 +1,6 @@
-// One line of a sheet at a position, taken through a reader, and its bytes as a part of the sheet. The width of a column is a parameter.
+// One line of a sheet, at a position, and its bytes as a part of the sheet. The width of a column is a parameter.
 use rules::Front;
-use sheet_reader::Reader;
+use sheet_frame::front;
 ghost use mathlib.Core.Path.{_≡_};
 ghost use Prim.Native.Nat.{_+_, _≤_};
 ghost use lib.ListN.{drop};
@@ -26,12 +26,15 @@ pub enum Taken {
     End,
 }
 
-// What stands at the position `at` of a sheet, taken through a reader; beyond its last byte, its end.
+// What stands at the front of the part that begins at `at`; beyond the sheet's last byte, its end.
 fn front_at(s: &[u8], at: usize, w: usize) -> Front
     requires { ⌜ w ≤ 18 ⌝ }
     ensures { λ r. ⌜ r ≡ frontOf w (drop at (now (s .entry))) ⌝ }
 {
-    Reader::new(s).past(at).line(w)
+    if at < s.len() {
+        return front(&s[at..], w);
+    }
+    Front::End
 }
 
 // The line at the position `at`, with the positions that follow from it.

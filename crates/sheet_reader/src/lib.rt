@@ -1,53 +1,89 @@
-// A sheet and a position in it, as one: the reader through which lines are taken. Each function is thin and leaves the work
+// A sheet and a position in it, as one: a reader that is carried from line to line. Each function is thin and leaves the work
 // to one over a plain slice.
-use rules::Front;
-use sheet_frame::front;
+use rules::Format;
+use sheet_due::Reached;
+use sheet_due::due_at;
+use sheet_due::grammar::Grammar;
+use sheet_due::group_at;
+use sheet_kind::Kind;
+use sheet_line::Line;
 ghost use mathlib.Core.Path.{_≡_};
-ghost use Prim.Native.Nat.{_+_, _<_, _≤_, _^_};
-ghost use lib.ListN.{drop};
-ghost use Rattle.rules.specs.Sheet.{frontOf};
+ghost use Rattle.rules.specs.Sheet.{Usable};
+ghost use Rattle.rules.specs.Places.{schemaOf};
+ghost use Rattle.sheet_kind.specs.Kinds.{numberOf};
+ghost use Rattle.sheet_due.specs.Grammars.{grammarOf};
+ghost use Rattle.sheet_reader.specs.Readings.{readerAt, dueReading, groupReading};
 
-// A sheet, and the position in it that is read next.
+// A sheet, and the position of the line that is read next.
 pub struct Reader<'a> {
     pub sheet: &'a [u8],
     pub at: usize,
 }
 
-// The work of `line`, over a plain slice.
-fn line_here(s: &[u8], at: usize, w: usize) -> Front
-    requires { ⌜ w ≤ 18 ⌝ }
-    ensures { λ r. ⌜ r ≡ frontOf w (drop at (now (s .entry))) ⌝ }
-{
-    if at < s.len() {
-        return front(&s[at..], w);
-    }
-    Front::End
+// A line that was due, or the refusal (0: none), and the reader moved past the line and the lines that it counts.
+pub struct Reading<'a> {
+    pub refusal: u64,
+    pub line: Line,
+    pub rest: Reader<'a>,
 }
 
 impl<'a> Reader<'a> {
-    // A reader at a sheet's first byte.
-    pub fn new(sheet: &'a [u8]) -> Reader<'a>
-        ensures { λ r. ⌜ (r .sheet ≡ sheet .entry) × (r .at ≡ 0) ⌝ }
+    // A reader at a position of a sheet.
+    pub fn new(sheet: &'a [u8], at: usize) -> Reader<'a>
+        ensures { λ r. ⌜ r ≡ readerAt (sheet .entry) at ⌝ }
     {
-        Reader { sheet, at: 0 }
+        Reader { sheet, at }
     }
 
-    // The reader moved past `n` bytes: those of a line just taken, or of all lines before a position.
-    pub fn past(self, n: usize) -> Reader<'a>
-        requires { ⌜ self .at + n < 2 ^ 64 ⌝ }
-        ensures { λ r. ⌜ (r .sheet ≡ self .entry .sheet) × (r .at ≡ self .entry .at + n) ⌝ }
+    // The line of a kind that is due at the reader's position, unless there is a refusal already.
+    pub fn due(self, f: Format, g: Grammar, schema: &[u64], refusal: u64, kind: Kind) -> Reading<'a>
+        requires { ⌜ Usable f ⌝ }
+        ensures { λ r. ⌜ r ≡ dueReading (grammarOf (f .top) (schemaOf (now (schema .entry))) g) (f .width) (self .entry) refusal (numberOf kind) ⌝ }
     {
-        Reader {
-            sheet: self.sheet,
-            at: self.at + n,
+        let from = Reached {
+            refusal,
+            next: self.at,
+        };
+        let due = due_at(self.sheet, f, g, schema, from, kind);
+        let line = due.line;
+        let at = line.next;
+        Reading {
+            refusal: due.refusal,
+            line,
+            rest: Reader {
+                sheet: self.sheet,
+                at,
+            },
         }
     }
 
-    // The line at the reader's position; beyond the sheet's last byte, its end.
-    pub fn line(self, w: usize) -> Front
-        requires { ⌜ w ≤ 18 ⌝ }
-        ensures { λ r. ⌜ r ≡ frontOf w (drop (self .entry .at) (now (self .entry .sheet))) ⌝ }
+    // The same, and after the line as many of the kind `part` as its column B says.
+    pub fn group(
+        self,
+        f: Format,
+        g: Grammar,
+        schema: &[u64],
+        refusal: u64,
+        kind: Kind,
+        part: Kind,
+    ) -> Reading<'a>
+        requires { ⌜ Usable f ⌝ }
+        ensures { λ r. ⌜ r ≡ groupReading (grammarOf (f .top) (schemaOf (now (schema .entry))) g) (f .width) (self .entry) refusal (numberOf kind) (numberOf part) ⌝ }
     {
-        line_here(self.sheet, self.at, w)
+        let from = Reached {
+            refusal,
+            next: self.at,
+        };
+        let group = group_at(self.sheet, f, g, schema, from, kind, part);
+        let line = group.line;
+        let at = group.next;
+        Reading {
+            refusal: group.refusal,
+            line,
+            rest: Reader {
+                sheet: self.sheet,
+                at,
+            },
+        }
     }
 }

@@ -1,12 +1,26 @@
 // A line written into a lent buffer. Nothing but the line's own bytes changes.
+use sheet_kind::Kind;
+use sheet_kind::number_of;
 ghost use mathlib.Core.Path.{_≡_};
 ghost use Prim.Native.Nat.{_+_, _*_, _≤_};
 ghost use lib.ListN.{length};
 ghost use Rattle.rules.specs.Sheet.{line, leading, column, numbers, lineBytes};
+ghost use Rattle.sheet_kind.specs.Kinds.{numberOf};
 ghost use Rattle.sheet_write.specs.Put.{putAt};
 
-// Spaces in the `w` bytes from `at` on.
-fn put_spaces(out: &mut [u8], at: usize, w: usize)
+// Spaces in the four bytes from `at` on.
+fn four_spaces(out: &mut [u8], at: usize)
+    requires { ⌜ at + 4 ≤ length (now out) ⌝ }
+    ensures { λ _. ⌜ now (out .exit) ≡ putAt (now (out .entry)) at (leading 4 0) ⌝ }
+{
+    out[at + 3] = 32;
+    out[at + 2] = 32;
+    out[at + 1] = 32;
+    out[at] = 32;
+}
+
+// Spaces in the `w` bytes from `at` on, one by one.
+fn single_spaces(out: &mut [u8], at: usize, w: usize)
     requires { ⌜ at + w ≤ length (now out) ⌝ }
     ensures { λ _. ⌜ now (out .exit) ≡ putAt (now (out .entry)) at (leading w 0) ⌝ }
 {
@@ -15,6 +29,23 @@ fn put_spaces(out: &mut [u8], at: usize, w: usize)
         i -= 1;
         out[at + i] = 32;
     }
+}
+
+// Spaces in the `w` bytes from `at` on. In columns of six bytes most often five or four are due.
+fn put_spaces(out: &mut [u8], at: usize, w: usize)
+    requires { ⌜ at + w ≤ length (now out) ⌝ }
+    ensures { λ _. ⌜ now (out .exit) ≡ putAt (now (out .entry)) at (leading w 0) ⌝ }
+{
+    if w == 5 {
+        out[at + 4] = 32;
+        four_spaces(out, at);
+        return;
+    }
+    if w == 4 {
+        four_spaces(out, at);
+        return;
+    }
+    single_spaces(out, at, w)
 }
 
 // The digits of `n` in the `w` bytes from `at` on, written from the right; spaces where none is left.
@@ -75,7 +106,7 @@ pub fn put_line(
     out: &mut [u8],
     at: usize,
     w: usize,
-    kind: u64,
+    kind: Kind,
     a: u64,
     b: u64,
     c: u64,
@@ -83,9 +114,9 @@ pub fn put_line(
 ) -> usize
     requires { ⌜ (1 ≤ w) × (at + (5 * w + 1 + length (now bytes)) ≤ length (now out)) ⌝ }
     ensures next { λ r. ⌜ r ≡ at + (5 * w + 1 + length (now (bytes .entry))) ⌝ }
-    ensures written { λ _. ⌜ now (out .exit) ≡ putAt (now (out .entry)) at (lineBytes w (line kind a b c (now (bytes .entry)))) ⌝ }
+    ensures written { λ _. ⌜ now (out .exit) ≡ putAt (now (out .entry)) at (lineBytes w (line (numberOf kind) a b c (now (bytes .entry)))) ⌝ }
 {
-    let from = put_numbers(out, at, w, kind, a, b, c, bytes.len() as u64);
+    let from = put_numbers(out, at, w, number_of(kind), a, b, c, bytes.len() as u64);
     put(out, from, bytes);
     let end = from + bytes.len();
     out[end] = 10;

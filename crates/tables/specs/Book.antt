@@ -1,9 +1,17 @@
 -- The book: the numbers noted of the directory's schema and entries, in one table. Three counts come first, then the columns, each at a fixed place.
-use Prim.Native.Nat.{ℕ, _+_, _≤_}
+use Prim.Native.Nat.{ℕ, _+_, _*_, _≤_}
 use mathlib.Core.Path.{_≡_}
 use mathlib.Core.List.{List}
 use lib.ListN.{length, getD, take, drop}
 use Rattle.rules.specs.Sheet.{Bytes}
+
+-- how many numbers it has: 8 for the counts, 64 for the types, 4 columns for the 256 entries, and the rows where their values begin and end
+abbrev pub BOOK : ℕ
+BOOK = 8 + 64 + 4 * 256 + 257
+
+-- the row of each entry's first value, of 256 entries, and the row after the last value
+abbrev pub FIRST-ROWS : ℕ
+FIRST-ROWS = 257
 
 -- the width of a column of the sheets, and how many types and entries there are
 abbrev pub width : List ℕ → ℕ
@@ -46,7 +54,7 @@ firstAt b k = getD b (1096 + k) 0
 
 -- a table of the book's size, with counts that its columns have room for
 pub record Fits (b : List ℕ) : Type 0 where
-  pub size : length b ≡ 1353
+  pub size : length b ≡ BOOK
   pub narrow : 6 ≤ width b
   pub wide : width b ≤ 18
   pub few-types : types b ≤ 64

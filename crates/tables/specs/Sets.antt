@@ -5,12 +5,13 @@
 --   rows 258 to 263    those that name Read, Browse, ReturnDN, DiscloseOnError, Compare, FilterMatch
 --   rows 264 to 269    those about 0 the entry, 1 all types, 2 all types and values, 3 a type, 4 all values of a type, 5 one value
 --   rows 270 to 333    those that name the type of that rank
---   rows 334 to 397    those whose value's digest has that slot
+--   rows 334 to 365    those whose value's digest has that first slot
+--   rows 366 to 397    those whose value's digest has that second slot
 --
 -- After the rows, a number for each item: at 1592 the digest of its value, at 1848 where the value begins on the permission sheet, at 2104 its length.
 use Prim.Native.Nat.{ℕ, zero, suc, _+_, _*_, _/_, _%_, _^_, _≤_, _<_}
 use mathlib.Core.Path.{_≡_}
-use mathlib.Core.Bool.{Bool, false, _&&_}
+use mathlib.Core.Bool.{Bool, false, _&&_, _||_}
 use mathlib.Core.List.{List}
 use lib.Dec.{eqb, ltb}
 use lib.ListN.{length, getD, take, drop}
@@ -25,6 +26,10 @@ use Rattle.access_set.specs.declared.Bits.{Bits}
 use Rattle.access_set.specs.Member.{member}
 use Rattle.tables.specs.Held.{typeAt}
 
+-- how many numbers they are: 398 rows of four words, and three numbers for each of 256 items
+abbrev pub SETS : ℕ
+SETS = 398 * 4 + 3 * 256
+
 -- ---- the rows
 
 unfoldable pub rowOf : List ℕ → ℕ → Bits
@@ -34,9 +39,17 @@ rowOf t r = record { a = getD t (r * 4) 0; b = getD t (r * 4 + 1) 0; c = getD t 
 unfoldable pub inRow : List ℕ → ℕ → ℕ → Bool
 inRow t r j = member (rowOf t r) j
 
--- the slot of a digest: its low bits, in which values that are much alike differ, and those above the directory's buckets
-unfoldable pub slotOf : ℕ → ℕ
-slotOf digest = (digest + digest / 2048) % 64
+-- the row of a digest's first slot: by five bits above those of the directory's buckets
+abbrev pub firstSlot : ℕ → ℕ
+firstSlot digest = 334 + digest / 2048 % 32
+
+-- and that of its second slot: by five bits above them
+abbrev pub secondSlot : ℕ → ℕ
+secondSlot digest = 366 + digest / 65536 % 32
+
+-- has a digest its slot in row `r`?
+unfoldable pub slotted : ℕ → ℕ → Bool
+slotted digest r = eqb r (firstSlot digest) || eqb r (secondSlot digest)
 
 -- ---- what they stand for
 
@@ -48,7 +61,7 @@ pub record Items (is : List Item) (order schema : List ℕ) (p : Bytes) (sets : 
   pub permission : (b j : ℕ) → b < 6 → j < length is → inRow sets (258 + b) j ≡ eqb (itemAt is order j .permissions / 2 ^ b % 2) 1
   pub what : (x j : ℕ) → x < 6 → j < length is → inRow sets (264 + x) j ≡ eqb (itemAt is order j .what) x
   pub type : (r j : ℕ) → r < length schema → j < length is → inRow sets (270 + r) j ≡ eqb (itemAt is order j .type) (typeAt schema r)
-  pub slot : (s j : ℕ) → s < 64 → j < length is → inRow sets (334 + s) j ≡ eqb (slotOf (digest 0 (itemAt is order j .value))) s
+  pub slot : (r j : ℕ) → 334 ≤ r → r < 398 → j < length is → inRow sets r j ≡ slotted (digest 0 (itemAt is order j .value)) r
   pub digests : (j : ℕ) → j < length is → getD sets (1592 + j) 0 ≡ digest 0 (itemAt is order j .value)
   pub value : (j : ℕ) → j < length is → take (getD sets (2104 + j) 0) (drop (getD sets (1848 + j) 0) p) ≡ itemAt is order j .value
   pub within : (j : ℕ) → j < 256 → getD sets (1848 + j) 0 + getD sets (2104 + j) 0 ≤ length p

@@ -9,8 +9,8 @@ use Rattle.rules.specs.Decision.{Setting}
 use Rattle.rules.specs.Places.{linesAt, valuesOf, schemaOf}
 use Rattle.rules.specs.Laws.Directory.{Accepted}
 use Rattle.tables.specs.Book.{Fits, width, entries, schema, placeAt, parentAt, namingAt, lengthAt, namingOf, firstAt}
-use Rattle.tables.specs.Held.{Distinct, HeldAt}
-use Rattle.tables.specs.Sets.{Rights}
+use Rattle.tables.specs.Held.{HELD, Distinct, HeldAt}
+use Rattle.tables.specs.Sets.{SETS, Rights}
 
 -- the entry `e` by the numbers of index `k`; its values stand after the line of its naming value
 pub record EntryAt (d : Bytes) (e : Stored) (book : List ℕ) (k : ℕ) : Type 0 where
@@ -23,7 +23,7 @@ pub record EntryAt (d : Bytes) (e : Stored) (book : List ℕ) (k : ℕ) : Type 0
 -- the setting and the accepted entries `es` of the directory `d`, by the book and the rows of the values held
 pub record Entries (σ : Setting) (es : List Stored) (d : Bytes) (book held : List ℕ) : Type 0 where
   pub fits : Fits book
-  pub rows : length held ≡ 6345
+  pub rows : length held ≡ HELD
   pub small : length d ≤ 65536
   pub schema-is : σ .schema ≡ schemaOf (schema book)
   pub distinct : Distinct (schema book)
@@ -39,7 +39,7 @@ Listed d book = (σ : Setting) × (es : List Stored) × (held : List ℕ) × Ent
 -- the entries, and what the requester may under the permission sheet `p`
 pub record World (σ : Setting) (es : List Stored) (d p : Bytes) (book held sets : List ℕ) : Type 0 where
   pub entries : Entries σ es d book held
-  pub size : length sets ≡ 2360
+  pub size : length sets ≡ SETS
   pub rights : Rights σ es (schema book) p sets
 
 -- the numbers stand for some world

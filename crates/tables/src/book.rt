@@ -24,9 +24,12 @@ pub const NAMING: usize = 584;
 
 pub const LENGTH: usize = 840;
 
-// 257 numbers: the row of each entry's first value, and after the last entry's values.
+// `FIRST_ROWS` numbers: the row of each entry's first value, and the row after the last value.
 pub const FIRST: usize = 1096;
 
+pub const FIRST_ROWS: usize = 257;
+
+// How many numbers the book has.
 pub const BOOK: usize = 1353;
 
 pub fn schema(book: &[u64]) -> &[u64]
@@ -46,7 +49,7 @@ pub fn parents(book: &[u64]) -> &[u64]
 }
 
 // The bytes of the naming value of the entry of index `k`, as a part of the directory.
-pub fn naming_value<'a>(book: &[u64; 1353], d: &'a [u8], k: usize) -> &'a [u8]
+pub fn naming_value<'a>(book: &[u64; BOOK], d: &'a [u8], k: usize) -> &'a [u8]
     requires { ⌜ (k < 256) × (placeAt (now book) k + lengthAt (now book) k ≤ length (now d)) ⌝ }
     ensures { λ r. ⌜ now r ≡ namingOf (now (book .entry)) (now (d .entry)) k ⌝ }
 {

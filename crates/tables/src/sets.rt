@@ -1,11 +1,11 @@
-// The sets of items: where the rows begin, one row, and the slot of a digest.
+// The sets of items: where the rows begin, one row, and the slots of a digest.
 use access_set::Bits;
 ghost use mathlib.Core.Path.{_≡_};
 ghost use Prim.Native.Nat.{_+_, _*_, _≤_, _<_};
 ghost use lib.ListN.{length};
-ghost use Rattle.tables.specs.Sets.{rowOf, slotOf};
+ghost use Rattle.tables.specs.Sets.{rowOf, firstSlot, secondSlot};
 
-// Rows: 257 of the entries by their numbers, one of those that grant, 6 of the permissions, 6 by what they are about, 64 by types, 64 by slots.
+// Rows: 257 of the entries by their numbers, one of those that grant, 6 of the permissions, 6 by what they are about, 64 by types, twice 32 by slots.
 pub const GRANTS: usize = 257;
 
 pub const PERMISSION: usize = 258;
@@ -14,7 +14,9 @@ pub const WHAT: usize = 264;
 
 pub const TYPE: usize = 270;
 
-pub const SLOT: usize = 334;
+const FIRST_SLOT: usize = 334;
+
+const SECOND_SLOT: usize = 366;
 
 // Numbers, 256 each: the digest, the place and the length of an item's value.
 pub const DIGEST: usize = 1592;
@@ -23,9 +25,10 @@ pub const PLACE: usize = 1848;
 
 pub const LENGTH: usize = 2104;
 
+// How many numbers the sets have.
 pub const SETS: usize = 2360;
 
-// The permissions, by their rows.
+// The permissions, by their rows: a permission's number is 2 to the power of its row.
 pub const READ: usize = 0;
 
 pub const BROWSE: usize = 1;
@@ -52,10 +55,16 @@ pub fn row(sets: &[u64], r: usize) -> Bits
     }
 }
 
-// The slot of a digest.
-pub fn slot(digest: u64) -> usize
-    requires { ⌜ digest < 4294967296 ⌝ }
-    ensures { λ r. ⌜ r ≡ slotOf digest ⌝ }
+// The row of a digest's first slot.
+pub fn first_slot(digest: u64) -> usize
+    ensures { λ r. ⌜ r ≡ firstSlot digest ⌝ }
 {
-    ((digest + digest / 2048) % 64) as usize
+    FIRST_SLOT + (digest / 2048 % 32) as usize
+}
+
+// The row of its second slot.
+pub fn second_slot(digest: u64) -> usize
+    ensures { λ r. ⌜ r ≡ secondSlot digest ⌝ }
+{
+    SECOND_SLOT + (digest / 65536 % 32) as usize
 }

@@ -1,17 +1,38 @@
 // A number that equal values share and few others do, so that bytes are compared only where the numbers agree.
 use value_collation::small;
 ghost use mathlib.Core.Path.{_≡_};
+ghost use Prim.Native.Nat.{_<_, _^_};
 ghost use Rattle.value_syntax.specs.Digest as Digest;
 
-// The bytes mixed into `seed`, one after the other. Letters count without case, so that equal values have one digest in every syntax.
+// Four bytes as one number, letters without case.
+fn word(a: u8, b: u8, c: u8, d: u8) -> u64
+    ensures { λ r. ⌜ (r ≡ Digest.word a b c d) × (r < 2 ^ 32) ⌝ }
+{
+    small(a) as u64 + small(b) as u64 * 256 + small(c) as u64 * 65536 + small(d) as u64 * 16777216
+}
+
+// A number below 2^32 mixed into `h`.
+fn stirred(h: u64, w: u64) -> u64
+    requires { ⌜ w < 2 ^ 32 ⌝ }
+    ensures { λ r. ⌜ r ≡ Digest.stirred h w ⌝ }
+{
+    let x = (h % 4294967296 + w) * 1540483477;
+    x ^ (x / 536870912)
+}
+
+// The bytes mixed into `seed`, four at a time and then those left one by one. Letters count without case, so that equal values have
+// one digest in every syntax.
 pub fn digest(seed: u64, v: &[u8]) -> u64
     ensures { λ r. ⌜ r ≡ Digest.digest seed (now (v .entry)) ⌝ }
 {
     let mut h = seed;
     let mut i: usize = 0;
+    while 4 <= v.len() - i {
+        h = stirred(h, word(v[i], v[i + 1], v[i + 2], v[i + 3]));
+        i += 4;
+    }
     while i < v.len() {
-        let x = h % 4294967296 * 16777619 + small(v[i]) as u64;
-        h = x + x / 1048576;
+        h = stirred(h, small(v[i]) as u64);
         i += 1;
     }
     h % 4294967296

@@ -4,9 +4,10 @@ use mathlib.Core.Path.{_≡_, refl, ap, ap₂, _∙_, subst}
 use mathlib.Core.Bool.{Bool, true, false, _&&_}
 use mathlib.Core.List.{List, [], _∷_, map}
 use native.Mathlib.Nat.{le-of-suc-le-suc, not-suc-le-zero}
+use native.Mathlib.Numerals.{add-one}
 use native.Mathlib.Omega.{arith}
 use lib.Dec.{ltb}
-use lib.ListN.{length, getD, take, drop, length-map}
+use lib.ListN.{length, getD, take, drop, replicate, length-map, length-replicate}
 use borrow.Author.Tests.{ltb-true}
 use Rattle.rules.specs.Sheet.{Bytes}
 use Rattle.rules.specs.Directory.{Stored}
@@ -17,17 +18,76 @@ use Rattle.rules.specs.Laws.Decision.{concerns}
 use Rattle.rules.specs.Laws.First.{blank, itemAt}
 use Rattle.rules.specs.Numbers.{reaches, reachOf}
 use Rattle.rules.specs.Laws.Reach.{reach-concerns}
-use Rattle.tables.specs.Sets.{inRow, Items, Covers, Rights}
-use Rattle.access_items.specs.Laws.Rows.{same-row}
-use Rattle.access_covers.specs.Row.{Inherits}
-use Rattle.access_covers.specs.Enter.{reachAt}
+use Rattle.directory_schema.specs.Schema.{Rising}
+use Rattle.tables.specs.Sets.{SETS, inRow, Items, Covers, Rights}
+use Rattle.access_items.specs.Sorted.{Sorted}
+use Rattle.access_items.specs.Note.{itemsNoted}
+use Rattle.access_items.specs.Laws.Rows.{same-row, zeros}
+use Rattle.access_items.specs.Laws.Items.{items-length, items-front, items-noted}
+use Rattle.access_covers.specs.Enter.{aloneEntered, downEntered, reachAt, allEntered}
+use Rattle.access_covers.specs.Noted.{downTo, coversTo, coversNoted, rightsNoted}
 use Rattle.access_covers.specs.Reached.{Reached}
-use Rattle.access_covers.specs.Laws.Inherit.{Inherited, inherited-more}
+use Rattle.access_covers.specs.Laws.Row.{Inherits}
+use Rattle.access_covers.specs.Laws.Enter.{aloneBy, ownBy, alone-entered, down-entered, Clear, Owned, owned-all}
+use Rattle.access_covers.specs.Laws.Inherit.{Kept, kept, inherits-next, Inherited, inherited-none, inherited-more}
 
 getD-map : (f : Item → ℕ) (is : List Item) (k : ℕ) → k < length is → getD (map f is) k 0 ≡ f (getD is k blank)
 getD-map f [] k l = absurd (not-suc-le-zero l)
 getD-map f (i ∷ is) zero l = refl
 getD-map f (i ∷ is) (suc k) l = getD-map f is k (le-of-suc-le-suc l)
+
+-- ---- the covers, whatever they stand for
+
+module _ (reach order parents sets : List ℕ) (size : length sets ≡ SETS) (few : length order ≤ 256) (few′ : length parents ≤ 256) where
+  -- the tables before the first entry inherits
+  abbrev down₀ : List ℕ
+  down₀ = allEntered downEntered reach order (length order) (replicate 1028 0)
+
+  abbrev covers₀ : List ℕ
+  covers₀ = allEntered aloneEntered reach order (length order) sets
+
+  cleared : length {A = ℕ} (replicate 1028 0) ≡ 1028
+  cleared = length-replicate {A = ℕ} 1028 0
+
+  alone : Owned aloneEntered aloneBy alone-entered reach order sets (omega arith) (length order) covers₀
+  alone = owned-all aloneEntered aloneBy alone-entered reach order sets (omega arith) (length order) few
+
+  down : Owned downEntered ownBy down-entered reach order (replicate 1028 0) (omega (arith, cleared)) (length order) down₀
+  down = owned-all downEntered ownBy down-entered reach order (replicate 1028 0) (omega (arith, cleared)) (length order) few
+
+  next-inherits : (k : ℕ) → k < length parents
+      → Inherits (k + 1) (getD parents k 0) (coversTo parents k down₀ covers₀) (downTo parents k down₀) (coversTo parents (suc k) down₀ covers₀) (downTo parents (suc k) down₀)
+  next-inherits = inherits-next parents down₀ covers₀ (omega (arith, alone .size)) (omega (arith, down .size, cleared)) few′
+
+  K : Kept parents down₀ covers₀ (omega (arith, alone .size)) (omega (arith, down .size, cleared)) few′ (length parents)
+  K = kept parents down₀ covers₀ (omega (arith, alone .size)) (omega (arith, down .size, cleared)) few′ (length parents) (omega arith)
+
+  covers-size : length (coversNoted reach order parents sets) ≡ SETS
+  unfolding coversNoted
+  covers-size = K .covers-size ∙ alone .size ∙ size
+
+  covers-after : (i : ℕ) → 1028 ≤ i → getD (coversNoted reach order parents sets) i 0 ≡ getD sets i 0
+  unfolding coversNoted
+  covers-after i l = K .after i l ∙ alone .after i l
+
+-- the tables that the loop leaves
+pub covers-whole : (reach order parents sets down₀ covers₀ covers : List ℕ) (k : ℕ) → k ≤ length parents → length parents ≤ k → down₀ ≡ allEntered downEntered reach order (length order) (replicate 1028 0)
+    → covers₀ ≡ allEntered aloneEntered reach order (length order) sets → covers ≡ coversTo parents k down₀ covers₀ → covers ≡ coversNoted reach order parents sets
+unfolding coversNoted
+covers-whole reach order parents sets down₀ covers₀ covers k l h d c e =
+    let z : k ≡ length parents = omega arith in
+    e ∙ ap (λ (m : ℕ). coversTo parents m down₀ covers₀) z ∙ ap₂ (coversTo parents (length parents)) d c
+
+-- the items first, which keep the size
+pub items-size : (rights schema order sets s : List ℕ) → s ≡ itemsNoted rights schema order (length order) sets → length s ≡ length sets
+items-size rights schema order sets s h = ap length h ∙ items-length rights schema order (length order) sets
+
+pub rights-whole : (rights schema order reach parents sets s t : List ℕ) → s ≡ itemsNoted rights schema order (length order) sets → t ≡ coversNoted reach order parents s
+    → t ≡ rightsNoted rights schema order reach parents sets
+unfolding rightsNoted
+rights-whole rights schema order reach parents sets s t h e = e ∙ ap (coversNoted reach order parents) h
+
+-- ---- what they stand for
 
 module _ (σ : Setting) (es : List Stored) (reach order parents : List ℕ) (given : Reached σ es reach order parents) where
   -- an item of the order has a reach
@@ -43,14 +103,7 @@ module _ (σ : Setting) (es : List Stored) (reach order parents : List ℕ) (giv
       let b : k < length es = subst (λ (m : ℕ). k < m) (given .parents-noted) l in
       omega (arith, given .parent k b, given .accepted .parents k b)
 
-  -- the row of one entry more
-  pub next-row : (k : ℕ) → k < length parents → (n : ℕ) (R : ℕ → ℕ) (covers down covers′ down′ : List ℕ) → Inherits (k + 1) (getD parents k 0) covers down covers′ down′
-      → Inherited es n R k covers down → Inherited es n R (k + 1) covers′ down′
-  next-row k l n R covers down covers′ down′ =
-      let b : k < length es = subst (λ (m : ℕ). k < m) (given .parents-noted) l in
-      inherited-more es (given .accepted .parents) n R k (omega (arith, given .few)) (getD parents k 0) (given .parent k b) covers down covers′ down′
-
-  pub covers-of : (covers down : List ℕ) (k : ℕ) → length parents ≤ k → Inherited es (length order) (reachAt reach order) k covers down → Covers σ es order covers
+  covers-of : (covers down : List ℕ) (k : ℕ) → length parents ≤ k → Inherited es (length order) (reachAt reach order) k covers down → Covers σ es order covers
   covers-of covers down k done h = record {
     root = h .root;
     entry = λ e j l.
@@ -68,8 +121,37 @@ module _ (σ : Setting) (es : List Stored) (reach order parents : List ℕ) (giv
           ∙ getD-map (reachOf σ es) (σ .items) (getD order j 0) (given .ranked .within j (ltb-true j (length (σ .items)) e)))
           ∙ reach-concerns σ es (given .accepted) k l (itemAt (σ .items) order j)
 
+  -- of a table without members in the rows of the entries
+  module _ (sets : List ℕ) (size : length sets ≡ SETS) (clear : Clear sets) where
+    few : length order ≤ 256
+    few = omega (arith, given .count, given .few-items)
+
+    few′ : length parents ≤ 256
+    few′ = omega (arith, given .parents-noted, given .few)
+
+    abbrev C : ℕ → List ℕ
+    C k = coversTo parents k (allEntered downEntered reach order (length order) (replicate 1028 0)) (allEntered aloneEntered reach order (length order) sets)
+
+    abbrev D : ℕ → List ℕ
+    D k = downTo parents k (allEntered downEntered reach order (length order) (replicate 1028 0))
+
+    inherited : (k : ℕ) → k ≤ length parents → Inherited es (length order) (reachAt reach order) k (C k) (D k)
+    unfolding coversTo downTo
+    inherited zero l =
+        inherited-none es (length order) (reachAt reach order) (C 0) (D 0) (alone reach order parents sets size few few′ .rows clear)
+        (down reach order parents sets size few few′ .rows (λ i b. zeros 1028 i))
+    inherited (suc k) l =
+        let b : k < length es = subst (λ (m : ℕ). k < m) (given .parents-noted) l in
+        subst (λ (m : ℕ). Inherited es (length order) (reachAt reach order) m (C (suc k)) (D (suc k))) (add-one k)
+        (inherited-more es (given .accepted .parents) (length order) (reachAt reach order) k (omega (arith, given .few)) (getD parents k 0) (given .parent k b) (C k) (D k) (C (suc k)) (D (suc k))
+        (next-inherits reach order parents sets size few few′ k l) (inherited k (omega arith)))
+
+    pub covers-noted : Covers σ es order (coversNoted reach order parents sets)
+    unfolding coversNoted
+    covers-noted = covers-of (C (length parents)) (D (length parents)) (length parents) (omega arith) (inherited (length parents) (omega arith))
+
 -- the sets of the items stand in the words from 1028 on
-pub items-kept : (is : List Item) (order schema : List ℕ) (p : Bytes) (s t : List ℕ) → ((i : ℕ) → 1028 ≤ i → getD t i 0 ≡ getD s i 0) → Items is order schema p s → Items is order schema p t
+items-kept : (is : List Item) (order schema : List ℕ) (p : Bytes) (s t : List ℕ) → ((i : ℕ) → 1028 ≤ i → getD t i 0 ≡ getD s i 0) → Items is order schema p s → Items is order schema p t
 items-kept is order schema p s t e h = record {
   ranked = h .ranked;
   few = h .few;
@@ -77,7 +159,7 @@ items-kept is order schema p s t e h = record {
   permission = λ b j a l. row (258 + b) j (omega arith) ∙ h .permission b j a l;
   what = λ x j a l. row (264 + x) j (omega arith) ∙ h .what x j a l;
   type = λ r j a l. row (270 + r) j (omega arith) ∙ h .type r j a l;
-  slot = λ x j a l. row (334 + x) j (omega arith) ∙ h .slot x j a l;
+  slot = λ r j a b l. row r j (omega arith) ∙ h .slot r j a b l;
   digests = λ j l. e (1592 + j) (omega arith) ∙ h .digests j l;
   value = λ j l. ap₂ (λ (m n : ℕ). take m (drop n p)) (e (2104 + j) (omega arith)) (e (1848 + j) (omega arith)) ∙ h .value j l;
   within = λ j l. omega (arith, e (1848 + j) (omega arith), e (2104 + j) (omega arith), h .within j l);
@@ -86,6 +168,23 @@ items-kept is order schema p s t e h = record {
     row : (r j : ℕ) → 257 ≤ r → inRow t r j ≡ inRow s r j
     row r j l = same-row t s r (λ i a b. e i (omega arith)) j
 
-pub rights-of : (σ : Setting) (es : List Stored) (schema : List ℕ) (p : Bytes) (order s t : List ℕ) → Items (σ .items) order schema p s → ((i : ℕ) → 1028 ≤ i → getD t i 0 ≡ getD s i 0)
-    → Covers σ es order t → Rights σ es schema p t
-rights-of σ es schema p order s t items e covers = record { order = order; items = items-kept (σ .items) order schema p s t e items; covers = covers }
+-- what the requester may
+pub rights-noted : (σ : Setting) (es : List Stored) (w : ℕ) (p : Bytes) (rights scopes schema order reach parents : List ℕ) → Rising 0 schema → length schema ≤ 64
+    → Sorted w p (σ .items) rights scopes order → Reached σ es reach order parents → Rights σ es schema p (rightsNoted rights schema order reach parents (replicate SETS 0))
+unfolding rightsNoted
+rights-noted σ es w p rights scopes schema order reach parents rising few S R = record {
+  order = order;
+  items = items-kept (σ .items) order schema p (itemsNoted rights schema order (length order) (replicate SETS 0)) _
+      (covers-after reach order parents (itemsNoted rights schema order (length order) (replicate SETS 0)) size (omega (arith, R .count, R .few-items)) (omega (arith, R .parents-noted, R .few)))
+      (items-noted w p (σ .items) rights scopes order S schema rising few);
+  covers = covers-noted σ es reach order parents R (itemsNoted rights schema order (length order) (replicate SETS 0)) size (items-front w p (σ .items) rights scopes order S schema rising few);
+}
+  where
+    size : length (itemsNoted rights schema order (length order) (replicate SETS 0)) ≡ SETS
+    size = items-length rights schema order (length order) (replicate SETS 0) ∙ length-replicate {A = ℕ} SETS 0
+
+pub rights-size : (rights schema order reach parents : List ℕ) → length order ≤ 256 → length parents ≤ 256 → length (rightsNoted rights schema order reach parents (replicate SETS 0)) ≡ SETS
+unfolding rightsNoted
+rights-size rights schema order reach parents few few′ =
+    covers-size reach order parents (itemsNoted rights schema order (length order) (replicate SETS 0))
+    (items-length rights schema order (length order) (replicate SETS 0) ∙ length-replicate {A = ℕ} SETS 0) few few′

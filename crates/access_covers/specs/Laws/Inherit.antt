@@ -12,9 +12,50 @@ use borrow.Author.Tests.{eq-eqb, ne-eqb, eqb-true, eqb-false, ltb-true, ltb-fals
 use Rattle.rules.specs.Directory.{Stored, blank}
 use Rattle.rules.specs.Numbers.{climbs, reaches}
 use Rattle.tables.specs.Sets.{inRow}
-use Rattle.access_covers.specs.Row.{Inherits}
-use Rattle.access_covers.specs.Enter.{aloneBy, ownBy, Owned}
-use Rattle.access_covers.specs.Laws.Enter.{root-alone}
+use Rattle.access_covers.specs.Row.{downInherited, coversInherited}
+use Rattle.access_covers.specs.Noted.{downTo, coversTo}
+use Rattle.access_covers.specs.Laws.Row.{Inherits, inherits-of}
+use Rattle.access_covers.specs.Laws.Enter.{aloneBy, ownBy, root-alone}
+
+-- ---- one entry more
+
+module _ (parents down₀ covers₀ down covers : List ℕ) (k : ℕ) (d : down ≡ downTo parents k down₀) where
+  pub down-more : (down′ : List ℕ) → down′ ≡ downInherited (k + 1) (getD parents k 0) down → down′ ≡ downTo parents (k + 1) down₀
+  unfolding downTo
+  down-more down′ e = e ∙ ap (downInherited (k + 1) (getD parents k 0)) d ∙ ap (λ (m : ℕ). downTo parents m down₀) (sym (add-one k))
+
+  pub covers-more : (covers′ : List ℕ) → covers ≡ coversTo parents k down₀ covers₀ → covers′ ≡ coversInherited (k + 1) (getD parents k 0) down covers → covers′ ≡ coversTo parents (k + 1) down₀ covers₀
+  unfolding coversTo
+  covers-more covers′ c e = e ∙ ap₂ (coversInherited (k + 1) (getD parents k 0)) d c ∙ ap (λ (m : ℕ). coversTo parents m down₀ covers₀) (sym (add-one k))
+
+-- the tables keep their sizes, and the covers the words after the entries' rows
+module _ (parents down covers : List ℕ) (room : 1028 ≤ length covers) (room′ : 1028 ≤ length down) (few : length parents ≤ 256) where
+  pub record Kept (k : ℕ) : Type 0 where
+    pub covers-size : length (coversTo parents k down covers) ≡ length covers
+    pub down-size : length (downTo parents k down) ≡ length down
+    pub after : (i : ℕ) → 1028 ≤ i → getD (coversTo parents k down covers) i 0 ≡ getD covers i 0
+
+  -- the entry of index `k` inherits
+  inherits-at : (k : ℕ) → k < length parents → Kept k
+      → Inherits (k + 1) (getD parents k 0) (coversTo parents k down covers) (downTo parents k down) (coversTo parents (suc k) down covers) (downTo parents (suc k) down)
+  unfolding coversTo downTo
+  inherits-at k l h = inherits-of (k + 1) (getD parents k 0) (coversTo parents k down covers) (downTo parents k down) (omega (arith, h .covers-size)) (omega (arith, h .down-size)) (omega arith)
+
+  pub kept : (k : ℕ) → k ≤ length parents → Kept k
+  unfolding coversTo downTo
+  kept zero l = record { covers-size = refl; down-size = refl; after = λ i h. refl }
+  kept (suc k) l = more (kept k (omega arith))
+    where
+      more : Kept k → Kept (suc k)
+      more h = let I = inherits-at k l h in record {
+        covers-size = I .covers-size ∙ h .covers-size;
+        down-size = I .down-size ∙ h .down-size;
+        after = λ i b. I .after i b ∙ h .after i b;
+      }
+
+  pub inherits-next : (k : ℕ) → k < length parents
+      → Inherits (k + 1) (getD parents k 0) (coversTo parents k down covers) (downTo parents k down) (coversTo parents (suc k) down covers) (downTo parents (suc k) down)
+  inherits-next k l = inherits-at k l (kept k (omega arith))
 
 -- ---- what an entry has of the items that go on below
 
@@ -92,14 +133,15 @@ pub record Inherited (es : List Stored) (n : ℕ) (R : ℕ → ℕ) (k : ℕ) (c
   down-done : (e j : ℕ) → e ≤ k → inRow down e j ≡ (ltb j n && downBy es (R j) e)
   down-due : (e j : ℕ) → k < e → e ≤ 256 → inRow down e j ≡ (ltb j n && ownBy (R j) e)
 
-pub inherited-none : (es : List Stored) (n : ℕ) (R : ℕ → ℕ) (covers down : List ℕ) → Owned n R covers down → Inherited es n R 0 covers down
-inherited-none es n R covers down o = record {
-  root = λ j. o .alone-is 0 j (omega arith) ∙ ap (λ (t : Bool). ltb j n && t) (root-alone (R j)) ∙ none (ltb j n);
+pub inherited-none : (es : List Stored) (n : ℕ) (R : ℕ → ℕ) (covers down : List ℕ) → ((e j : ℕ) → e ≤ 256 → inRow covers e j ≡ (ltb j n && aloneBy (R j) e))
+    → ((e j : ℕ) → e ≤ 256 → inRow down e j ≡ (ltb j n && ownBy (R j) e)) → Inherited es n R 0 covers down
+inherited-none es n R covers down alone own = record {
+  root = λ j. alone 0 j (omega arith) ∙ ap (λ (t : Bool). ltb j n && t) (root-alone (R j)) ∙ none (ltb j n);
   covers-done = λ e j l. absurd (not-suc-le-zero l);
-  covers-due = λ e j l h. o .alone-is e j h;
+  covers-due = λ e j l h. alone e j h;
   down-done = λ e j l. let z : e ≡ 0 = omega arith in
-      subst (λ (m : ℕ). inRow down m j ≡ (ltb j n && downBy es (R j) m)) (sym z) (o .down-is 0 j (omega arith) ∙ ap (λ (t : Bool). ltb j n && t) (sym (down-zero es (R j))));
-  down-due = λ e j l h. o .down-is e j h;
+      subst (λ (m : ℕ). inRow down m j ≡ (ltb j n && downBy es (R j) m)) (sym z) (own 0 j (omega arith) ∙ ap (λ (t : Bool). ltb j n && t) (sym (down-zero es (R j))));
+  down-due = λ e j l h. own e j h;
 }
   where
     none : (b : Bool) → (b && false) ≡ false

@@ -9,10 +9,11 @@ use lib.ListN.{length, getD, set, length-set}
 use lib.Seq.{getD-set-same, getD-set-other}
 use borrow.Author.Tests.{eqb-true, eqb-false}
 use Rattle.access_set.specs.declared.Bits.{Bits}
-use Rattle.access_set.specs.Member.{member}
+use Rattle.access_set.specs.Member.{member, join}
+use Rattle.access_set.specs.Sets.{member-join}
 use Rattle.tables.specs.Sets.{rowOf, inRow}
 use Rattle.access_items.specs.Laws.Rows.{same-row}
-use Rattle.access_covers.specs.Row.{stored, Inherits}
+use Rattle.access_covers.specs.Row.{stored, downInherited, coversInherited}
 
 module _ (t : List ℕ) (r : ℕ) (s : Bits) (room : r * 4 + 4 ≤ length t) where
   t₁ : List ℕ
@@ -76,19 +77,54 @@ module _ (t : List ℕ) (r : ℕ) (s : Bits) (room : r * 4 + 4 ≤ length t) whe
           let d : f ≡ r → ⊥ = eqb-false f r e in
           same-row (stored t r s) t f (λ i a b. stored-other i (λ k l z. d (omega arith))) j ∙ none (inRow t f j)
 
--- the two rows that are joined and written
-pub inherits-of : (e above : ℕ) (covers down covers′ down′ : List ℕ) (x y z s c : Bits) → 1028 ≤ length covers → 1028 ≤ length down → e ≤ 256
-    → x ≡ rowOf down e → y ≡ rowOf down above → ((j : ℕ) → member s j ≡ (member x j || member y j)) → down′ ≡ stored down e s
-    → z ≡ rowOf covers e → ((j : ℕ) → member c j ≡ (member z j || member s j)) → covers′ ≡ stored covers e c → Inherits e above covers down covers′ down′
-unfolding inRow
-inherits-of e above covers down covers′ down′ x y z s c a b l p q h d r i g = record {
-  covers-row = λ f j.
-      ap (λ (t : List ℕ). member (rowOf t f) j) g
-      ∙ stored-join covers e c (omega arith) (λ j. member (rowOf down e) j || member (rowOf down above) j)
-      (λ j. i j ∙ ap₂ (λ (u v : Bool). u || v) (ap (λ (w : Bits). member w j) r) (joined j)) f j;
-  down-row = λ f j. ap (λ (t : List ℕ). member (rowOf t f) j) d ∙ stored-join down e s (omega arith) (λ j. member (rowOf down above) j) joined f j;
-  after = λ n far. ap (λ (t : List ℕ). getD t n 0) g ∙ stored-other covers e c (omega arith) n (λ k m w. omega arith);
-}
+  pub stored-length : length (stored t r s) ≡ length t
+  unfolding stored t₁ t₂ t₃
+  stored-length = length-set t₃ (r * 4 + 3) (s .d) ∙ len₃
+
+-- row `e` of `down` gains what the row above has, and row `e` of `covers` both
+pub record Inherits (e above : ℕ) (covers down covers′ down′ : List ℕ) : Type 0 where
+  pub covers-size : length covers′ ≡ length covers
+  pub down-size : length down′ ≡ length down
+  pub covers-row : (f j : ℕ) → inRow covers′ f j ≡ (inRow covers f j || (eqb f e && (inRow down e j || inRow down above j)))
+  pub down-row : (f j : ℕ) → inRow down′ f j ≡ (inRow down f j || (eqb f e && inRow down above j))
+  pub after : (i : ℕ) → 1028 ≤ i → getD covers′ i 0 ≡ getD covers i 0
+
+pub inherits-of : (e above : ℕ) (covers down : List ℕ) → 1028 ≤ length covers → 1028 ≤ length down → e ≤ 256
+    → Inherits e above covers down (coversInherited e above down covers) (downInherited e above down)
+unfolding inRow coversInherited downInherited
+inherits-of e above covers down a b l =
+    record {
+      covers-size = stored-length covers e c (omega arith);
+      down-size = stored-length down e s (omega arith);
+      covers-row = stored-join covers e c (omega arith) (λ j. member x j || member y j) (λ j. member-join (rowOf covers e) s c refl j ∙ ap (λ (t : Bool). member (rowOf covers e) j || t) (joined j));
+      down-row = stored-join down e s (omega arith) (member y) joined;
+      after = λ n far. stored-other covers e c (omega arith) n (λ k m w. omega arith);
+    }
   where
-    joined : (j : ℕ) → member s j ≡ (member (rowOf down e) j || member (rowOf down above) j)
-    joined j = h j ∙ ap₂ (λ (u v : Bits). member u j || member v j) p q
+    x : Bits
+    x = rowOf down e
+
+    y : Bits
+    y = rowOf down above
+
+    s : Bits
+    s = join (rowOf down e) (rowOf down above)
+
+    c : Bits
+    c = join (rowOf covers e) (join (rowOf down e) (rowOf down above))
+
+    joined : (j : ℕ) → member (join (rowOf down e) (rowOf down above)) j ≡ (member (rowOf down e) j || member (rowOf down above) j)
+    joined = member-join (rowOf down e) (rowOf down above) (join (rowOf down e) (rowOf down above)) refl
+
+-- the two rows that are joined and written
+module _ (e above : ℕ) (covers down : List ℕ) (x y s : Bits) (p : x ≡ rowOf down e) (q : y ≡ rowOf down above) (h : s ≡ join x y) where
+  joined-row : s ≡ join (rowOf down e) (rowOf down above)
+  joined-row = h ∙ ap₂ (λ (u v : Bits). join u v) p q
+
+  pub down-written : (down′ : List ℕ) → down′ ≡ stored down e s → down′ ≡ downInherited e above down
+  unfolding downInherited
+  down-written down′ d = d ∙ ap (stored down e) joined-row
+
+  pub covers-written : (z c : Bits) (covers′ : List ℕ) → z ≡ rowOf covers e → c ≡ join z s → covers′ ≡ stored covers e c → covers′ ≡ coversInherited e above down covers
+  unfolding coversInherited
+  covers-written z c covers′ r i g = g ∙ ap (stored covers e) (i ∙ ap₂ (λ (u v : Bits). join u v) r joined-row)

@@ -3,6 +3,7 @@ use Prim.Native.Nat.{ℕ, zero, suc, _+_, _*_, _/_, _%_, _^_, _≤_, _<_}
 use mathlib.Core.Path.{_≡_, refl, sym, ap, ap₂, _∙_, subst}
 use mathlib.Core.Bool.{Bool, true, false, _&&_, _||_, cond}
 use mathlib.Core.List.{List}
+use native.Mathlib.Numerals.{add-one}
 use native.Mathlib.Omega.{arith}
 use lib.Dec.{eqb, ltb}
 use lib.ListN.{length, getD, set, take, drop, replicate, length-set, length-replicate}
@@ -11,35 +12,69 @@ use borrow.Author.Tests.{eqb-true, eqb-false, lt-ltb, le-ltb, ltb-true, ltb-fals
 use Rattle.rules.specs.Sheet.{Bytes}
 use Rattle.rules.specs.Permission.{Item}
 use Rattle.rules.specs.Laws.First.{itemAt}
-use Rattle.value_syntax.specs.Digest.{digest, digest-bound}
+use Rattle.value_syntax.specs.Digest.{digest}
+use Rattle.value_syntax.specs.Laws.Digest.{digest-bound}
+use Rattle.name.specs.Schema.{rankIn}
 use Rattle.directory_schema.specs.Schema.{Rising}
 use Rattle.permission_sheet.specs.Noted as Noted
 use Rattle.permission_sheet.specs.Noted.{Row, DIGEST, TYPE, VALUE, LENGTH, RIGHTS}
 use Rattle.tables.specs.Held.{typeAt}
-use Rattle.tables.specs.Sets.{inRow, slotOf, Items}
-use Rattle.access_items.specs.Note.{Small, valueNoted, aboutNoted, typeNoted, grantsNoted, itemNoted, itemsNoted}
+use Rattle.tables.specs.Sets.{SETS, inRow, slotted, Items}
+use Rattle.access_items.specs.Note.{Small, Rows, permitted, valueNoted, aboutNoted, typeNoted, grantsNoted, itemNoted, itemsNoted}
 use Rattle.access_items.specs.Sorted.{Sorted}
 use Rattle.access_items.specs.Laws.Rows.{same-row, clear-row, zeros, more-in}
+use Rattle.access_items.specs.Mark.{marked}
+use Rattle.access_items.specs.Laws.Mark.{marked-length}
 use Rattle.access_items.specs.Laws.Note.{Entered, belongs, entered-item, belongs-grants, belongs-permission, belongs-what, belongs-type, belongs-slot}
+
+-- one item more
+pub items-more : (rights schema order s t u : List ℕ) (j : ℕ) → t ≡ itemsNoted rights schema order j s → u ≡ itemNoted rights (getD order j 0 * RIGHTS) schema j t → u ≡ itemsNoted rights schema order (j + 1) s
+unfolding itemsNoted
+items-more rights schema order s t u j h e =
+    e ∙ ap (itemNoted rights (getD order j 0 * RIGHTS) schema j) h ∙ ap (λ (n : ℕ). itemsNoted rights schema order n s) (sym (add-one j))
+
+-- ---- the table keeps its length
+
+permitted-length : (n mask j : ℕ) (t : List ℕ) → length (permitted n mask j t) ≡ length t
+unfolding permitted
+permitted-length zero mask j t = refl
+permitted-length (suc b) mask j t = marked-length (permitted b mask j t) (258 + b) j (mask / 2 ^ b % 2) ∙ permitted-length b mask j t
+
+type-length : (schema : List ℕ) (a j : ℕ) (t : List ℕ) → length (typeNoted schema a j t) ≡ length t
+unfolding typeNoted
+type-length schema a j t = go (ltb (rankIn schema a) (length schema))
+  where
+    go : (b : Bool) → length (cond b (marked t (270 + rankIn schema a) j 1) t) ≡ length t
+    go true = marked-length t (270 + rankIn schema a) j 1
+    go false = refl
+
+item-length : (rights : List ℕ) (at : ℕ) (schema : List ℕ) (j : ℕ) (t : List ℕ) → length (itemNoted rights at schema j t) ≡ length t
+unfolding itemNoted valueNoted aboutNoted grantsNoted
+item-length rights at schema j t = simp (length-set, type-length, marked-length, permitted-length)
+
+pub items-length : (rights schema order : List ℕ) (n : ℕ) (t : List ℕ) → length (itemsNoted rights schema order n t) ≡ length t
+unfolding itemsNoted
+items-length rights schema order zero t = refl
+items-length rights schema order (suc n) t = item-length rights (getD order n 0 * RIGHTS) schema n (itemsNoted rights schema order n t) ∙ items-length rights schema order n t
 
 -- ---- the numbers of a value
 
-module _ (rights : List ℕ) (at j : ℕ) (small : j < 256) (t : List ℕ) (len : length t ≡ 2360) where
+module _ (rights : List ℕ) (at j : ℕ) (small : j < 256) (t : List ℕ) (len : length t ≡ SETS) where
   t₁ : List ℕ
   t₁ = set t (1592 + j) (getD rights (at + DIGEST) 0)
 
   t₂ : List ℕ
   t₂ = set t₁ (1848 + j) (getD rights (at + VALUE) 0)
 
-  len₁ : length t₁ ≡ 2360
+  len₁ : length t₁ ≡ SETS
   unfolding t₁
   len₁ = length-set t (1592 + j) (getD rights (at + DIGEST) 0) ∙ len
 
-  len₂ : length t₂ ≡ 2360
+  len₂ : length t₂ ≡ SETS
   unfolding t₂
   len₂ = length-set t₁ (1848 + j) (getD rights (at + VALUE) 0) ∙ len₁
 
-  value-length : length (valueNoted rights at j t) ≡ 2360
+  value-length : length (valueNoted rights at j t) ≡ SETS
   unfolding valueNoted t₁ t₂
   value-length = length-set t₂ (2104 + j) (getD rights (at + LENGTH) 0) ∙ len₂
 
@@ -95,21 +130,21 @@ rowStart order j = getD order j 0 * RIGHTS
 
 module _ (rights schema order : List ℕ) where
   pub record Filled (n : ℕ) (t : List ℕ) : Type 0 where
-    pub size : length t ≡ 2360
+    pub size : length t ≡ SETS
     pub front : (i : ℕ) → i < 1028 → getD t i 0 ≡ 0
     pub rows : (f j : ℕ) → f < 398 → inRow t f j ≡ (ltb j n && belongs rights (rowStart order j) schema f)
     pub digests : (j : ℕ) → j < 256 → getD t (1592 + j) 0 ≡ cond (ltb j n) (getD rights (rowStart order j + DIGEST) 0) 0
     pub places : (j : ℕ) → j < 256 → getD t (1848 + j) 0 ≡ cond (ltb j n) (getD rights (rowStart order j + VALUE) 0) 0
     pub sizes : (j : ℕ) → j < 256 → getD t (2104 + j) 0 ≡ cond (ltb j n) (getD rights (rowStart order j + LENGTH) 0) 0
 
-  filled-none : Filled 0 (replicate 2360 0)
+  filled-none : Filled 0 (replicate SETS 0)
   filled-none = record {
-    size = length-replicate {A = ℕ} 2360 0;
-    front = λ i l. zeros 2360 i;
-    rows = λ f j l. clear-row (replicate 2360 0) f (λ i a b. zeros 2360 i) j ∙ ap (λ (b : Bool). b && belongs rights (rowStart order j) schema f) (sym (le-ltb j 0 (omega arith)));
-    digests = λ j l. zeros 2360 (1592 + j) ∙ ap (λ (b : Bool). cond b (getD rights (rowStart order j + DIGEST) 0) 0) (sym (le-ltb j 0 (omega arith)));
-    places = λ j l. zeros 2360 (1848 + j) ∙ ap (λ (b : Bool). cond b (getD rights (rowStart order j + VALUE) 0) 0) (sym (le-ltb j 0 (omega arith)));
-    sizes = λ j l. zeros 2360 (2104 + j) ∙ ap (λ (b : Bool). cond b (getD rights (rowStart order j + LENGTH) 0) 0) (sym (le-ltb j 0 (omega arith)));
+    size = length-replicate {A = ℕ} SETS 0;
+    front = λ i l. zeros SETS i;
+    rows = λ f j l. clear-row (replicate SETS 0) f (λ i a b. zeros SETS i) j ∙ ap (λ (b : Bool). b && belongs rights (rowStart order j) schema f) (sym (le-ltb j 0 (omega arith)));
+    digests = λ j l. zeros SETS (1592 + j) ∙ ap (λ (b : Bool). cond b (getD rights (rowStart order j + DIGEST) 0) 0) (sym (le-ltb j 0 (omega arith)));
+    places = λ j l. zeros SETS (1848 + j) ∙ ap (λ (b : Bool). cond b (getD rights (rowStart order j + VALUE) 0) 0) (sym (le-ltb j 0 (omega arith)));
+    sizes = λ j l. zeros SETS (2104 + j) ∙ ap (λ (b : Bool). cond b (getD rights (rowStart order j + LENGTH) 0) 0) (sym (le-ltb j 0 (omega arith)));
   }
 
   filled-more : (n : ℕ) (t : List ℕ) → n < 256 → Small rights (rowStart order n) → Rising 0 schema → length schema ≤ 64 → Filled n t → Filled (suc n) (itemNoted rights (rowStart order n) schema n t)
@@ -139,17 +174,17 @@ module _ (rights schema order : List ℕ) where
       E : Entered n (belongs rights (rowStart order n) schema) t u
       E = entered-item rights (rowStart order n) schema small rising few n t (h .size) l
 
-      len : length u ≡ 2360
+      len : length u ≡ SETS
       len = E .size ∙ h .size
 
       other : (i : ℕ) → (i ≡ 1592 + n → ⊥) → (i ≡ 1848 + n → ⊥) → (i ≡ 2104 + n → ⊥) → getD v i 0 ≡ getD u i 0
       other = value-other rights (rowStart order n) n l u len
 
-  module _ (small : (j : ℕ) → j < length order → Small rights (rowStart order j)) (rising : Rising 0 schema) (few : length schema ≤ 64) (room : length order ≤ 256) where
-    pub filled-all : (n : ℕ) → n ≤ length order → Filled n (itemsNoted rights schema order n (replicate 2360 0))
+  module _ (small : Rows rights order) (rising : Rising 0 schema) (few : length schema ≤ 64) (room : length order ≤ 256) where
+    filled-all : (n : ℕ) → n ≤ length order → Filled n (itemsNoted rights schema order n (replicate SETS 0))
     unfolding itemsNoted
     filled-all zero l = filled-none
-    filled-all (suc n) l = filled-more n (itemsNoted rights schema order n (replicate 2360 0)) (omega arith) (small n l) rising few (filled-all n (omega arith))
+    filled-all (suc n) l = filled-more n (itemsNoted rights schema order n (replicate SETS 0)) (omega arith) (small n l) rising few (filled-all n (omega arith))
 
 -- ---- the items
 
@@ -158,8 +193,8 @@ module _ (w : ℕ) (p : Bytes) (is : List Item) (rights scopes order : List ℕ)
       → Row w p (itemAt is order j) (λ c. getD rights (rowStart order j + c) 0) (λ c. getD scopes (getD order j 0 * Noted.SCOPES + c) 0)
   row-of j l = S .table .rows (getD order j 0) (S .ranked .within j l)
 
-  pub small-row : (j : ℕ) → j < length order → Small rights (rowStart order j)
-  small-row j l =
+  pub small-rows : Rows rights order
+  small-rows j l =
       let b : j < length is = subst (λ (m : ℕ). j < m) (S .count) l in
       let R = row-of j b in
       record {
@@ -173,12 +208,23 @@ module _ (w : ℕ) (p : Bytes) (is : List Item) (rights scopes order : List ℕ)
       bit-small true = omega arith
       bit-small false = omega arith
 
-  module _ (schema : List ℕ) (rising : Rising 0 schema) (few : length schema ≤ 64) (t : List ℕ) (F : Filled rights schema order (length order) t) where
+  module _ (schema : List ℕ) (rising : Rising 0 schema) (few : length schema ≤ 64) where
+    -- the table, all items noted
+    abbrev t : List ℕ
+    t = itemsNoted rights schema order (length order) (replicate SETS 0)
+
+    F : Filled rights schema order (length order) t
+    F = filled-all rights schema order small-rows rising few (omega (arith, S .count, S .table .few)) (length order) (omega arith)
+
+    -- no word of the entries' rows changes
+    pub items-front : (i : ℕ) → i < 1028 → getD (itemsNoted rights schema order (length order) (replicate SETS 0)) i 0 ≡ 0
+    items-front = F .front
+
     below : (j : ℕ) → j < length is → ltb j (length order) ≡ true
     below j l = lt-ltb j (length order) (subst (λ (m : ℕ). j < m) (sym (S .count)) l)
 
     small : (j : ℕ) → j < length is → Small rights (rowStart order j)
-    small j l = small-row j (subst (λ (m : ℕ). j < m) (sym (S .count)) l)
+    small j l = small-rows j (subst (λ (m : ℕ). j < m) (sym (S .count)) l)
 
     -- a member of a row
     in-row′ : (f j : ℕ) → f < 398 → j < length is → inRow t f j ≡ belongs rights (rowStart order j) schema f
@@ -188,7 +234,7 @@ module _ (w : ℕ) (p : Bytes) (is : List Item) (rights scopes order : List ℕ)
     in-column : (c : ℕ) (x : ℕ → ℕ) → ((j : ℕ) → j < 256 → getD t (c + j) 0 ≡ cond (ltb j (length order)) (x j) 0) → (j : ℕ) → j < length is → getD t (c + j) 0 ≡ x j
     in-column c x h j l = h j (omega (arith, S .table .few)) ∙ ap (λ (b : Bool). cond b (x j) 0) (below j l)
 
-    pub items-noted : Items is order schema p t
+    pub items-noted : Items is order schema p (itemsNoted rights schema order (length order) (replicate SETS 0))
     items-noted = record {
       ranked = S .ranked;
       few = S .table .few;
@@ -203,8 +249,8 @@ module _ (w : ℕ) (p : Bytes) (is : List Item) (rights scopes order : List ℕ)
       type = λ r j h l.
           in-row′ (270 + r) j (omega arith) l ∙ belongs-type rights _ _ (small j l) rising few r h
           ∙ ap (λ (m : ℕ). eqb m (typeAt schema r)) (row-of j l .type);
-      slot = λ s j h l.
-          in-row′ (334 + s) j (omega arith) l ∙ belongs-slot rights _ _ (small j l) rising few s h ∙ ap (λ (m : ℕ). eqb (slotOf m) s) (row-of j l .digest);
+      slot = λ r j g h l.
+          in-row′ r j (omega arith) l ∙ belongs-slot rights _ _ (small j l) rising few r g h ∙ ap (λ (m : ℕ). slotted m r) (row-of j l .digest);
       digests = λ j l. in-column 1592 (λ i. getD rights (rowStart order i + DIGEST) 0) (F .digests) j l ∙ row-of j l .digest;
       value = λ j l.
           ap₂ (λ (m n : ℕ). take m (drop n p)) (in-column 2104 (λ i. getD rights (rowStart order i + LENGTH) 0) (F .sizes) j l)
@@ -230,12 +276,3 @@ module _ (w : ℕ) (p : Bytes) (is : List Item) (rights scopes order : List ℕ)
             let a : getD t (1848 + j) 0 ≡ 0 = F .places j l ∙ ap (λ (b : Bool). cond b (getD rights (rowStart order j + VALUE) 0) 0) e in
             let b : getD t (2104 + j) 0 ≡ 0 = F .sizes j l ∙ ap (λ (b : Bool). cond b (getD rights (rowStart order j + LENGTH) 0) 0) e in
             omega arith
-
-  -- after the loop over all items
-  module _ (schema : List ℕ) (rising : Rising 0 schema) (few : length schema ≤ 64) where
-    pub all-filled : (start : List ℕ) → start ≡ replicate 2360 0 → (t : List ℕ) (n : ℕ) → n ≤ length order → length order ≤ n → t ≡ itemsNoted rights schema order n start
-        → Filled rights schema order (length order) t
-    all-filled start clear t n l h e =
-        let z : n ≡ length order = omega arith in
-        let F = filled-all rights schema order (λ j b. small-row j b) rising few (omega (arith, S .count, S .table .few)) (length order) (omega arith) in
-        subst (Filled rights schema order (length order)) (sym (e ∙ ap₂ (λ (m : ℕ) (s : List ℕ). itemsNoted rights schema order m s) z clear)) F

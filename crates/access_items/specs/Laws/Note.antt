@@ -13,8 +13,7 @@ use Rattle.name.specs.Laws.Schema.{rank-type}
 use Rattle.directory_schema.specs.Schema.{Rising}
 use Rattle.permission_sheet.specs.Noted.{DIGEST, GRANTS, WHAT, TYPE, PERMISSIONS}
 use Rattle.tables.specs.Held.{typeAt}
-use Rattle.tables.specs.Sets.{inRow, slotOf}
-use Rattle.tables.specs.Laws.Sets.{slot-small}
+use Rattle.tables.specs.Sets.{SETS, inRow, firstSlot, secondSlot, slotted}
 use Rattle.access_items.specs.Mark.{marked}
 use Rattle.access_items.specs.Note.{Small, permitted, grantsNoted, aboutNoted, typeNoted}
 use Rattle.access_items.specs.Laws.Mark.{marked-length, marked-other, marked-in}
@@ -48,7 +47,7 @@ entered-then j g h s t u p q = record {
     go true false b m = refl
     go false a b m = refl
 
-entered-row : (t : List ℕ) (r j b : ℕ) → length t ≡ 2360 → 257 ≤ r → r < 398 → j < 256 → b < 2 → Entered j (λ f. eqb f r && eqb b 1) t (marked t r j b)
+entered-row : (t : List ℕ) (r j b : ℕ) → length t ≡ SETS → 257 ≤ r → r < 398 → j < 256 → b < 2 → Entered j (λ f. eqb f r && eqb b 1) t (marked t r j b)
 entered-row t r j b len low high small two = record {
   size = marked-length t r j b;
   front = λ i l. marked-other t r j b i (λ e. omega arith);
@@ -63,7 +62,7 @@ unfoldable pub permits : ℕ → ℕ → ℕ → Bool
 permits zero mask f = false
 permits (suc b) mask f = (eqb f (258 + b) && eqb (mask / 2 ^ b % 2) 1) || permits b mask f
 
-entered-permissions : (n mask j : ℕ) (t : List ℕ) → n ≤ 6 → length t ≡ 2360 → j < 256 → Entered j (permits n mask) t (permitted n mask j t)
+entered-permissions : (n mask j : ℕ) (t : List ℕ) → n ≤ 6 → length t ≡ SETS → j < 256 → Entered j (permits n mask) t (permitted n mask j t)
 unfolding permits permitted
 entered-permissions zero mask j t h len small = entered-none j t
 entered-permissions (suc b) mask j t h len small =
@@ -140,7 +139,7 @@ module _ (schema : List ℕ) (a : ℕ) where
     pub type-none : Rising 0 schema → a ≡ 0 → typeNoted schema a j t ≡ t
     type-none h e = type-unknown (omega (arith, rank-none 0 schema h, ap (rankIn schema) e))
 
-    entered-type : length schema ≤ 64 → length t ≡ 2360 → j < 256 → Entered j typeRow t (typeNoted schema a j t)
+    entered-type : length schema ≤ 64 → length t ≡ SETS → j < 256 → Entered j typeRow t (typeNoted schema a j t)
     unfolding typeRow typeNoted
     entered-type few len small = go (ltb (rankIn schema a) (length schema)) refl
       where
@@ -183,11 +182,11 @@ module _ (rights : List ℕ) (at : ℕ) (schema : List ℕ) where
   -- does the item enter row `f`?
   unfoldable pub belongs : ℕ → Bool
   belongs f = typeRow schema (getD rights (at + TYPE) 0) f
-      || (((eqb f (334 + slotOf (getD rights (at + DIGEST) 0)) && eqb 1 1) || (eqb f (264 + getD rights (at + WHAT) 0) && eqb 1 1))
+      || (((eqb f (secondSlot (getD rights (at + DIGEST) 0)) && eqb 1 1) || ((eqb f (firstSlot (getD rights (at + DIGEST) 0)) && eqb 1 1) || (eqb f (264 + getD rights (at + WHAT) 0) && eqb 1 1)))
       || (permits 6 (getD rights (at + PERMISSIONS) 0) f || (eqb f 257 && eqb (getD rights (at + GRANTS) 0) 1)))
 
   module _ (small : Small rights at) (rising : Rising 0 schema) (few : length schema ≤ 64) where
-    entered-grants : (j : ℕ) (t : List ℕ) → length t ≡ 2360 → j < 256
+    entered-grants : (j : ℕ) (t : List ℕ) → length t ≡ SETS → j < 256
         → Entered j (λ f. permits 6 (getD rights (at + PERMISSIONS) 0) f || (eqb f 257 && eqb (getD rights (at + GRANTS) 0) 1)) t (grantsNoted rights at j t)
     unfolding grantsNoted
     entered-grants j t len h =
@@ -196,18 +195,21 @@ module _ (rights : List ℕ) (at : ℕ) (schema : List ℕ) where
         entered-then j (permits 6 (getD rights (at + PERMISSIONS) 0)) (λ f. eqb f 257 && eqb (getD rights (at + GRANTS) 0) 1) t t₁ (permitted 6 (getD rights (at + PERMISSIONS) 0) j t₁) g
         (entered-permissions 6 (getD rights (at + PERMISSIONS) 0) j t₁ (omega arith) (g .size ∙ len) h)
 
-    entered-about : (j : ℕ) (t : List ℕ) → length t ≡ 2360 → j < 256
-        → Entered j (λ f. (eqb f (334 + slotOf (getD rights (at + DIGEST) 0)) && eqb 1 1) || (eqb f (264 + getD rights (at + WHAT) 0) && eqb 1 1)) t
+    entered-about : (j : ℕ) (t : List ℕ) → length t ≡ SETS → j < 256
+        → Entered j (λ f. (eqb f (secondSlot (getD rights (at + DIGEST) 0)) && eqb 1 1) || ((eqb f (firstSlot (getD rights (at + DIGEST) 0)) && eqb 1 1) || (eqb f (264 + getD rights (at + WHAT) 0) && eqb 1 1))) t
         (aboutNoted rights at j t)
     unfolding aboutNoted
     entered-about j t len h =
+        let d = getD rights (at + DIGEST) 0 in
         let t₁ = marked t (264 + getD rights (at + WHAT) 0) j 1 in
-        let slot = slotOf (getD rights (at + DIGEST) 0) in
+        let t₂ = marked t₁ (firstSlot d) j 1 in
         let a = entered-row t (264 + getD rights (at + WHAT) 0) j 1 len (omega arith) (omega (arith, small .what)) h (omega arith) in
-        let b = entered-row t₁ (334 + slot) j 1 (a .size ∙ len) (omega arith) (omega (arith, slot-small (getD rights (at + DIGEST) 0))) h (omega arith) in
-        entered-then j (λ f. eqb f (334 + slot) && eqb 1 1) (λ f. eqb f (264 + getD rights (at + WHAT) 0) && eqb 1 1) t t₁ (marked t₁ (334 + slot) j 1) a b
+        let b = entered-row t₁ (firstSlot d) j 1 (a .size ∙ len) (omega arith) (omega arith) h (omega arith) in
+        let c = entered-then j (λ f. eqb f (firstSlot d) && eqb 1 1) (λ f. eqb f (264 + getD rights (at + WHAT) 0) && eqb 1 1) t t₁ t₂ a b in
+        entered-then j (λ f. eqb f (secondSlot d) && eqb 1 1) _ t t₂ (marked t₂ (secondSlot d) j 1) c
+        (entered-row t₂ (secondSlot d) j 1 (c .size ∙ len) (omega arith) (omega arith) h (omega arith))
 
-    pub entered-item : (j : ℕ) (t : List ℕ) → length t ≡ 2360 → j < 256
+    pub entered-item : (j : ℕ) (t : List ℕ) → length t ≡ SETS → j < 256
         → Entered j belongs t (typeNoted schema (getD rights (at + TYPE) 0) j (aboutNoted rights at j (grantsNoted rights at j t)))
     unfolding belongs
     entered-item j t len h =
@@ -224,7 +226,8 @@ module _ (rights : List ℕ) (at : ℕ) (schema : List ℕ) where
     pub belongs-grants : belongs 257 ≡ eqb (getD rights (at + GRANTS) 0) 1
     unfolding belongs
     belongs-grants = rw (
-      ne-eqb 257 (334 + slotOf (getD rights (at + DIGEST) 0)) (λ e. omega arith),
+      ne-eqb 257 (firstSlot (getD rights (at + DIGEST) 0)) (λ e. omega arith),
+      ne-eqb 257 (secondSlot (getD rights (at + DIGEST) 0)) (λ e. omega arith),
       type-row-other schema (getD rights (at + TYPE) 0) 257 (λ r l e. omega arith),
       ne-eqb 257 (264 + getD rights (at + WHAT) 0) (λ e. omega arith),
       permits-below 6 (getD rights (at + PERMISSIONS) 0) 257 (omega arith),
@@ -233,7 +236,8 @@ module _ (rights : List ℕ) (at : ℕ) (schema : List ℕ) where
     pub belongs-permission : (b : ℕ) → b < 6 → belongs (258 + b) ≡ eqb (getD rights (at + PERMISSIONS) 0 / 2 ^ b % 2) 1
     unfolding belongs
     belongs-permission b h = rw (
-      ne-eqb (258 + b) (334 + slotOf (getD rights (at + DIGEST) 0)) (λ e. omega arith),
+      ne-eqb (258 + b) (firstSlot (getD rights (at + DIGEST) 0)) (λ e. omega arith),
+      ne-eqb (258 + b) (secondSlot (getD rights (at + DIGEST) 0)) (λ e. omega arith),
       type-row-other schema (getD rights (at + TYPE) 0) (258 + b) (λ r l e. omega arith),
       ne-eqb (258 + b) (264 + getD rights (at + WHAT) 0) (λ e. omega arith),
       permits-at 6 (getD rights (at + PERMISSIONS) 0) b h,
@@ -243,7 +247,8 @@ module _ (rights : List ℕ) (at : ℕ) (schema : List ℕ) where
     pub belongs-what : (x : ℕ) → x < 6 → belongs (264 + x) ≡ eqb (getD rights (at + WHAT) 0) x
     unfolding belongs
     belongs-what x h = rw (
-      ne-eqb (264 + x) (334 + slotOf (getD rights (at + DIGEST) 0)) (λ e. omega arith),
+      ne-eqb (264 + x) (firstSlot (getD rights (at + DIGEST) 0)) (λ e. omega arith),
+      ne-eqb (264 + x) (secondSlot (getD rights (at + DIGEST) 0)) (λ e. omega arith),
       type-row-other schema (getD rights (at + TYPE) 0) (264 + x) (λ r l e. omega arith),
       permits-above 6 (getD rights (at + PERMISSIONS) 0) (264 + x) (omega arith),
       ne-eqb (264 + x) 257 (λ e. omega arith),
@@ -258,26 +263,24 @@ module _ (rights : List ℕ) (at : ℕ) (schema : List ℕ) where
     pub belongs-type : (r : ℕ) → r < length schema → belongs (270 + r) ≡ eqb (getD rights (at + TYPE) 0) (typeAt schema r)
     unfolding belongs
     belongs-type r h = rw (
-      ne-eqb (270 + r) (334 + slotOf (getD rights (at + DIGEST) 0)) (λ e. omega arith),
+      ne-eqb (270 + r) (firstSlot (getD rights (at + DIGEST) 0)) (λ e. omega arith),
+      ne-eqb (270 + r) (secondSlot (getD rights (at + DIGEST) 0)) (λ e. omega arith),
       ne-eqb (270 + r) (264 + getD rights (at + WHAT) 0) (λ e. omega (arith, small .what)),
       permits-above 6 (getD rights (at + PERMISSIONS) 0) (270 + r) (omega arith),
       ne-eqb (270 + r) 257 (λ e. omega arith),
     ) (none (typeRow schema (getD rights (at + TYPE) 0) (270 + r)) ∙ type-row-at schema (getD rights (at + TYPE) 0) rising r h)
 
-    pub belongs-slot : (s : ℕ) → s < 64 → belongs (334 + s) ≡ eqb (slotOf (getD rights (at + DIGEST) 0)) s
-    unfolding belongs
-    belongs-slot s h = rw (
-      type-row-other schema (getD rights (at + TYPE) 0) (334 + s) (λ r l e. omega arith),
-      ne-eqb (334 + s) (264 + getD rights (at + WHAT) 0) (λ e. omega (arith, small .what)),
-      permits-above 6 (getD rights (at + PERMISSIONS) 0) (334 + s) (omega arith),
-      ne-eqb (334 + s) 257 (λ e. omega arith),
-    ) (go (eqb (slotOf (getD rights (at + DIGEST) 0)) s) refl)
+    pub belongs-slot : (r : ℕ) → 334 ≤ r → r < 398 → belongs r ≡ slotted (getD rights (at + DIGEST) 0) r
+    unfolding belongs slotted
+    belongs-slot r h l = rw (
+      type-row-other schema (getD rights (at + TYPE) 0) r (λ q m e. omega arith),
+      ne-eqb r (264 + getD rights (at + WHAT) 0) (λ e. omega (arith, small .what)),
+      permits-above 6 (getD rights (at + PERMISSIONS) 0) r (omega arith),
+      ne-eqb r 257 (λ e. omega arith),
+    ) (go (eqb r (firstSlot (getD rights (at + DIGEST) 0))) (eqb r (secondSlot (getD rights (at + DIGEST) 0))))
       where
-        D : ℕ
-        D = slotOf (getD rights (at + DIGEST) 0)
-
-        go : (b : Bool) → eqb D s ≡ b → (((eqb (334 + s) (334 + D) && true) || false) || false) ≡ b
-        go true e = rw (eq-eqb (334 + s) (334 + D) (omega (arith, eqb-true D s e)))
-        go false e =
-            let d : D ≡ s → ⊥ = eqb-false D s e in
-            rw (ne-eqb (334 + s) (334 + D) (λ z. d (omega arith)))
+        go : (a b : Bool) → (((b && true) || ((a && true) || false)) || false) ≡ (a || b)
+        go true true = refl
+        go true false = refl
+        go false true = refl
+        go false false = refl

@@ -1,31 +1,58 @@
--- Laws of the order: numbers that are sorted by the items' scores are ranked.
-use Prim.Native.Nat.{ℕ, _+_, _-_, _*_, _≤_, _<_}
+-- Laws of `Rank`: the loop that makes the scores, and that the items in this order are ranked.
+use Prim.Native.Nat.{ℕ, zero, suc, _+_, _-_, _*_, _≤_, _<_}
 use mathlib.Core.Path.{_≡_, refl, sym, ap, _∙_, subst}
 use mathlib.Core.Bool.{Bool, true, false, cond}
-use mathlib.Core.List.{List, _++_}
+use mathlib.Core.List.{List, [], _∷_, _++_}
+use native.Mathlib.Nat.{not-suc-le-zero}
+use native.Mathlib.Numerals.{add-one}
 use native.Mathlib.Omega.{arith}
 use lib.Dec.{eqb}
-use lib.ListN.{length, getD, set, take, drop, List·getD-append}
-use lib.Seq.{length-take-le, drop-at, getD-take, getD-set-same, getD-set-other}
+use lib.ListN.{length, getD, set, take, drop, length-append, List·getD-append}
+use lib.Seq.{take-suc-set, getD-at}
 use borrow.Author.Tests.{eqb-true, eqb-false}
 use Rattle.rules.specs.Sheet.{Bytes}
 use Rattle.rules.specs.Permission.{Item}
 use Rattle.rules.specs.Laws.Decision.{weight}
-use Rattle.rules.specs.Laws.First.{score, blank, itemAt, Ranked}
+use Rattle.rules.specs.Laws.First.{blank, score, itemAt, Ranked}
 use Rattle.permission_sheet.specs.Noted as Noted
-use Rattle.permission_sheet.specs.Noted.{Table}
+use Rattle.permission_sheet.specs.Noted.{Table, SCORE, RIGHTS}
+use Rattle.access_order.specs.Pass.{inOrder}
 use Rattle.access_order.specs.Order.{keyAt, Order}
+use Rattle.access_order.specs.Laws.Order.{length-order, in-order}
+use Rattle.access_items.specs.Rank.{scoresOf, orderOf}
 
--- one key more
-pub keys-more : (rights keys : List ℕ) (k : ℕ) → k < length keys → ((i : ℕ) → i < k → getD keys i 0 ≡ getD rights (i * 8 + 0) 0)
-    → (i : ℕ) → i < k + 1 → getD (set keys k (getD rights (k * 8 + 0) 0)) i 0 ≡ getD rights (i * 8 + 0) 0
-keys-more rights keys k room h i l = go (eqb i k) refl
+-- ---- the scores
+
+length-scores : (rights : List ℕ) (n : ℕ) → length (scoresOf rights n) ≡ n
+unfolding scoresOf
+length-scores rights zero = refl
+length-scores rights (suc n) =
+    let e : length (scoresOf rights n) ≡ n = length-scores rights n in
+    let z : length (scoresOf rights n) + 1 ≡ suc n = omega arith in
+    length-append (scoresOf rights n) (getD rights (n * RIGHTS + SCORE) 0 ∷ []) ∙ z
+
+score-at : (rights : List ℕ) (n k : ℕ) → k < n → getD (scoresOf rights n) k 0 ≡ getD rights (k * RIGHTS + SCORE) 0
+unfolding scoresOf
+score-at rights zero k l = absurd (not-suc-le-zero l)
+score-at rights (suc n) k l = go (eqb k n) refl (score-at rights n k)
   where
-    go : (b : Bool) → eqb i k ≡ b → getD (set keys k (getD rights (k * 8 + 0) 0)) i 0 ≡ getD rights (i * 8 + 0) 0
-    go true e =
-        let q : i ≡ k = eqb-true i k e in
-        ap (λ (m : ℕ). getD (set keys k (getD rights (k * 8 + 0) 0)) m 0) q ∙ getD-set-same keys k (getD rights (k * 8 + 0) 0) 0 room ∙ ap (λ (m : ℕ). getD rights (m * 8 + 0) 0) (sym q)
-    go false e = let d : i ≡ k → ⊥ = eqb-false i k e in getD-set-other keys k i (getD rights (k * 8 + 0) 0) 0 d ∙ h i (omega arith)
+    s : ℕ
+    s = getD rights (n * RIGHTS + SCORE) 0
+
+    go : (b : Bool) → eqb k n ≡ b → (k < n → getD (scoresOf rights n) k 0 ≡ getD rights (k * RIGHTS + SCORE) 0) → getD (scoresOf rights n ++ (s ∷ [])) k 0 ≡ getD rights (k * RIGHTS + SCORE) 0
+    go true e ih =
+        let q : k ≡ n = eqb-true k n e in
+        ap (λ (m : ℕ). getD (scoresOf rights n ++ (s ∷ [])) m 0) q ∙ getD-at (scoresOf rights n) s [] 0 n (length-scores rights n) ∙ ap (λ (m : ℕ). getD rights (m * RIGHTS + SCORE) 0) (sym q)
+    go false e ih =
+        let d : k ≡ n → ⊥ = eqb-false k n e in
+        List·getD-append (scoresOf rights n) (s ∷ []) 0 k (omega (arith, length-scores rights n)) ∙ ih (omega arith)
+
+-- one score more
+pub scores-more : (rights keys : List ℕ) (k : ℕ) → k < length keys → take k keys ≡ scoresOf rights k → take (k + 1) (set keys k (getD rights (k * RIGHTS + SCORE) 0)) ≡ scoresOf rights (k + 1)
+unfolding scoresOf
+scores-more rights keys k room h =
+    let s : ℕ = getD rights (k * RIGHTS + SCORE) 0 in
+    ap (λ (m : ℕ). take m (set keys k s)) (add-one k) ∙ take-suc-set keys k s room ∙ ap (λ (l : List ℕ). l ++ (s ∷ [])) h ∙ ap (scoresOf rights) (sym (add-one k))
 
 -- the score that is noted is the one that ranks
 score-noted : (i : Item) → Noted.score i ≡ score i
@@ -44,67 +71,46 @@ score-small i h = go (i .grants)
     go true = omega arith
     go false = omega arith
 
-ranked-by : (is : List Item) (keys order : List ℕ) → ((k : ℕ) → k < length is → getD keys k 0 ≡ score (getD is k blank)) → Order keys order (length is) → Ranked is order
-ranked-by is keys order h o = record {
-  within = o .within;
-  complete = o .complete;
-  falling = λ p r l m.
-      let a : keyAt keys order r ≡ score (itemAt is order r) = h (getD order r 0) (o .within r m) in
-      let b : keyAt keys order p ≡ score (itemAt is order p) = h (getD order p 0) (o .within p (omega arith)) in
-      omega (arith, o .falling p r l m);
-}
+-- ---- the order
 
--- the places that are read are the first
-pub ranked-same : (is : List Item) (s t : List ℕ) → ((p : ℕ) → p < length is → getD s p 0 ≡ getD t p 0) → Ranked is s → Ranked is t
-ranked-same is s t e h = record {
-  within = λ p l. subst (λ (m : ℕ). m < length is) (e p l) (h .within p l);
-  complete = λ k l. let x = h .complete k l in (x .0, x .1, sym (e (x .0) (x .1)) ∙ x .2);
-  falling = λ p r l m.
-      let a : score (itemAt is s r) ≡ score (itemAt is t r) = ap (λ (k : ℕ). score (getD is k blank)) (e r m) in
-      let b : score (itemAt is s p) ≡ score (itemAt is t p) = ap (λ (k : ℕ). score (getD is k blank)) (e p (omega arith)) in
-      omega (arith, h .falling p r l m);
-}
+pub length-orderOf : (rights : List ℕ) (n : ℕ) → length (orderOf rights n) ≡ n
+unfolding orderOf
+length-orderOf rights n = length-order (scoresOf rights n) ∙ length-scores rights n
 
--- so the front of the order is enough
-pub ranked-front : (is : List Item) (order : List ℕ) → Ranked is order → Ranked is (take (length is) order)
-ranked-front is order h = ranked-same is order (take (length is) order) (λ p l. sym (getD-take (length is) order p 0 l)) h
+-- the keys sorted
+pub order-of-keys : (rights keys before after : List ℕ) (n : ℕ) → take n keys ≡ scoresOf rights n → after ≡ inOrder (take (n - 0) keys) ++ drop (length (take (n - 0) keys)) before
+    → after ≡ orderOf rights n ++ drop n before
+unfolding orderOf
+order-of-keys rights keys before after n h e =
+    let z : n - 0 ≡ n = omega arith in
+    let q : take (n - 0) keys ≡ scoresOf rights n = ap (λ (m : ℕ). take m keys) z ∙ h in
+    e ∙ ap (λ (l : List ℕ). inOrder l ++ drop (length l) before) q ∙ ap (λ (m : ℕ). inOrder (scoresOf rights n) ++ drop m before) (length-scores rights n)
 
-module _ (w : ℕ) (p : Bytes) (is : List Item) (rights scopes : List ℕ) (table : Table w p is rights scopes) (keys : List ℕ) (n : ℕ) (count : length is ≡ n)
-    (h : (k : ℕ) → k < n → getD keys k 0 ≡ getD rights (k * 8 + 0) 0)
+pub ranked-order : (w : ℕ) (p : Bytes) (is : List Item) (rights scopes : List ℕ) → Table w p is rights scopes → Ranked is (orderOf rights (length is))
+unfolding orderOf
+ranked-order w p is rights scopes table =
+    record {
+      within = o .within;
+      complete = o .complete;
+      falling = λ q r l m.
+          let a : keyAt keys order r ≡ score (itemAt is order r) = key (getD order r 0) (o .within r m) in
+          let b : keyAt keys order q ≡ score (itemAt is order q) = key (getD order q 0) (o .within q (omega arith)) in
+          omega (arith, o .falling q r l m);
+    }
   where
-    key : (k : ℕ) → k < length is → getD keys k 0 ≡ score (getD is k blank)
-    key k l = h k (omega arith) ∙ table .rows k l .score ∙ score-noted (getD is k blank)
+    keys : List ℕ
+    keys = scoresOf rights (length is)
 
-    small : (k : ℕ) → k < n → getD keys k 0 < 4096
+    order : List ℕ
+    order = orderOf rights (length is)
+
+    key : (k : ℕ) → k < length is → getD keys k 0 ≡ score (getD is k blank)
+    key k l = score-at rights (length is) k l ∙ table .rows k l .score ∙ score-noted (getD is k blank)
+
+    small : (k : ℕ) → k < length keys → getD keys k 0 < 4096
     small k l =
-        let b : k < length is = omega arith in
+        let b : k < length is = subst (λ (m : ℕ). k < m) (length-scores rights (length is)) l in
         subst (λ (m : ℕ). m < 4096) (sym (key k b)) (score-small (getD is k blank) (table .rows k b .bounded .weight))
 
-    sorted : (front rest : List ℕ) → length front ≡ n → Order keys front n → Ranked is (front ++ rest)
-    sorted front rest len o =
-        ranked-same is front (front ++ rest) (λ q l. sym (List·getD-append front rest 0 q (omega arith)))
-        (ranked-by is keys front key (subst (λ (m : ℕ). Order keys front m) (sym count) o))
-
--- the first `n` keys and places, sorted
-module _ (keys order front rest : List ℕ) (n : ℕ) (room : n ≤ length keys) (room′ : n ≤ length order) (len : length front ≡ length (take (n - 0) order)) where
-  front-length : length front ≡ n
-  front-length = len ∙ ap (λ (m : ℕ). length (take m order)) z ∙ length-take-le n order room′
-    where
-      z : n - 0 ≡ n
-      z = omega arith
-
-  pub sorted-ranked : (((k : ℕ) → k < length (take (n - 0) keys) → getD (take (n - 0) keys) k 0 < 4096) → Order (take (n - 0) keys) front (length (take (n - 0) keys)))
-      → (w : ℕ) (p : Bytes) (is : List Item) (rights scopes : List ℕ) → ((k : ℕ) → k < n → getD keys k 0 ≡ getD rights (k * 8 + 0) 0)
-      → Table w p is rights scopes → length is ≡ n → Ranked is (front ++ rest)
-  sorted-ranked o w p is rights scopes h table count =
-      sorted w p is rights scopes table (take (n - 0) keys) n count key′ front rest front-length (subst (λ (m : ℕ). Order (take (n - 0) keys) front m) size
-      (o (λ k l. small w p is rights scopes table (take (n - 0) keys) n count key′ k (subst (λ (m : ℕ). k < m) size l))))
-    where
-      size : length (take (n - 0) keys) ≡ n
-      size = let z : n - 0 ≡ n = omega arith in ap (λ (m : ℕ). length (take m keys)) z ∙ length-take-le n keys room
-
-      key′ : (k : ℕ) → k < n → getD (take (n - 0) keys) k 0 ≡ getD rights (k * 8 + 0) 0
-      key′ k l = getD-take (n - 0) keys k 0 (omega arith) ∙ h k l
-
-  pub sorted-rest : rest ≡ drop (n - 0) order → drop n (front ++ rest) ≡ drop n order
-  sorted-rest e = let z : n - 0 ≡ n = omega arith in drop-at front rest n front-length ∙ e ∙ ap (λ (m : ℕ). drop m order) z
+    o : Order keys order (length is)
+    o = subst (λ (m : ℕ). Order keys order m) (length-scores rights (length is)) (in-order keys small)

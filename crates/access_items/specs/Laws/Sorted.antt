@@ -12,8 +12,8 @@ use Rattle.rules.specs.Name.{Schema}
 use Rattle.rules.specs.Permission.{Item, items, permissionsOf}
 use Rattle.rules.specs.Laws.Judge.{not-refused}
 use Rattle.rules.specs.Laws.First.{Ranked}
-use Rattle.permission_sheet.specs.declared.Items.{Items}
-use Rattle.permission_sheet.specs.Noted.{Noted}
+use Rattle.permission_sheet.specs.declared.NotedItems.{NotedItems}
+use Rattle.permission_sheet.specs.Noted.{PermissionsNoted}
 use Rattle.access_items.specs.Sorted.{Sorted}
 
 -- an accepted sheet is not long
@@ -21,6 +21,6 @@ accepted-small : (f : Format) (S : Schema) (p : Bytes) (is : List Item) → perm
 unfolding permissionsOf
 accepted-small f S p is e = ltb-false 65536 (length p) (not-refused (ltb 65536 (length p)) 11 (items (f .top) S 256 [] (lines (f .width) p)) is e .0)
 
-pub sorted-of : (f : Format) (S : Schema) (p : Bytes) (is : List Item) (r : Items) (order : List ℕ) → permissionsOf f S p ≡ accept is → Noted f p is r → Ranked is order → length order ≡ length is
+pub sorted-of : (f : Format) (S : Schema) (p : Bytes) (is : List Item) (r : NotedItems) (order : List ℕ) → permissionsOf f S p ≡ accept is → PermissionsNoted f p is r → Ranked is order → length order ≡ length is
     → Sorted (f .width) p is (r .rights) (r .scopes) order
 sorted-of f S p is r order e n ranked count = record { small = accepted-small f S p is e; table = n .table; ranked = ranked; count = count }

@@ -2,6 +2,7 @@ use denote.Ref.{now}
 use mathlib.Core.Path.{ap₂, _∙_}
 use mathlib.Core.Bool.{_&&_}
 use Rattle.access_set.specs.Member.{member}
+use Rattle.access_set.specs.Sets.{member-meet}
 use Rattle.access_may.specs.Laws.Decided.{row-member}
 use Rattle.access_may.specs.Laws.Granted.{entry-granted}
 use borrow.Author.Needs.{needs}
@@ -9,7 +10,7 @@ use Rattle.access_may.proofs.may_entry.Statement.{statement}
 use Rattle.access_may.proofs.may_entry.Tie as tie
 
 returns : tie.Need-returns
-returns c = λ σ es d p book held w l. entry-granted σ es d p book held (now (c .before .before .before .before .before .args .sets)) w (c .before .before .before .before .before .args .q) (c .before .before .before .before .before .pre .1) (c .before .before .before .before .before .args .e) l (member (c .before .and .result)) (λ j. c .before .and .ensures j ∙ ap₂ _&&_ (c .before .before .before .before .naming .ensures j) (row-member (now (c .before .before .before .before .before .args .sets)) (264) (c .before .before .row .result) (c .before .before .row .ensures) j)) (c .decided .result) (c .decided .ensures)
+returns c = λ σ es d p book held w l. entry-granted σ es d p book held (now (c .before .before .before .before .before .args .sets)) w (c .before .before .before .before .before .args .q) (c .before .before .before .before .before .pre .1) (c .before .before .before .before .before .args .e) l (member (c .before .and .result)) (λ j. member-meet _ _ _ (c .before .and .ensures) j ∙ ap₂ _&&_ (c .before .before .before .before .naming .ensures j) (row-member (now (c .before .before .before .before .before .args .sets)) (264) (c .before .before .row .result) (c .before .before .row .ensures) j)) (c .decided .result) (c .decided .ensures)
 
 pub may-entry-spec : {M : Type 1} → statement M
 may-entry-spec =

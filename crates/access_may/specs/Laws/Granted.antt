@@ -7,7 +7,6 @@ use native.Mathlib.Omega.{arith}
 use lib.Dec.{eqb, ltb}
 use lib.ListN.{length, getD}
 use borrow.Author.Tests.{lt-ltb, ltb-true}
-use Rattle.tables.specs.Laws.Sets.{slot-small}
 use Rattle.rules.specs.Sheet.{Bytes}
 use Rattle.rules.specs.Value.{byFound}
 use Rattle.rules.specs.Name.{Schema, Name, equal}
@@ -25,7 +24,7 @@ use Rattle.name.specs.Laws.Schema.{equal-at}
 use Rattle.access_set.specs.Member.{Least}
 use Rattle.tables.specs.Book.{schema, types}
 use Rattle.tables.specs.Held.{typeAt}
-use Rattle.tables.specs.Sets.{inRow, slotOf, Rights, grantedAt}
+use Rattle.tables.specs.Sets.{inRow, firstSlot, secondSlot, Rights, grantedAt}
 use Rattle.tables.specs.World.{World}
 use Rattle.tables.specs.Laws.Book.{schema-length, type-at}
 use Rattle.access_may.specs.Decided.{Decided}
@@ -123,12 +122,12 @@ module _ (σ : Setting) (es : List Stored) (d p : Bytes) (book held sets : List 
     abbrev syntax : ℕ
     syntax = getD book (8 + rank) 0 % 4
 
-    -- slot, digest and bytes together tell whether the item is about this value
+    -- slots, digest and bytes together tell whether the item is about this value
     same-equal : (j : ℕ) → j < length (σ .items) → sameAt sets p syntax v j ≡ equal (σ .schema) (typeAt (schema book) rank) (itemAt (σ .items) (right .order) j .value) v
     unfolding sameAt agreesAt
     same-equal j b =
         let u : Bytes = itemAt (σ .items) (right .order) j .value in
-        ap₂ _&&_ (right .items .slot (slotOf (digest 0 v)) j (slot-small (digest 0 v)) b)
+        ap₂ _&&_ (ap₂ _&&_ (right .items .slot (firstSlot (digest 0 v)) j (omega arith) (omega arith) b) (right .items .slot (secondSlot (digest 0 v)) j (omega arith) (omega arith) b))
         (ap₂ _&&_ (ap (λ (h : ℕ). eqb h (digest 0 v)) (right .items .digests j b)) (ap (λ (x : Bytes). equalBy syntax x v) (right .items .value j b)))
         ∙ slot-first syntax u v
         ∙ ap (λ (k : ℕ). equalBy (k % 4) u v) (sym (type-at book rank few))

@@ -1,7 +1,7 @@
 -- Laws of `Compare`: what each outcome makes of the answer, and the values one by one.
-use Prim.Native.Nat.{ℕ, _+_, _/_, _%_, _≤_, _<_, zero-le}
+use Prim.Native.Nat.{ℕ, _+_, _/_, _%_, _<_, zero-le}
 use mathlib.Core.Path.{_≡_, refl, sym, ap, _∙_}
-use mathlib.Core.Bool.{Bool, true, false, _&&_, cond}
+use mathlib.Core.Bool.{Bool, true, false, _&&_, cond, true≢false, false≢true}
 use mathlib.Core.List.{List, [], _∷_, _++_}
 use native.Mathlib.Omega.{arith}
 use lib.Dec.{eqb}
@@ -18,9 +18,11 @@ use Rattle.rules.specs.Request.{Selection}
 use Rattle.rules.specs.FilterItem.{holds, someValue}
 use Rattle.rules.specs.Answer.{bit, outcome, compareEntry}
 use Rattle.rules.specs.Laws.Held.{holds-flat, someValue-flat}
+use Rattle.rules.specs.declared.Outcome.{Outcome}
+use Rattle.rules.specs.declared.Outcome.the-variants.{Result, InsufficientAccessRights, NoSuchAttributeOrValue, InvalidAttributeSyntax}
 use Rattle.answer_plan.specs.Plan.{planned, successLines}
 use Rattle.answer_plan.specs.Sound.{Sound}
-use Rattle.answer_plan.specs.Outcome.{refusedPlan}
+use Rattle.answer_plan.specs.Outcome.{isResult, refusedPlan}
 use Rattle.answer_plan.specs.Laws.Outcome.{refused-planned}
 use Rattle.rules.specs.declared.Found.the-variants.{At}
 use Rattle.name.specs.Schema.{syntaxIn, equalBy}
@@ -35,28 +37,28 @@ use Rattle.answer_compare.specs.Compare.{compareOutcome, counts, compare
 -- ---- the outcome, by the questions asked in order
 
 module _ (σ : Setting) (t : ℕ) (v : Bytes) (e : Entry) where
-  pub outcome-unheld : holds e t ≡ false → 3 ≡ compareOutcome σ t v e
+  pub outcome-unheld : holds e t ≡ false → NoSuchAttributeOrValue ≡ compareOutcome σ t v e
   unfolding compareOutcome
   outcome-unheld h = rw h (go (granted σ (e .name) (ofType t) Compare))
     where
-      go : (b : Bool) → _≡_ {A = ℕ} 3 (cond b 3 3)
+      go : (b : Bool) → NoSuchAttributeOrValue ≡ cond b NoSuchAttributeOrValue NoSuchAttributeOrValue
       go true = refl
       go false = refl
 
   module _ (h : holds e t ≡ true) where
-    pub outcome-inside : granted σ (e .name) (ofType t) Compare ≡ true → allowed (σ .schema) t v ≡ true → 0 ≡ compareOutcome σ t v e
+    pub outcome-inside : granted σ (e .name) (ofType t) Compare ≡ true → allowed (σ .schema) t v ≡ true → Result ≡ compareOutcome σ t v e
     unfolding compareOutcome
     outcome-inside g a = rw (g, h, a)
 
-    pub outcome-outside : granted σ (e .name) (ofType t) Compare ≡ true → allowed (σ .schema) t v ≡ false → 4 ≡ compareOutcome σ t v e
+    pub outcome-outside : granted σ (e .name) (ofType t) Compare ≡ true → allowed (σ .schema) t v ≡ false → InvalidAttributeSyntax ≡ compareOutcome σ t v e
     unfolding compareOutcome
     outcome-outside g a = rw (g, h, a)
 
-    pub outcome-told : granted σ (e .name) (ofType t) Compare ≡ false → granted σ (e .name) (ofType t) DiscloseOnError ≡ true → 2 ≡ compareOutcome σ t v e
+    pub outcome-told : granted σ (e .name) (ofType t) Compare ≡ false → granted σ (e .name) (ofType t) DiscloseOnError ≡ true → InsufficientAccessRights ≡ compareOutcome σ t v e
     unfolding compareOutcome
     outcome-told g a = rw (g, h, a)
 
-    pub outcome-untold : granted σ (e .name) (ofType t) Compare ≡ false → granted σ (e .name) (ofType t) DiscloseOnError ≡ false → 3 ≡ compareOutcome σ t v e
+    pub outcome-untold : granted σ (e .name) (ofType t) Compare ≡ false → granted σ (e .name) (ofType t) DiscloseOnError ≡ false → NoSuchAttributeOrValue ≡ compareOutcome σ t v e
     unfolding compareOutcome
     outcome-untold g a = rw (g, h, a)
 
@@ -123,40 +125,39 @@ module _ (σ : Setting) (es : List Stored) (s : Selection) (hits : List ℕ) (t 
   e = record { name = getD es k blank .name; held = heldOf (getD es k blank .values) }
 
   answered : Bool → List Line
-  answered b = outcome 2 0 ++ (line 31 (bit b) 0 0 [] ∷ [])
+  answered b = outcome 2 Result ++ (line 31 (bit b) 0 0 [] ∷ [])
 
   same : Bool
   same = someValue σ e t Compare (λ w. equal (σ .schema) t v w)
 
   by-outcome : (g h a d : Bool) → List Line
-  by-outcome g h a d = cond g (cond h (cond a (answered same) (outcome 2 4)) (outcome 2 3)) (outcome 2 (cond (h && d) 2 3))
+  by-outcome g h a d = cond g (cond h (cond a (answered same) (outcome 2 InvalidAttributeSyntax)) (outcome 2 NoSuchAttributeOrValue)) (outcome 2 (cond (h && d) InsufficientAccessRights NoSuchAttributeOrValue))
 
-  abbrev out : (g h a d : Bool) → ℕ
-  out g h a d = cond g (cond h (cond a 0 4) 3) (cond (h && d) 2 3)
+  abbrev out : (g h a d : Bool) → Outcome
+  out g h a d = cond g (cond h (cond a Result InvalidAttributeSyntax) NoSuchAttributeOrValue) (cond (h && d) InsufficientAccessRights NoSuchAttributeOrValue)
 
-  pub compared-planned : (b : Bool) → compareOutcome σ t v (entryOf (getD es k blank)) ≡ 0 → b ≡ someValue σ (entryOf (getD es k blank)) t Compare (λ w. equal (σ .schema) t v w) → planned σ es s (comparePlan b) hits ≡ compareEntry σ t v (entryOf (getD es k blank))
+  pub compared-planned : (b : Bool) → isResult (compareOutcome σ t v (entryOf (getD es k blank))) ≡ true → b ≡ someValue σ (entryOf (getD es k blank)) t Compare (λ w. equal (σ .schema) t v w) → planned σ es s (comparePlan b) hits ≡ compareEntry σ t v (entryOf (getD es k blank))
   unfolding planned successLines compareEntry compareOutcome answered same by-outcome outcome entryOf
   compared-planned b o q = ap answered q ∙ go (granted σ (e .name) (ofType t) Compare) (holds e t) (allowed (σ .schema) t v) (granted σ (e .name) (ofType t) DiscloseOnError) o
     where
-      go : (g h a d : Bool) → out g h a d ≡ 0 → answered same ≡ by-outcome g h a d
+      go : (g h a d : Bool) → isResult (out g h a d) ≡ true → answered same ≡ by-outcome g h a d
       go true true true d z = refl
-      go true true false d z = absurd (omega (arith, z))
-      go true false a d z = absurd (omega (arith, z))
-      go false true a true z = absurd (omega (arith, z))
-      go false true a false z = absurd (omega (arith, z))
-      go false false a d z = absurd (omega (arith, z))
+      go true true false d z = absurd (false≢true z)
+      go true false a d z = absurd (false≢true z)
+      go false true a true z = absurd (false≢true z)
+      go false true a false z = absurd (false≢true z)
+      go false false a d z = absurd (false≢true z)
 
-  pub refused-compare : (o : ℕ) → o ≡ compareOutcome σ t v (entryOf (getD es k blank)) → (o ≡ 0 → ⊥) → planned σ es s (refusedPlan 2 o) hits ≡ compareEntry σ t v (entryOf (getD es k blank))
+  pub refused-compare : (o : Outcome) → o ≡ compareOutcome σ t v (entryOf (getD es k blank)) → isResult o ≡ false → planned σ es s (refusedPlan 2 o) hits ≡ compareEntry σ t v (entryOf (getD es k blank))
   unfolding compareEntry compareOutcome answered same by-outcome entryOf
-  refused-compare o q z = go (granted σ (e .name) (ofType t) Compare) (holds e t) (allowed (σ .schema) t v) (granted σ (e .name) (ofType t) DiscloseOnError) q
+  refused-compare o q z =
+      ap (λ (x : Outcome). planned σ es s (refusedPlan 2 x) hits) q
+      ∙ go (granted σ (e .name) (ofType t) Compare) (holds e t) (allowed (σ .schema) t v) (granted σ (e .name) (ofType t) DiscloseOnError) (sym (ap isResult q) ∙ z)
     where
-      plain : (b : ℕ) → 2 ≤ b → o ≡ b → planned σ es s (refusedPlan 2 o) hits ≡ outcome 2 b
-      plain b l x = refused-planned σ es s hits 2 o (omega (arith, l, x)) ∙ ap (outcome 2) x
-
-      go : (g h a d : Bool) → o ≡ out g h a d → planned σ es s (refusedPlan 2 o) hits ≡ by-outcome g h a d
-      go true true true d x = absurd (z x)
-      go true true false d x = plain 4 (omega arith) x
-      go true false a d x = plain 3 (omega arith) x
-      go false true a true x = plain 2 (omega arith) x
-      go false true a false x = plain 3 (omega arith) x
-      go false false a d x = plain 3 (omega arith) x
+      go : (g h a d : Bool) → isResult (out g h a d) ≡ false → planned σ es s (refusedPlan 2 (out g h a d)) hits ≡ by-outcome g h a d
+      go true true true d x = absurd (true≢false x)
+      go true true false d x = refused-planned σ es s hits 2 InvalidAttributeSyntax (omega arith)
+      go true false a d x = refused-planned σ es s hits 2 NoSuchAttributeOrValue (omega arith)
+      go false true a true x = refused-planned σ es s hits 2 InsufficientAccessRights (omega arith)
+      go false true a false x = refused-planned σ es s hits 2 NoSuchAttributeOrValue (omega arith)
+      go false false a d x = refused-planned σ es s hits 2 NoSuchAttributeOrValue (omega arith)

@@ -1,28 +1,29 @@
 -- Laws of `Passing`: what a loop over all entries collects, and the entries that it stands for.
-use Prim.Native.Nat.{ℕ, zero, suc, _+_, _≤_, _<_, zero-le}
+use Prim.Native.Nat.{ℕ, zero, suc, _+_, _-_, _≤_, _<_, zero-le}
 use native.Mathlib.Numerals.{add-one}
 use native.Mathlib.Omega.{arith}
 use mathlib.Core.Path.{_≡_, refl, sym, ap, ap₂, _∙_, subst}
 use mathlib.Core.Bool.{Bool, true, false}
 use mathlib.Core.List.{List, [], _∷_, _++_, map, append-nil, map-append}
 use lib.Dec.{eqb}
-use lib.ListN.{length, getD, take, set, length-set, length-map, List·getD-map}
-use lib.Seq.{take-suc-set, take-length, getD-set-same, getD-set-other}
+use lib.ListN.{length, getD, take, drop, set, length-set, length-map, length-drop, take-append-drop, List·getD-map}
+use lib.Seq.{take-suc-set, take-length, length-take-le, getD-drop, ext-getD, getD-set-same, getD-set-other}
 use borrow.Author.Tests.{eqb-true, eqb-false}
 use Rattle.rules.specs.Lists.{given, keep}
 use Rattle.rules.specs.Sheet.{Line}
 use Rattle.rules.specs.Directory.{Stored, blank, Entry, entryOf}
 use Rattle.rules.specs.Laws.Loops.{gather-suc}
-use Rattle.answer_entry.specs.Passing.{passing, Indices}
+use Rattle.answer_entry.specs.Passing.{passing, over, Indices}
 
 pub no-indices : (k : ℕ) (hits : List ℕ) → Indices k 0 hits hits
-no-indices k hits = record { few = zero-le; room = zero-le; below = λ i l. absurd (omega (arith, l)); kept = λ i l. refl }
+no-indices k hits = record { size = refl; few = zero-le; room = zero-le; below = λ i l. absurd (omega (arith, l)); kept = λ i l. refl }
 
 -- ---- a turn of the loop, at index `k`
 
 module _ (k n : ℕ) (before hits : List ℕ) (n′ : ℕ) (hits′ : List ℕ) (inv : Indices k n before hits) where
   pub index-in : n < length hits → hits′ ≡ set hits n k → n′ ≡ n + 1 → Indices (k + 1) n′ before hits′
   index-in l a b = record {
+    size = ap length a ∙ length-set hits n k ∙ inv .size;
     few = omega (arith, b, inv .few);
     room = let m : length hits′ ≡ length hits = ap length a ∙ length-set hits n k in omega (arith, b, l, m);
     below = λ i h. subst (λ (x : List ℕ). getD x i 0 < k + 1) (sym a) (at i h (eqb i n) refl);
@@ -42,6 +43,7 @@ module _ (k n : ℕ) (before hits : List ℕ) (n′ : ℕ) (hits′ : List ℕ) 
 
   pub index-out : hits′ ≡ hits → n′ ≡ n → Indices (k + 1) n′ before hits′
   index-out a b = subst (λ (x : List ℕ). Indices (k + 1) n′ before x) (sym a) (subst (λ (m : ℕ). Indices (k + 1) m before hits) (sym b) (record {
+    size = inv .size;
     few = omega (arith, inv .few);
     room = inv .room;
     below = λ i h. let s : getD hits i 0 < k = inv .below i h in omega (arith, s);
@@ -56,6 +58,15 @@ module _ (p : ℕ → Bool) (k n : ℕ) (hits : List ℕ) (n′ : ℕ) (hits′ 
   pub pass-out : p k ≡ false → hits′ ≡ hits → n′ ≡ n → take n′ hits′ ≡ passing p (k + 1)
   unfolding passing
   pass-out e a b = rw (a, b, add-one k, e, append-nil (passing p k)) inv
+
+-- the indices found are all that changes
+pub over-found : (k n : ℕ) (before hits found : List ℕ) → Indices k n before hits → take n hits ≡ found → hits ≡ over found before
+over-found k n before hits found inv t =
+    let len : length found ≡ n = ap length (sym t) ∙ length-take-le n hits (inv .room) in
+    let behind : drop n hits ≡ drop n before
+    = ext-getD 0 (drop n hits) (drop n before) (length-drop n hits ∙ ap (λ (m : ℕ). m - n) (inv .size) ∙ sym (length-drop n before))
+    (λ i l. getD-drop n hits i 0 ∙ inv .kept (n + i) (omega arith) ∙ sym (getD-drop n before i 0)) in
+    sym (take-append-drop n hits) ∙ ap₂ (λ (x y : List ℕ). x ++ y) t behind ∙ ap (λ (m : ℕ). found ++ drop m before) (sym len)
 
 -- ---- what the indices stand for
 

@@ -2,7 +2,7 @@ use denote.Ref.{now}
 use native.Mathlib.Omega.{arith}
 use mathlib.Core.Path.{_≡_}
 use mathlib.Core.List.{List}
-use Prim.Native.Nat.{_+_, _-_, _*_, _≤_, _^_}
+use Prim.Native.Nat.{_+_, _-_, _*_, _≤_}
 use lib.ListN.{length, getD}
 use Rattle.rules.specs.Directory.{Stored, blank, nameAt}
 use Rattle.rules.specs.Decision.{Setting}
@@ -12,13 +12,14 @@ use Rattle.tables.specs.World.{World}
 use Rattle.answer_information.specs.Laws.Runs.{Sofar, sofar-start, sofar-on, sofar-end}
 use Rattle.answer_information.specs.Laws.Rows.{rows-of, row-rank}
 use Rattle.answer_plan.specs.Choice.{Chooses}
+use Rattle.answer_line.specs.Room.{lineRoom}
 use borrow.Author.Needs.{needs}
 use Rattle.answer_information.proofs.emit_runs.Statement.{statement}
 use Rattle.answer_information.proofs.emit_runs.Tie as tie
 
 abbrev Inv-loop : tie.InvT-loop
 Inv-loop out₀ at book held sets d p choice e end i₀ next₀ out i next =
-    (firstAt book (e - 1) ≤ i) × (i ≤ firstAt book e) × (next ≤ at + (i - firstAt book (e - 1)) * 2 ^ 18)
+    (firstAt book (e - 1) ≤ i) × (i ≤ firstAt book e) × (next ≤ at + (i - firstAt book (e - 1)) * (2 * lineRoom))
     × ((σ : Setting) (es : List Stored) (s : Selection) → World σ es d p book held sets → Chooses (schema book) s choice → Sofar (width book) out₀ at σ s (nameAt es e) (getD es (e - 1) blank .values) (i - firstAt book (e - 1)) out next)
     × (length out ≡ length out₀)
 

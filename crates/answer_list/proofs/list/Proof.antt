@@ -3,7 +3,7 @@ use native.Mathlib.Omega.{arith}
 use denote.Ref.{now}
 use Rattle.tables.specs.Book.{entries}
 use Rattle.answer_entry.specs.Laws.Whole.{none-sound, some-sound}
-use Rattle.answer_list.specs.Laws.Whole.{list-none, list-some}
+use Rattle.answer_list.specs.Laws.Whole.{list-none, list-some, list-unfound, list-found}
 use borrow.Author.Needs.{needs}
 use Rattle.answer_list.proofs.list.Statement.{statement}
 use Rattle.answer_list.proofs.list.Tie as tie
@@ -12,6 +12,7 @@ returns : tie.Need-returns
 returns c = let A = c .before .before .before .args in (
   none-sound (entries (now (A .book))) (A .target .base) (A .target .missing) (c .before .before .before .pre .0) _ _ 3 (c .absent .ensures),
   λ σ es d p held n s w q. list-none σ es (w .entries .accepted) n (A .target .base) (A .target .missing) q _ _ (c .before .enum-told .given .1) s (A .limit) (c .absent .ensures),
+  λ σ es d p held w. list-unfound σ es (A .target .base) _ (c .before .enum-told .given .1),
 )
 
 may-entry-requires : tie.Need-may-entry-requires
@@ -27,6 +28,7 @@ returns-2 c = let A = c .before .before .before .before .before .before .before 
           list-some σ es (w .entries .accepted) n (A .target .base) (A .target .missing) q _ _ (told .0 .0) (told .1) _
           (c .before .may-entry .ensures σ es d p (now (A .book)) held w (omega (arith, within, w .entries .count)))
           _ (found .0 .room) s (A .limit) (found .1 σ es d p held w) (c .returned .ensures),
+      λ σ es d p held w. list-found σ es (A .target .base) (told .0 .0) _ _ _ _ (told .1) (found .0) (found .1 σ es d p held w),
     )
 
 pub list-spec : {M : Type 1} → statement M

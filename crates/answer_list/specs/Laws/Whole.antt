@@ -20,11 +20,12 @@ use Rattle.answer_plan.specs.Plan.{childLines, successLines, planned}
 use Rattle.answer_plan.specs.Sound.{Base}
 use Rattle.answer_plan.specs.Outcome.{absentPlan}
 use Rattle.tables.specs.Sets.{grantedAt}
-use Rattle.answer_entry.specs.Passing.{passing}
+use Rattle.answer_entry.specs.Passing.{passing, over, Indices}
+use Rattle.answer_entry.specs.Laws.Passing.{over-found}
 use Rattle.answer_entry.specs.Returned.{successPlan, returnedPlan}
 use Rattle.answer_entry.specs.Laws.Returned.{returned-planned}
 use Rattle.answer_entry.specs.Laws.Whole.{directoryOf, not-root, not-present, planned-absent, there, told-disclosed}
-use Rattle.answer_list.specs.Hits.{listedAt}
+use Rattle.answer_list.specs.Hits.{listedAt, listFound}
 use Rattle.answer_list.specs.Laws.Hits.{list-hits}
 
 module _ (σ : Setting) (es : List Stored) (ok : Accepted (σ .schema) es) (n : Name) (base : Found) (missing : ℕ) (h : Base σ es n base missing) (plan : Plan) (hits : List ℕ) where
@@ -48,3 +49,14 @@ module _ (σ : Setting) (es : List Stored) (ok : Accepted (σ .schema) es) (n : 
         ap (λ (r : Plan). planned σ es s r hits) q
         ∙ returned-planned σ es s hits count room 3 (childLines es) (child-success s) n base missing h d (told-disclosed σ es ok n base missing h b e d told) limit (listHits σ (map entryOf es) n)
         (list-hits σ es ok n b (there σ es ok n base missing h b e) ∙ ap (map (childLines es)) (sym taken))
+
+-- ---- what the list of hits holds
+
+pub list-unfound : (σ : Setting) (es : List Stored) (base : Found) (hits : List ℕ) → base ≡ Nothing → hits ≡ over (listFound σ es base) hits
+unfolding listFound
+list-unfound σ es base hits e = rw e
+
+pub list-found : (σ : Setting) (es : List Stored) (base : Found) (b k n : ℕ) (before hits : List ℕ) → base ≡ At b → Indices k n before hits → take n hits ≡ passing (listedAt σ es b) (length es)
+    → hits ≡ over (listFound σ es base) before
+unfolding listFound
+list-found σ es base b k n before hits e found t = over-found k n before hits (passing (listedAt σ es b) (length es)) found t ∙ ap (λ (x : Found). over (listFound σ es x) before) (sym e)

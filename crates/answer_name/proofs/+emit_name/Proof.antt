@@ -73,7 +73,7 @@ emit-name-emit-name-requires : (t : ℕ) → emit-name-lts.Need-emit-name-requir
 ) (emit-name-at t) emit-name.Post
 emit-name-emit-name-requires t c κs = let P = c .before .before .before .before .before .pre in
     let h = parent-falls (P .1 .0 .3) (c .before .before .before .before .before .args .e - 1) (omega (arith, P .1 .2, c .before .before .if1 .left)) in
-    (omega (arith, h, P .0, c .before .before .if1 .left), (P .1 .0, P .1 .1, omega (arith, h, P .1 .2)))
+    (omega (arith, h, P .0, c .before .before .if1 .left), (P .1 .0, omega (arith, h, P .1 .1), omega (arith, h, P .1 .2)))
 
 emit-name-emit-part-requires : (t : ℕ) → emit-name-lts.Need-emit-part-requires (
   emit-name-below t,

@@ -1,14 +1,15 @@
 -- Laws of `Outcome`: the lines of these plans, and that they are sound.
 use Prim.Native.Nat.{ℕ, _≤_, zero-le}
-use mathlib.Core.Path.{_≡_, ap}
+use mathlib.Core.Path.{_≡_, refl, ap}
 use mathlib.Core.List.{List, [], _∷_, map}
 use native.Mathlib.Omega.{arith}
-use borrow.Author.Tests.{ne-eqb}
 use Rattle.rules.specs.Name.{Name}
 use Rattle.rules.specs.Directory.{Stored, entryOf}
 use Rattle.rules.specs.Decision.{Setting}
 use Rattle.rules.specs.Request.{Selection}
-use Rattle.rules.specs.Answer.{outcome, nameLines, noSuchObject}
+use Rattle.rules.specs.declared.Outcome.{Outcome}
+use Rattle.rules.specs.declared.Outcome.the-variants.{Result, NoSuchObject, InsufficientAccessRights, NoSuchAttributeOrValue, InvalidAttributeSyntax}
+use Rattle.rules.specs.Answer.{outcomeNumber, outcome, nameLines, noSuchObject}
 use Rattle.rules.specs.Sheet.{line}
 use Rattle.rules.specs.declared.Found.{Found}
 use Rattle.answer_plan.specs.Plan.{planned}
@@ -20,14 +21,18 @@ module _ (σ : Setting) (es : List Stored) (s : Selection) (hits : List ℕ) (op
   unfolding planned noSuchObject outcome
   absent-planned n base missing h = ap (λ (m : Name). line 30 op 1 0 [] ∷ nameLines m) (h .matched)
 
-  pub refused-planned : (b : ℕ) → 2 ≤ b → planned σ es s (refusedPlan op b) hits ≡ outcome op b
+  pub refused-planned : (o : Outcome) → 2 ≤ outcomeNumber o → planned σ es s (refusedPlan op o) hits ≡ outcome op o
   unfolding planned outcome
-  refused-planned b l = rw (ne-eqb b 0 (λ e. omega arith), ne-eqb b 1 (λ e. omega arith))
+  refused-planned Result l = absurd (omega (arith, l))
+  refused-planned NoSuchObject l = absurd (omega (arith, l))
+  refused-planned InsufficientAccessRights l = refl
+  refused-planned NoSuchAttributeOrValue l = refl
+  refused-planned InvalidAttributeSyntax l = refl
 
 -- they are sound
 module _ (count : ℕ) (hits : List ℕ) (op : ℕ) where
   pub absent-sound : (missing : ℕ) → missing ≤ count → Sound count (absentPlan op missing) hits
   absent-sound missing l = record { name = l; entry = zero-le; shown = zero-le; hits = λ i m. absurd (omega (arith, m)) }
 
-  pub refused-sound : (b : ℕ) → Sound count (refusedPlan op b) hits
-  refused-sound b = record { name = zero-le; entry = zero-le; shown = zero-le; hits = λ i m. absurd (omega (arith, m)) }
+  pub refused-sound : (o : Outcome) → Sound count (refusedPlan op o) hits
+  refused-sound o = record { name = zero-le; entry = zero-le; shown = zero-le; hits = λ i m. absurd (omega (arith, m)) }

@@ -26,7 +26,7 @@ part-emit-children-end c = omega (arith, c .before .before .before .before .befo
 emit-children-requires : tie.Need-emit-children-requires
 emit-children-requires c κs = let P = c .before .before .before .before .before .before .before .before .before .before .before .before .pre in
     let m : length (now (c .before .before .before .before .before .before .before .before .before .before .before .before .args .hits)) ≡ 256 = search needs in
-    ((P .0 .0, P .0 .1, now (c .before .before .before .before .before .before .before .before .before .before .before .before .args .held), P .0 .2 .entries), P .2, omega (arith, shown-many (P .1), P .1 .shown, m), shown-below (P .1))
+    ((P .0 .0, P .0 .1, now (c .before .before .before .before .before .before .before .before .before .before .before .before .args .held), P .0 .2 .entries), omega (arith, P .2), omega (arith, shown-many (P .1), P .1 .shown, m), shown-below (P .1))
 
 returns-3 : tie.Need-returns-3
 returns-3 c = let a = c .before .before .before .before .before .before .before .before .before .before .before .before .before .before .before .args in λ σ es s W C. success-list σ es s (width (now (a .book))) (now (a .out)) (a .at) (a .plan) (now (a .hits)) (c .before .before .before .before .before .if3 .taken) (c .before .before .emit-children .ensures σ es (now (a .held)) (W .entries))

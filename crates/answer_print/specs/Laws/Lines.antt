@@ -12,11 +12,12 @@ use Rattle.rules.specs.Sheet.{Bytes, Line, line}
 use Rattle.rules.specs.Directory.{Stored, blank, nameAt}
 use Rattle.rules.specs.Decision.{Setting}
 use Rattle.rules.specs.Request.{Selection}
-use Rattle.rules.specs.Answer.{nameLines, entryLines}
+use Rattle.rules.specs.declared.Outcome.{Outcome}
+use Rattle.rules.specs.Answer.{outcomeNumber, entryLines}
 use Rattle.rules.specs.Laws.Loops.{gather-suc}
 use Rattle.answer_line.specs.Emit.{Emits}
 use Rattle.answer_line.specs.Laws.Emit.{emits-none, emits-append}
-use Rattle.answer_plan.specs.Plan.{childLines, informationAt, foundLines, successLines, planned}
+use Rattle.answer_plan.specs.Plan.{childLines, informationAt, foundLines, successLines, followed, planned}
 use Rattle.answer_plan.specs.Sound.{Sound}
 use Rattle.answer_plan.specs.declared.Plan.{Plan}
 use Rattle.answer_name.specs.Name.{namingLine}
@@ -82,20 +83,11 @@ module _ (σ : Setting) (es : List Stored) (s : Selection) (w : ℕ) (out : Byte
         rw (ne-eqb (r .operation) 1 e₁, ne-eqb (r .operation) 2 e₂, ne-eqb (r .operation) 3 e₃)
         (subst (λ (m : ℕ). Emits w out at (gather (foundLines σ es s) (take m hits)) out′ n) z p)
 
-    module _ {out₁ : Bytes} {m : ℕ} (head : Emits w out at (line 30 (r .operation) (r .outcome) (r .more) [] ∷ []) out₁ m) where
-      pub whole-success : r .outcome ≡ 0 → Emits w out₁ m (successLines σ es s r hits) out′ n → Emits w out at (planned σ es s r hits) out′ n
-      unfolding planned
-      whole-success e p =
-          rw (eq-eqb (r .outcome) 0 e)
-          (emits-append w out at (line 30 (r .operation) (r .outcome) (r .more) [] ∷ []) (successLines σ es s r hits) head p)
-
-      pub whole-absent : r .outcome ≡ 1 → Emits w out₁ m (nameLines (nameAt es (r .name))) out′ n → Emits w out at (planned σ es s r hits) out′ n
-      unfolding planned
-      whole-absent e p =
-          rw (ne-eqb (r .outcome) 0 (λ z. omega arith), eq-eqb (r .outcome) 1 e)
-          (emits-append w out at (line 30 (r .operation) (r .outcome) (r .more) [] ∷ []) (nameLines (nameAt es (r .name))) head p)
-
-  pub whole-refused : (r : Plan) (hits : List ℕ) {out₁ : Bytes} {m : ℕ} → (r .outcome ≡ 0 → ⊥) → (r .outcome ≡ 1 → ⊥)
-      → Emits w out at (line 30 (r .operation) (r .outcome) (r .more) [] ∷ []) out₁ m → Emits w out at (planned σ es s r hits) out₁ m
+  -- line 30 with the number `b` of the outcome `o`, and what follows it
+  pub whole : (r : Plan) (hits : List ℕ) (o : Outcome) → r .outcome ≡ o → {b : ℕ} → b ≡ outcomeNumber (r .outcome) → {out₁ out′ : Bytes} {m n : ℕ}
+      → Emits w out at (line 30 (r .operation) b (r .more) [] ∷ []) out₁ m → Emits w out₁ m (followed σ es s r hits o) out′ n → Emits w out at (planned σ es s r hits) out′ n
   unfolding planned
-  whole-refused r hits a c p = rw (ne-eqb (r .outcome) 0 a, ne-eqb (r .outcome) 1 c) p
+  whole r hits o e f {out₁} {out′} {m} {n} head p =
+      emits-append w out at (line 30 (r .operation) (outcomeNumber (r .outcome)) (r .more) [] ∷ []) (followed σ es s r hits (r .outcome))
+      (subst (λ (x : ℕ). Emits w out at (line 30 (r .operation) x (r .more) [] ∷ []) out₁ m) f head)
+      (subst (λ (x : Outcome). Emits w out₁ m (followed σ es s r hits x) out′ n) (sym e) p)

@@ -1,7 +1,7 @@
 -- Laws of `Read`: when nothing is left, and what each outcome makes of the answer.
 use Prim.Native.Nat.{ℕ, _+_, _<_, zero-le}
 use mathlib.Core.Path.{_≡_, refl, sym, ap, ap₂, _∙_}
-use mathlib.Core.Bool.{Bool, true, false, _&&_, _||_, not, cond}
+use mathlib.Core.Bool.{Bool, true, false, _&&_, _||_, not, cond, true≢false, false≢true}
 use mathlib.Core.List.{List, [], _∷_, _++_}
 use native.Mathlib.Numerals.{add-one}
 use native.Mathlib.Omega.{arith}
@@ -16,9 +16,11 @@ use Rattle.rules.specs.Request.{Selection}
 use Rattle.rules.specs.Answer.{outcome, entryLines, valueLines, selected, typeLines, information, readEntry}
 use Rattle.rules.specs.Laws.Held.{any-held, any-type}
 use Rattle.tables.specs.Sets.{grantedAt}
+use Rattle.rules.specs.declared.Outcome.{Outcome}
+use Rattle.rules.specs.declared.Outcome.the-variants.{Result, InsufficientAccessRights, NoSuchAttributeOrValue}
 use Rattle.answer_plan.specs.Plan.{planned, successLines, informationAt}
 use Rattle.answer_plan.specs.Sound.{Sound}
-use Rattle.answer_plan.specs.Outcome.{refusedPlan}
+use Rattle.answer_plan.specs.Outcome.{isResult, refusedPlan}
 use Rattle.answer_plan.specs.Laws.Outcome.{refused-planned}
 use Rattle.answer_read.specs.Read.{readable, disclosing, asksNothing, readOutcome, readPlan}
 
@@ -129,26 +131,26 @@ module _ (σ : Setting) (s : Selection) (n : Name) (ps : List Part) where
   abbrev discloses : Bool
   discloses = any (λ h. disclosing σ s n (h .type)) (heldOf ps)
 
-  pub reads-nothing : asksNothing s ≡ true → readOutcome σ s whole ≡ 0
+  pub reads-nothing : asksNothing s ≡ true → readOutcome σ s whole ≡ Result
   unfolding readOutcome
-  reads-nothing e = ap (λ (b : Bool). cond (isEmpty (information σ s whole) && not b) (cond discloses 2 3) 0) e ∙ go (isEmpty (information σ s whole))
+  reads-nothing e = ap (λ (b : Bool). cond (isEmpty (information σ s whole) && not b) (cond discloses InsufficientAccessRights NoSuchAttributeOrValue) Result) e ∙ go (isEmpty (information σ s whole))
     where
-      go : (b : Bool) → _≡_ {A = ℕ} (cond (b && false) (cond discloses 2 3) 0) 0
+      go : (b : Bool) → cond (b && false) (cond discloses InsufficientAccessRights NoSuchAttributeOrValue) Result ≡ Result
       go true = refl
       go false = refl
 
-  pub reads-some : any (readable σ s n) ps ≡ true → readOutcome σ s whole ≡ 0
+  pub reads-some : any (readable σ s n) ps ≡ true → readOutcome σ s whole ≡ Result
   unfolding readOutcome
-  reads-some e = ap (λ (b : Bool). cond (b && not (asksNothing s)) (cond discloses 2 3) 0) (information-empty σ s n ps ∙ ap not e)
+  reads-some e = ap (λ (b : Bool). cond (b && not (asksNothing s)) (cond discloses InsufficientAccessRights NoSuchAttributeOrValue) Result) (information-empty σ s n ps ∙ ap not e)
 
-  reads-none : (b : Bool) → asksNothing s ≡ false → any (readable σ s n) ps ≡ false → discloses ≡ b → readOutcome σ s whole ≡ cond b 2 3
+  reads-none : (b : Bool) → asksNothing s ≡ false → any (readable σ s n) ps ≡ false → discloses ≡ b → readOutcome σ s whole ≡ cond b InsufficientAccessRights NoSuchAttributeOrValue
   unfolding readOutcome
-  reads-none b a e h = ap (λ (x : Bool). cond (x && not (asksNothing s)) (cond discloses 2 3) 0) (information-empty σ s n ps ∙ ap not e) ∙ ap₂ (λ (x y : Bool). cond (not x) (cond y 2 3) 0) a h
+  reads-none b a e h = ap (λ (x : Bool). cond (x && not (asksNothing s)) (cond discloses InsufficientAccessRights NoSuchAttributeOrValue) Result) (information-empty σ s n ps ∙ ap not e) ∙ ap₂ (λ (x y : Bool). cond (not x) (cond y InsufficientAccessRights NoSuchAttributeOrValue) Result) a h
 
-  pub reads-disclosed : asksNothing s ≡ false → any (readable σ s n) ps ≡ false → discloses ≡ true → readOutcome σ s whole ≡ 2
+  pub reads-disclosed : asksNothing s ≡ false → any (readable σ s n) ps ≡ false → discloses ≡ true → readOutcome σ s whole ≡ InsufficientAccessRights
   reads-disclosed a e h = reads-none true a e h
 
-  pub reads-hidden : asksNothing s ≡ false → any (readable σ s n) ps ≡ false → discloses ≡ false → readOutcome σ s whole ≡ 3
+  pub reads-hidden : asksNothing s ≡ false → any (readable σ s n) ps ≡ false → discloses ≡ false → readOutcome σ s whole ≡ NoSuchAttributeOrValue
   reads-hidden a e h = reads-none false a e h
 
 -- an entry as it is stored, by the questions asked in order
@@ -156,20 +158,20 @@ module _ (σ : Setting) (s : Selection) (e : Stored) where
   told-flat : any (λ h. disclosing σ s (e .name) (h .type)) (heldOf (e .values)) ≡ any (λ v. disclosing σ s (e .name) (v .type)) (e .values)
   told-flat = any-type (disclosing σ s (e .name)) (e .values)
 
-  pub outcome-nothing : asksNothing s ≡ true → 0 ≡ readOutcome σ s (entryOf e)
+  pub outcome-nothing : asksNothing s ≡ true → Result ≡ readOutcome σ s (entryOf e)
   unfolding entryOf
   outcome-nothing a = sym (reads-nothing σ s (e .name) (e .values) a)
 
-  pub outcome-some : any (readable σ s (e .name)) (e .values) ≡ true → 0 ≡ readOutcome σ s (entryOf e)
+  pub outcome-some : any (readable σ s (e .name)) (e .values) ≡ true → Result ≡ readOutcome σ s (entryOf e)
   unfolding entryOf
   outcome-some h = sym (reads-some σ s (e .name) (e .values) h)
 
   module _ (a : asksNothing s ≡ false) (h : any (readable σ s (e .name)) (e .values) ≡ false) where
-    pub outcome-disclosed : any (λ v. disclosing σ s (e .name) (v .type)) (e .values) ≡ true → 2 ≡ readOutcome σ s (entryOf e)
+    pub outcome-disclosed : any (λ v. disclosing σ s (e .name) (v .type)) (e .values) ≡ true → InsufficientAccessRights ≡ readOutcome σ s (entryOf e)
     unfolding entryOf
     outcome-disclosed d = sym (reads-disclosed σ s (e .name) (e .values) a h (told-flat ∙ d))
 
-    pub outcome-hidden : any (λ v. disclosing σ s (e .name) (v .type)) (e .values) ≡ false → 3 ≡ readOutcome σ s (entryOf e)
+    pub outcome-hidden : any (λ v. disclosing σ s (e .name) (v .type)) (e .values) ≡ false → NoSuchAttributeOrValue ≡ readOutcome σ s (entryOf e)
     unfolding entryOf
     outcome-hidden d = sym (reads-hidden σ s (e .name) (e .values) a h (told-flat ∙ d))
 
@@ -195,26 +197,27 @@ module _ (σ : Setting) (es : List Stored) (s : Selection) (hits : List ℕ) (k 
   named-lines true = rw (add-one k)
   named-lines false = refl
 
-  pub read-found : (b : Bool) → readOutcome σ s (entryOf (getD es k blank)) ≡ 0 → b ≡ granted σ (getD es k blank .name) entry ReturnDN
+  pub read-found : (b : Bool) → isResult (readOutcome σ s (entryOf (getD es k blank))) ≡ true → b ≡ granted σ (getD es k blank .name) entry ReturnDN
       → planned σ es s (readPlan k b) hits ≡ readEntry σ s (entryOf (getD es k blank))
   unfolding planned successLines informationAt readEntry readOutcome disclosing outcome entryOf
   read-found b o e =
       ap₂ (λ (m : Name) (i : ℕ). line 30 1 0 0 [] ∷ (entryLines m ++ informationAt σ es s i)) (named-lines b ∙ ap (λ (x : Bool). given x (getD es k blank .name)) e) (add-one k)
       ∙ go fails told o
     where
-      go : (x y : Bool) → _≡_ {A = ℕ} (cond x (cond y 2 3) 0) 0
-          → outcome 1 0 ++ (entryLines (given (granted σ (it .name) entry ReturnDN) (it .name)) ++ information σ s it)
-          ≡ cond x (outcome 1 (cond y 2 3)) (outcome 1 0 ++ (entryLines (given (granted σ (it .name) entry ReturnDN) (it .name)) ++ information σ s it))
-      go true true q = absurd (omega (arith, q))
-      go true false q = absurd (omega (arith, q))
+      go : (x y : Bool) → isResult (cond x (cond y InsufficientAccessRights NoSuchAttributeOrValue) Result) ≡ true
+          → outcome 1 Result ++ (entryLines (given (granted σ (it .name) entry ReturnDN) (it .name)) ++ information σ s it)
+          ≡ cond x (outcome 1 (cond y InsufficientAccessRights NoSuchAttributeOrValue)) (outcome 1 Result ++ (entryLines (given (granted σ (it .name) entry ReturnDN) (it .name)) ++ information σ s it))
+      go true true q = absurd (false≢true q)
+      go true false q = absurd (false≢true q)
       go false y q = refl
 
-  pub read-refused : (o : ℕ) → o ≡ readOutcome σ s (entryOf (getD es k blank)) → (o ≡ 0 → ⊥) → planned σ es s (refusedPlan 1 o) hits ≡ readEntry σ s (entryOf (getD es k blank))
+  pub read-refused : (o : Outcome) → o ≡ readOutcome σ s (entryOf (getD es k blank)) → isResult o ≡ false → planned σ es s (refusedPlan 1 o) hits ≡ readEntry σ s (entryOf (getD es k blank))
   unfolding readEntry readOutcome disclosing entryOf
-  read-refused o e z = go fails told e
+  read-refused o e z = ap (λ (x : Outcome). planned σ es s (refusedPlan 1 x) hits) e ∙ go fails told (sym (ap isResult e) ∙ z)
     where
-      go : (x y : Bool) → o ≡ cond x (cond y 2 3) 0
-          → planned σ es s (refusedPlan 1 o) hits ≡ cond x (outcome 1 (cond y 2 3)) (outcome 1 0 ++ (entryLines (given (granted σ (it .name) entry ReturnDN) (it .name)) ++ information σ s it))
-      go true true q = refused-planned σ es s hits 1 o (omega (arith, q)) ∙ ap (outcome 1) q
-      go true false q = refused-planned σ es s hits 1 o (omega (arith, q)) ∙ ap (outcome 1) q
-      go false y q = absurd (z q)
+      go : (x y : Bool) → isResult (cond x (cond y InsufficientAccessRights NoSuchAttributeOrValue) Result) ≡ false
+          → planned σ es s (refusedPlan 1 (cond x (cond y InsufficientAccessRights NoSuchAttributeOrValue) Result)) hits
+          ≡ cond x (outcome 1 (cond y InsufficientAccessRights NoSuchAttributeOrValue)) (outcome 1 Result ++ (entryLines (given (granted σ (it .name) entry ReturnDN) (it .name)) ++ information σ s it))
+      go true true q = refused-planned σ es s hits 1 InsufficientAccessRights (omega arith)
+      go true false q = refused-planned σ es s hits 1 NoSuchAttributeOrValue (omega arith)
+      go false y q = absurd (true≢false q)

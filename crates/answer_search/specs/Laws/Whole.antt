@@ -1,6 +1,6 @@
 -- Search as a whole: the plan of the entries found stands for the answer of the rules, and so does that of an absent base.
 use Prim.Native.Nat.{ℕ, _≤_}
-use mathlib.Core.Path.{_≡_, refl, sym, ap, _∙_}
+use mathlib.Core.Path.{_≡_, refl, sym, ap, ap₂, _∙_}
 use mathlib.Core.Bool.{Bool}
 use mathlib.Core.List.{List, map}
 use lib.ListN.{length, take}
@@ -9,6 +9,7 @@ use Rattle.rules.specs.Name.{Name}
 use Rattle.rules.specs.Directory.{Stored, entryOf, entries}
 use Rattle.rules.specs.Permission.{DiscloseOnError}
 use Rattle.rules.specs.Decision.{Setting, entry}
+use Rattle.rules.specs.Filter.{Filter}
 use Rattle.rules.specs.Request.{Selection, Search, search}
 use Rattle.rules.specs.Answer.{answer, searchHits}
 use Rattle.rules.specs.Laws.Absent.{search-absent}
@@ -20,11 +21,12 @@ use Rattle.answer_plan.specs.Plan.{foundLines, successLines, planned}
 use Rattle.answer_plan.specs.Sound.{Base}
 use Rattle.answer_plan.specs.Outcome.{absentPlan}
 use Rattle.tables.specs.Sets.{grantedAt}
-use Rattle.answer_entry.specs.Passing.{passing}
+use Rattle.answer_entry.specs.Passing.{passing, over, Indices}
+use Rattle.answer_entry.specs.Laws.Passing.{over-found}
 use Rattle.answer_entry.specs.Returned.{successPlan, returnedPlan}
 use Rattle.answer_entry.specs.Laws.Returned.{returned-planned}
 use Rattle.answer_entry.specs.Laws.Whole.{directoryOf, not-root, not-present, planned-absent, there, told-disclosed}
-use Rattle.answer_search.specs.Hits.{foundAt}
+use Rattle.answer_search.specs.Hits.{foundAt, searchFound}
 use Rattle.answer_search.specs.Laws.Hits.{search-hits}
 
 module _ (σ : Setting) (es : List Stored) (ok : Accepted (σ .schema) es) (n : Name) (base : Found) (missing : ℕ) (h : Base σ es n base missing) (plan : Plan) (hits : List ℕ) where
@@ -49,3 +51,15 @@ module _ (σ : Setting) (es : List Stored) (ok : Accepted (σ .schema) es) (n : 
         ap (λ (p : Plan). planned σ es (r .selection) p hits) (q ∙ ap (λ (x : ℕ). returnedPlan 4 missing d x count) (sym l))
         ∙ returned-planned σ es (r .selection) hits count room 4 (foundLines σ es (r .selection)) (found-success (r .selection)) n base missing h d (told-disclosed σ es ok n base missing h b e d told) (r .limit) (searchHits σ (map entryOf es) n r)
         (search-hits σ es ok n b (there σ es ok n base missing h b e) r ∙ ap (map (foundLines σ es (r .selection))) (sym (taken ∙ ap (λ (x : ℕ). passing (foundAt σ es b x (r .filter)) (length es)) (sym u))))
+
+-- ---- what the list of hits holds
+
+pub search-unfound : (σ : Setting) (es : List Stored) (subset : ℕ) (f : Filter) (base : Found) (hits : List ℕ) → base ≡ Nothing → hits ≡ over (searchFound σ es subset f base) hits
+unfolding searchFound
+search-unfound σ es subset f base hits e = rw e
+
+pub search-found : (σ : Setting) (es : List Stored) (subset asked : ℕ) (f : Filter) (base : Found) (b k n : ℕ) (before hits : List ℕ) → subset ≡ asked → base ≡ At b → Indices k n before hits
+    → take n hits ≡ passing (foundAt σ es b asked f) (length es) → hits ≡ over (searchFound σ es subset f base) before
+unfolding searchFound
+search-found σ es subset asked f base b k n before hits s e found t =
+    over-found k n before hits (passing (foundAt σ es b asked f) (length es)) found t ∙ ap₂ (λ (m : ℕ) (x : Found). over (searchFound σ es m f x) before) (sym s) (sym e)

@@ -18,7 +18,7 @@ use Rattle.rules.specs.Decision.{Setting}
 use Rattle.rules.specs.Laws.Directory.{accepted-means}
 use Rattle.rules.specs.Laws.Judge.{not-refused}
 use Rattle.directory_schema.specs.Schema.{Rising}
-use Rattle.tables.specs.Book.{schema, firstAt}
+use Rattle.tables.specs.Book.{BOOK, schema, firstAt}
 use Rattle.tables.specs.Held.{typeAt, HeldAt}
 use Rattle.tables.specs.World.{EntryAt, Entries}
 use Rattle.directory_sheet.specs.declared.Notes.{Notes}
@@ -113,5 +113,5 @@ module _ (f : Format) (d : Bytes) (x : Directory) (r : Notes) (held : List ℕ) 
   }
 
 -- the filled book
-pub filled-stands : (f : Format) (r : Notes) (b : List ℕ) → Usable f → length b ≡ 1353 → StandsFor f r (filled (f .width) r b)
+pub filled-stands : (f : Format) (r : Notes) (b : List ℕ) → Usable f → length b ≡ BOOK → StandsFor f r (filled (f .width) r b)
 filled-stands f r b usable size σ d x held ok noted same = entries-of f d x r held noted ok usable σ same (filled (f .width) r b) (copied (f .width) r b (fit-of noted) size)

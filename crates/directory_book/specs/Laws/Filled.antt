@@ -5,7 +5,7 @@ use mathlib.Core.List.{List}
 use native.Mathlib.Omega.{arith}
 use lib.ListN.{length, getD, take, drop, set, length-set}
 use lib.Seq.{getD-set-same, getD-set-other}
-use Rattle.tables.specs.Book.{width, types, entries, schema, placeAt, parentAt, namingAt, lengthAt, firstAt}
+use Rattle.tables.specs.Book.{BOOK, FIRST-ROWS, width, types, entries, schema, placeAt, parentAt, namingAt, lengthAt, firstAt}
 use Rattle.directory_sheet.specs.declared.Notes.{Notes}
 use Rattle.directory_book.specs.Filled.{put, placesOf, filled}
 use Rattle.directory_book.specs.Laws.Put.{put-length, put-here, put-before, number-at, number-of, places-length, place-of}
@@ -19,11 +19,11 @@ pub record Fit (r : Notes) : Type 0 where
   pub parents : length (r .parents) ≡ 256
   pub naming : length (r .naming) ≡ 256
   pub lengths : length (r .lengths) ≡ 256
-  pub first : length (r .first) ≡ 257
+  pub first : length (r .first) ≡ FIRST-ROWS
 
 -- the numbers of the notes, in the book
 pub record Copied (w : ℕ) (r : Notes) (b : List ℕ) : Type 0 where
-  pub size : length b ≡ 1353
+  pub size : length b ≡ BOOK
   pub width-is : width b ≡ w
   pub types-are : types b ≡ r .types
   pub entries-are : entries b ≡ r .count
@@ -34,7 +34,7 @@ pub record Copied (w : ℕ) (r : Notes) (b : List ℕ) : Type 0 where
   pub length-is : (k : ℕ) → k < r .count → lengthAt b k ≡ getD (r .lengths) k 0
   pub first-is : (k : ℕ) → k ≤ r .count → firstAt b k ≡ getD (r .first) k 0
 
-module _ (w : ℕ) (r : Notes) (b : List ℕ) (fit : Fit r) (size : length b ≡ 1353) where
+module _ (w : ℕ) (r : Notes) (b : List ℕ) (fit : Fit r) (size : length b ≡ BOOK) where
   -- ---- the book after each column
 
   abbrev n : ℕ
@@ -58,28 +58,28 @@ module _ (w : ℕ) (r : Notes) (b : List ℕ) (fit : Fit r) (size : length b ≡
   abbrev b₅ : List ℕ
   b₅ = put b₄ 840 (r .lengths) n
 
-  size₀ : length b₀ ≡ 1353
+  size₀ : length b₀ ≡ BOOK
   size₀ = simp length-set size
 
-  size₁ : length b₁ ≡ 1353
+  size₁ : length b₁ ≡ BOOK
   size₁ = put-length b₀ 8 (r .schema) (r .types) (omega (arith, size₀)) (omega arith) ∙ size₀
 
   places : n ≤ length (placesOf w (r .at))
   places = omega (arith, places-length w (r .at), fit .at, fit .count)
 
-  size₂ : length b₂ ≡ 1353
+  size₂ : length b₂ ≡ BOOK
   size₂ = put-length b₁ 72 (placesOf w (r .at)) n (omega (arith, size₁)) places ∙ size₁
 
-  size₃ : length b₃ ≡ 1353
+  size₃ : length b₃ ≡ BOOK
   size₃ = put-length b₂ 328 (r .parents) n (omega (arith, size₂)) (omega arith) ∙ size₂
 
-  size₄ : length b₄ ≡ 1353
+  size₄ : length b₄ ≡ BOOK
   size₄ = put-length b₃ 584 (r .naming) n (omega (arith, size₃)) (omega arith) ∙ size₃
 
-  size₅ : length b₅ ≡ 1353
+  size₅ : length b₅ ≡ BOOK
   size₅ = put-length b₄ 840 (r .lengths) n (omega (arith, size₄)) (omega arith) ∙ size₄
 
-  size₆ : length (filled w r b) ≡ 1353
+  size₆ : length (filled w r b) ≡ BOOK
   unfolding filled
   size₆ = put-length b₅ 1096 (r .first) (n + 1) (omega (arith, size₅)) (omega arith) ∙ size₅
 

@@ -63,7 +63,7 @@ pub record EntryTaken (top : ℕ) (s : Bytes) (ks depths table : List ℕ) (coun
   pub room : count < 256
   pub level : getD depths (x .a) 0 < 8
   pub fit : allowed (schemaOf ks) (x .b) (bytesOf s x) ≡ true
-  pub ruling : r ≡ marking s ks table (x .a) (x .b) x
+  pub ruling : r ≡ marking s ks table (x .a) (x .b) (x .place) (x .length)
 
 -- the line, refused or taken
 abbrev pub EntryOutcome : ℕ → Bytes → List ℕ → List ℕ → List ℕ → ℕ → List Stored → Option Stored → Line → Ruling → Type 0
@@ -124,7 +124,7 @@ module _ (top : ℕ) (s : Bytes) (ks : List ℕ) (complete : List Stored) (curre
     entry-by : (high lk many deep al tw : Bool) → ltb count (x .a) ≡ high → lacks ≡ lk → leb 256 count ≡ many → leb 8 (getD depths (x .a) 0) ≡ deep
         → allowed (schemaOf ks) (x .b) v ≡ al → twins s ks (x .a) (x .b) v ms ≡ tw
         → EntryOutcome top s ks depths table count complete current x
-        (cond (eqb (placeNumber high lk many deep) 0) (cond al (cond tw (refusing 5) (marking s ks table (x .a) (x .b) x)) (refusing 4)) (refusing (placeNumber high lk many deep)))
+        (cond (eqb (placeNumber high lk many deep) 0) (cond al (cond tw (refusing 5) (marking s ks table (x .a) (x .b) (x .place) (x .length))) (refusing 4)) (refusing (placeNumber high lk many deep)))
     entry-by true lk many deep al tw p₁ p₂ p₃ p₄ p₅ p₆ = inl (record { not = λ z. omega arith; is = entry-same ∙ rw p₁ })
     entry-by false true many deep al tw p₁ p₂ p₃ p₄ p₅ p₆ = inl (record { not = λ z. omega arith; is = entry-same ∙ rw (p₁, p₂) })
     entry-by false false true deep al tw p₁ p₂ p₃ p₄ p₅ p₆ = inl (record { not = λ z. omega arith; is = entry-same ∙ rw (p₁, p₂, p₃) })
@@ -138,7 +138,7 @@ module _ (top : ℕ) (s : Bytes) (ks : List ℕ) (complete : List Stored) (curre
 
         rest : (deep al tw : Bool) → leb 8 (getD depths (x .a) 0) ≡ deep → allowed (schemaOf ks) (x .b) v ≡ al → twins s ks (x .a) (x .b) v ms ≡ tw
             → EntryOutcome top s ks depths table count complete current x
-            (cond (eqb (placeNumber false false false deep) 0) (cond al (cond tw (refusing 5) (marking s ks table (x .a) (x .b) x)) (refusing 4)) (refusing (placeNumber false false false deep)))
+            (cond (eqb (placeNumber false false false deep) 0) (cond al (cond tw (refusing 5) (marking s ks table (x .a) (x .b) (x .place) (x .length))) (refusing 4)) (refusing (placeNumber false false false deep)))
         rest true al tw p₄ p₅ p₆ = inl (record { not = λ z. omega arith; is = entry-same ∙ rw (p₁, p₂, p₃, level, p₄) })
         rest false false tw p₄ p₅ p₆ = inl (record { not = λ z. omega arith; is = entry-same ∙ rw (p₁, p₂, p₃, level, p₄, p₅) })
         rest false true true p₄ p₅ p₆ =
@@ -160,7 +160,7 @@ entry-outcome top s ks depths table count lacks complete current ms known x form
     go : (f two : Bool) → columnsFit top x ≡ f → eqb (x .kind) 2 ≡ two
         → EntryOutcome top s ks depths table count complete current x
         (cond f (cond two (cond (eqb (placeNumber (ltb count (x .a)) lacks (leb 256 count) (leb 8 (getD depths (x .a) 0))) 0)
-        (cond (allowed (schemaOf ks) (x .b) (bytesOf s x)) (cond (twins s ks (x .a) (x .b) (bytesOf s x) ms) (refusing 5) (marking s ks table (x .a) (x .b) x)) (refusing 4))
+        (cond (allowed (schemaOf ks) (x .b) (bytesOf s x)) (cond (twins s ks (x .a) (x .b) (bytesOf s x) ms) (refusing 5) (marking s ks table (x .a) (x .b) (x .place) (x .length))) (refusing 4))
         (refusing (placeNumber (ltb count (x .a)) lacks (leb 256 count) (leb 8 (getD depths (x .a) 0))))) (refusing 3)) (refusing 2))
     go false two p q = inl (record { not = λ z. omega arith; is = step-form top (reading ks complete current) (lineOf s x) (sym formed ∙ p) })
     go true false p q = inl (record { not = λ z. omega arith; is = misplaced top s ks complete current x formed p elsewhere (eqb-false (x .kind) 2 q) })

@@ -10,6 +10,7 @@ use lib.ListN.{length, getD, drop, drop-of-length-le}
 use lib.Seq.{drop-cons}
 use borrow.Author.Tests.{eq-eqb, ne-eqb, leb-true, leb-false}
 use Rattle.rules.specs.Sheet.{Bytes}
+use Rattle.rules.specs.Value.{fits, same}
 use Rattle.rules.specs.Name.{Schema, Part, part, Name, equal, samePart}
 use Rattle.rules.specs.Directory.{Stored, blank}
 use Rattle.rules.specs.Decision.{Setting}
@@ -31,6 +32,16 @@ use Rattle.directory_lookup.specs.declared.find.Step.{Step}
 use Rattle.directory_lookup.specs.declared.find.Step.the-variants.{To, Lost, Ended}
 use Rattle.rules.specs.declared.Found.{Found}
 use Rattle.rules.specs.declared.Found.the-variants.{At, Nothing}
+
+-- values that differ are not equal by a syntax
+pub unlike : (s : ℕ) (v u : Bytes) → same s v u ≡ false → equalBy s v u ≡ false
+unfolding equalBy
+unlike s v u e = rw e (none (fits s v) (fits s u))
+  where
+    none : (a b : Bool) → (a && (b && false)) ≡ false
+    none true true = refl
+    none true false = refl
+    none false b = refl
 
 pub up-to : (n : ℕ) (f : Found) (b : ℕ) → UpTo n f → f ≡ At b → b ≤ n
 up-to n f b h e = subst (UpTo n) e h

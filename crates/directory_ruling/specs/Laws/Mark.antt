@@ -14,18 +14,18 @@ use Rattle.rules.specs.Lists.{any}
 use Rattle.rules.specs.Sheet.{Bytes}
 use Rattle.rules.specs.Value.{same}
 use Rattle.rules.specs.Laws.Tests.{and-left, and-right, both, bool-ext, contra}
-use Rattle.value_syntax.specs.Digest.{digest-same}
+use Rattle.value_syntax.specs.Laws.Digest.{digest-same}
 use Rattle.access_set.specs.Member.{bit}
 use Rattle.access_set.specs.Bit.{bit-or, bit-pow}
 use Rattle.directory_ruling.specs.declared.Ruling.{Ruling}
-use Rattle.directory_ruling.specs.Mark.{Mark, mark, markedBytes, bucketAt, bucketOf, labelAt, labelOf, slotAt, slotOf, packed, headAt, slotIn, withMark, Room, lastIn, MarkWithin, Chained, Slotted, Chain, twin, bears, Walk, labelIn, placeIn, sizeIn, beforeIn, heads, slots, tableLength}
+use Rattle.directory_ruling.specs.Mark.{Mark, mark, markedBytes, bucketAt, bucketOf, labelAt, labelOf, slotAt, slotOf, packed, headAt, slotIn, withMark, tableOf, Room, lastIn, MarkWithin, Chained, Slotted, Chain, twin, bears, Walk, labelIn, placeIn, sizeIn, beforeIn, heads, slots, tableLength}
 
 -- ---- buckets, labels and slots
 
 pub bucket-bound : (key : ℕ) (v : Bytes) → bucketAt key v < 2048
 bucket-bound key v = omega arith
 
-pub slot-bound : (key : ℕ) (v : Bytes) → slotAt key v < 16384
+pub slot-bound : (key : ℕ) (v : Bytes) → slotAt key v < 65536
 slot-bound key v = omega arith
 
 -- equal values have one bucket, one label and one slot
@@ -37,7 +37,7 @@ module _ (key s : ℕ) (u v : Bytes) (e : same s u v ≡ true) where
   label-same = ap (λ (d : ℕ). d / 2048 % 2048 * 65536 + key) (digest-same key s u v e)
 
   slot-same : slotAt key u ≡ slotAt key v
-  slot-same = ap (λ (d : ℕ). d / 262144 % 16384) (digest-same key s u v e)
+  slot-same = ap (λ (d : ℕ). d / 65536 % 65536) (digest-same key s u v e)
 
 -- a label tells its key
 label-key : (j k : ℕ) (u v : Bytes) → j < 65536 → k < 65536 → labelAt j u ≡ labelAt k v → j ≡ k
@@ -184,8 +184,13 @@ module _ {s : Bytes} {t : List ℕ} {ms : List Mark} (c : Chain s t ms) (m : Mar
       go (yes e) = ap (headAt (withMark t n r)) e ∙ head-new mark-room ∙ rw (eq-eqb (bucketOf s m) b (sym (is .bucket) ∙ sym e)) (omega arith)
       go (no e) = head-old mark-room b l e ∙ rw (ne-eqb (bucketOf s m) b (λ q. e (sym (is .bucket ∙ q)))) (c .newest b l)
 
+  whole-on : withMark t n r ≡ tableOf s (m ∷ ms)
+  unfolding withMark tableOf
+  whole-on = rw (is .bucket, is .slot, is .number, ← count, c .whole)
+
   pub chain-more : Chain s (withMark t n r) (m ∷ ms)
   chain-more = record {
+    whole = whole-on;
     table = marked-length mark-room;
     chained = (
       ap (λ (k : ℕ). getD (withMark t n r) k 0) count ∙ mark-new mark-room ∙ is .number

@@ -4,7 +4,7 @@ use mathlib.Core.Path.{_≡_, sym, ap, ap₂, _∙_}
 use mathlib.Core.Bool.{Bool, true, false}
 use mathlib.Core.List.{List, _∷_}
 use native.Mathlib.Omega.{arith}
-use lib.ListN.{length, getD}
+use lib.ListN.{length, getD, take, drop}
 use Rattle.rules.specs.Lists.{any}
 use Rattle.rules.specs.Sheet.{Bytes}
 use Rattle.rules.specs.Sheet as Rules
@@ -14,14 +14,14 @@ use Rattle.rules.specs.Directory.{Reading, step}
 use Rattle.rules.specs.Places.{schemaOf}
 use Rattle.value_syntax.specs.Digest.{digest}
 use Rattle.sheet_line.specs.declared.Line.{Line}
-use Rattle.sheet_line.specs.Line.{bytesOf}
 use Rattle.sheet_line.specs.Laws.{Fits}
 use Rattle.directory_schema.specs.Laws.Schema.{allowed-known}
-use Rattle.directory_ruling.specs.Mark.{Mark, mark, bucketAt, packed, headAt, slotIn, Room, withMark, MarkWithin, lastIn, Walk, Answers, twin}
+use Rattle.directory_ruling.specs.Mark.{Mark, mark, bucketAt, packed, headAt, slotIn, Room, withMark, MarkWithin, lastIn, Walk, Answers, twin, heads}
 use Rattle.directory_ruling.specs.Laws.Mark.{Marks, mark-room, chain-more, no-twin, last-most}
-use Rattle.directory_ruling.specs.Twins.{twins}
+use Rattle.directory_ruling.specs.Twins.{lastOwner, twins}
 use Rattle.directory_ruling.specs.Laws.Twins.{key-bound}
 use Rattle.directory_ruling.specs.declared.Ruling.{Ruling}
+use Rattle.directory_ruling.specs.declared.Claim.{Claim}
 use Rattle.directory_ruling.specs.Rulings.{refusing, markOf, marking, ruledOf, Ready, Claimed}
 
 -- ---- one mark more
@@ -30,37 +30,46 @@ use Rattle.directory_ruling.specs.Rulings.{refusing, markOf, marking, ru
 pub line-within : {w : ℕ} {s : Bytes} {i : ℕ} {x : Line} → Fits w s i x → MarkWithin s (mark 0 (x .place) (x .length))
 line-within f = record { key = omega arith; size = f .short; bytes = omega (arith, f .next, f .within) }
 
-module _ {s : Bytes} {ks table : List ℕ} {ms : List Mark} (ready : Ready s ks table ms) (owner t : ℕ) (low : owner ≤ 513) (x : Line) (within : MarkWithin s (mark 0 (x .place) (x .length)))
-    (n : ℕ) (count : length ms ≡ n) {r : Ruling} (is : r ≡ marking s ks table owner t x) where
-  marks : Marks s table (markOf ks owner t x) r
+module _ {s : Bytes} {ks table : List ℕ} {ms : List Mark} (ready : Ready s ks table ms) (owner t : ℕ) (low : owner ≤ lastOwner) (place size : ℕ) (within : MarkWithin s (mark 0 place size))
+    (n : ℕ) (count : length ms ≡ n) {r : Ruling} (is : r ≡ marking s ks table owner t place size) where
+  marks : Marks s table (markOf ks owner t place size) r
   marks = record { bucket = ap (λ (q : Ruling). q .bucket) is; slot = ap (λ (q : Ruling). q .slot) is; number = ap (λ (q : Ruling). q .mark) is }
 
-  there : MarkWithin s (markOf ks owner t x)
+  there : MarkWithin s (markOf ks owner t place size)
   there = record { key = key-bound ks owner t (ready .few) low; size = within .size; bytes = within .bytes }
 
   pub ready-room : Room table n r
-  ready-room = mark-room (ready .chain) (markOf ks owner t x) there n count (omega (arith, ready .room)) r marks
+  ready-room = mark-room (ready .chain) (markOf ks owner t place size) there n count (omega (arith, ready .room)) r marks
 
-  pub ready-more : n + 1 < 2115 → Ready s ks (withMark table n r) (markOf ks owner t x ∷ ms)
+  pub ready-more : n + 1 < heads → Ready s ks (withMark table n r) (markOf ks owner t place size ∷ ms)
   ready-more room = record {
     sheet = ready .sheet;
     rising = ready .rising;
     few = ready .few;
-    chain = chain-more (ready .chain) (markOf ks owner t x) there n count (omega (arith, ready .room)) r marks;
+    chain = chain-more (ready .chain) (markOf ks owner t place size) there n count (omega (arith, ready .room)) r marks;
     room = omega arith;
   }
 
 -- ---- the ways through the code
 
--- a value `u`, that of the line `x`
-module _ {s : Bytes} {ks table : List ℕ} {owner t rank : ℕ} {x : Line} (claim : Claimed s ks table owner t rank x) {u : Bytes} (here : u ≡ bytesOf s x) where
+-- a value `u` that is claimed
+module _ {s : Bytes} {ks table : List ℕ} {c : Claim} (claim : Claimed s ks table c) {u : Bytes} (here : u ≡ take (c .length) (drop (c .place) s)) where
+  abbrev owner : ℕ
+  owner = c .owner
+
+  abbrev t : ℕ
+  t = c .attribute
+
+  abbrev rank : ℕ
+  rank = c .rank
+
   pub key-small : owner * 64 + rank < 65536
-  key-small = rw (claim .ranked) (key-bound ks owner t (claim .sought .ready .few) (claim .low))
+  key-small = rw (claim .ranked) (key-bound ks owner t (claim .ready .few) (claim .low))
 
   pub rank-within : allowed (schemaOf ks) t u ≡ true → rank < length ks
-  rank-within a = rw (claim .ranked) (allowed-known 0 ks (claim .sought .ready .rising) t u a .within)
+  rank-within a = rw (claim .ranked) (allowed-known 0 ks (claim .ready .rising) t u a .within)
 
-  pub ruled-unfit : allowed (schemaOf ks) t u ≡ false → (ms : List Mark) → refusing 4 ≡ ruledOf owner t x s ks table ms
+  pub ruled-unfit : allowed (schemaOf ks) t u ≡ false → (ms : List Mark) → refusing 4 ≡ ruledOf owner t (c .place) (c .length) s ks table ms
   unfolding ruledOf
   ruled-unfit a ms = let f = ap (λ (v : Bytes). allowed (schemaOf ks) t v) (sym here) ∙ a in rw f
 
@@ -69,7 +78,7 @@ module _ {s : Bytes} {ks table : List ℕ} {owner t rank : ℕ} {x : Line} (clai
   key = owner * 64 + rank
 
   -- its digest, of which the bucket, the slot and the tag are parts, and whether a mark has the slot
-  module _ {d : ℕ} (digest-is : d ≡ digest key u) {may : Bool} (may-is : may ≡ slotIn table (d / 262144 % 16384)) where
+  module _ {d : ℕ} (digest-is : d ≡ digest key u) {may : Bool} (may-is : may ≡ slotIn table (d / 65536 % 65536)) where
     abbrev label : ℕ
     label = d / 2048 % 2048 * 65536 + key
 
@@ -80,7 +89,7 @@ module _ {s : Bytes} {ks table : List ℕ} {owner t rank : ℕ} {x : Line} (clai
     walking {ms} ready = record {
       chained = ready .chain .chained;
       newest = ready .chain .newest (d % 2048) (omega arith) ∙ ap (λ (n : ℕ). lastIn s (n % 2048) ms) digest-is;
-      without = λ z syntax. no-twin s table syntax key u ms (ready .chain .slots) (ap (λ (n : ℕ). slotIn table (n / 262144 % 16384)) (sym digest-is) ∙ sym may-is ∙ z);
+      without = λ z syntax. no-twin s table syntax key u ms (ready .chain .slots) (ap (λ (n : ℕ). slotIn table (n / 65536 % 65536)) (sym digest-is) ∙ sym may-is ∙ z);
       labelled = ap (λ (n : ℕ). n / 2048 % 2048 * 65536 + key) digest-is;
       small = key-small;
       most = ready .room;
@@ -88,27 +97,27 @@ module _ {s : Bytes} {ks table : List ℕ} {owner t rank : ℕ} {x : Line} (clai
       sheet = ready .sheet;
     }
 
-    head-small : head < 2115
-    head-small = omega (arith, walking (claim .sought .ready) .newest, last-most s (bucketAt key u) (claim .sought .all), claim .sought .ready .room)
+    head-small : head < heads
+    head-small = omega (arith, walking (claim .ready) .newest, last-most s (bucketAt key u) (claim .all), claim .ready .room)
 
     -- its numbers make one number
-    pub mark-small : (label < 134217728) × (x .place < 65536) × (x .length ≤ 64) × (head < 2115)
-    mark-small = (omega (arith, key-small), omega (arith, claim .sought .within .bytes, claim .sought .ready .sheet), claim .sought .within .size, head-small)
+    pub mark-small : (label < 134217728) × (c .place < 65536) × (c .length ≤ 64) × (head < heads)
+    mark-small = (omega (arith, key-small), omega (arith, claim .within .bytes, claim .ready .sheet), claim .within .size, head-small)
 
     module _ (a : allowed (schemaOf ks) t u ≡ true) {found : Bool}
         (answers : Answers s table may head label (getD ks rank 0 % 4) u found) (ms : List Mark) (ready : Ready s ks table ms) where
-      fit : allowed (schemaOf ks) t (bytesOf s x) ≡ true
+      fit : allowed (schemaOf ks) t (take (c .length) (drop (c .place) s)) ≡ true
       fit = ap (λ (v : Bytes). allowed (schemaOf ks) t v) (sym here) ∙ a
 
-      twins-are : found ≡ twins s ks owner t (bytesOf s x) ms
+      twins-are : found ≡ twins s ks owner t (take (c .length) (drop (c .place) s)) ms
       twins-are = answers key ms (walking ready) ∙ ap₂ (λ (r : ℕ) (v : Bytes). any (twin s (getD ks r 0 % 4) (owner * 64 + r) v) ms) (claim .ranked) here
 
-      pub ruled-twice : found ≡ true → refusing 5 ≡ ruledOf owner t x s ks table ms
+      pub ruled-twice : found ≡ true → refusing 5 ≡ ruledOf owner t (c .place) (c .length) s ks table ms
       unfolding ruledOf
       ruled-twice f = let z = sym twins-are ∙ f in rw (fit, z)
 
       pub ruled-marked : found ≡ false
-          → record { refusal = 0; rank = rank; bucket = d % 2048; slot = d / 262144 % 16384; mark = ((label * 65536 + x .place) * 128 + x .length) * 16384 + head } ≡ ruledOf owner t x s ks table ms
+          → record { refusal = 0; rank = rank; bucket = d % 2048; slot = d / 65536 % 65536; mark = ((label * 65536 + c .place) * 128 + c .length) * 16384 + head } ≡ ruledOf owner t (c .place) (c .length) s ks table ms
       unfolding ruledOf packed
       ruled-marked f = let z = sym twins-are ∙ f in rw (fit, z, digest-is, here, claim .ranked)
 

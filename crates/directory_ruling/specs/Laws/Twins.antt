@@ -18,9 +18,9 @@ use Rattle.rules.specs.Laws.Name.{samePart-sym}
 use Rattle.directory_ruling.specs.Mark.{Mark, markedBytes, twin}
 use Rattle.directory_schema.specs.Schema.{rankOf, syntaxOf, Rising, TypeKnown}
 use Rattle.directory_schema.specs.Laws.Schema.{rank-most, allowed-known, allowed-fits, equal-known}
-use Rattle.directory_ruling.specs.Twins.{ownerOf, keyOf, Named, Valued}
+use Rattle.directory_ruling.specs.Twins.{ownerOf, lastOwner, keyOf, Named, Valued}
 
-pub key-bound : (ks : List ℕ) (owner t : ℕ) → length ks ≤ 64 → owner ≤ 513 → keyOf ks owner t < 65536
+pub key-bound : (ks : List ℕ) (owner t : ℕ) → length ks ≤ 64 → owner ≤ lastOwner → keyOf ks owner t < 65536
 key-bound ks owner t few low = omega (arith, rank-most ks t)
 
 pub any-snoc : {A : Type 0} (f : A → Bool) (xs : List A) (x : A) → any f (xs ++ (x ∷ [])) ≡ (f x || any f xs)

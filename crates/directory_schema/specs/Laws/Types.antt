@@ -7,7 +7,7 @@ use mathlib.Core.List.{List, [], _∷_, _++_}
 use native.Mathlib.Omega.{arith}
 use native.Mathlib.Numerals.{add-one}
 use lib.Dec.{leb}
-use lib.ListN.{length, take, set, length-map, length-set}
+use lib.ListN.{length, take, set, replicate, length-map, length-set, length-replicate}
 use lib.Seq.{take-suc-set, length-take-le}
 use borrow.Author.Tests.{lt-leb, leb-false}
 use Rattle.rules.specs.Sheet.{Bytes, Usable, lines}
@@ -24,11 +24,13 @@ use Rattle.sheet_line.specs.Laws.{lineOf, taken-fits-line}
 use Rattle.directory_schema.specs.Lines.{columnsFit}
 use Rattle.directory_schema.specs.Laws.Lines.{formed, judged-refused, judged-on, step-form, step-type, type-columns}
 use Rattle.directory_schema.specs.Laws.Schema.{rising-more, last-more, schema-more, attribute-of}
-use Rattle.directory_schema.specs.Types.{typed, typeNumber, typeRefusal, TypesRead}
+use Rattle.directory_schema.specs.Laws.Zeros.{zeros, zeros-more}
+use Rattle.directory_schema.specs.Types.{typed, typeNumber, typeRefusal, typesRefused, TypesRead, TypesJudged}
+use Rattle.directory_schema.specs.declared.TypeLines.{TypeLines}
 
-pub types-start : (f : Format) (s : Bytes) (schema : List ℕ) → length schema ≡ 64 → TypesRead f s schema 0 0 0
+pub types-start : (f : Format) (s : Bytes) → TypesRead f s (replicate 64 0) 0 0 0
 unfolding schemaOf
-types-start f s schema h = record { room = h; most = omega arith; within = omega arith; rising = tt; newest = refl; same = refl }
+types-start f s = record { room = length-replicate {A = ℕ} 64 0; most = omega arith; rest = zeros 64 0; within = omega arith; rising = tt; newest = refl; same = refl }
 
 module _ {f : Format} {s : Bytes} {schema : List ℕ} {n last i : ℕ} (t : TypesRead f s schema n last i)
     {x : Line} (e : takenAt (f .width) s i ≡ Taken.Line x) (kind : x .kind ≡ 1) where
@@ -90,6 +92,7 @@ module _ {f : Format} {s : Bytes} {schema : List ℕ} {n last i : ℕ} (t : Type
       record {
         room = simp length-set (t .room);
         most = omega (arith, g .room);
+        rest = zeros-more n schema (x .a * 4 + x .b) (t .rest);
         within = taken-fits-line (f .width) s i e .within;
         rising = rw is (rising-more (record { number = 0; syntax = 0 }) (take n schema) (x .a * 4 + x .b) (t .rising) (rw (← t .newest, number) (g .above)));
         newest = sym (ap (λ (ks : List ℕ). lastType (schemaOf ks)) is ∙ ap (λ (k : AttributeType). k .number) (last-more (record { number = 0; syntax = 0 }) (take n schema) (x .a * 4 + x .b) ∙ type));
@@ -98,3 +101,11 @@ module _ {f : Format} {s : Bytes} {schema : List ℕ} {n last i : ℕ} (t : Type
             ∙ judged-on f s i e (typed (take n schema)) more (type-line (sym (formed f s i e) ∙ g .form) ∙ rw (lt-leb (x .a) last (g .above), lt-leb 64 n (g .room)))
             ∙ rw (is, schema-more (take n schema) (x .a * 4 + x .b), type);
       }
+
+-- the answer of a refusal
+pub types-stopped : (f : Format) (s : Bytes) (r : TypeLines) (n : ℕ) → r ≡ typesRefused n → (n ≡ 0 → ⊥)
+    → fold (step (f .top)) finish 2 nothing (lines (f .width) s) ≡ refuse n → TypesJudged f s r
+types-stopped f s r n is z h = record { ended = λ q. absurd (z (sym number ∙ q)); refused = λ q. (is ∙ ap typesRefused (sym number), h ∙ ap refuse (sym number)) }
+  where
+    number : r .refusal ≡ n
+    number = ap (λ (t : TypeLines). t .refusal) is

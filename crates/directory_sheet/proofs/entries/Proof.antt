@@ -1,17 +1,15 @@
 -- The entries before the position are noted, with their values and the rows of these; `taken` stands there.
 use Rattle.directory_schema.proofs.Lines.{not-line}
-use Rattle.directory_sheet.specs.Entries.{refusedWith}
-use Rattle.directory_sheet.specs.Laws.Entries.{EntriesRead, answer-refused, standing-start, standing-refused, standing-room, standing-begun, standing-lost, standing-on, standing-ended}
-use Rattle.directory_sheet.specs.Judged.{DirectoryJudged}
-use Rattle.directory_sheet.specs.declared.Notes.{Notes}
-use Rattle.directory_ruling.specs.Mark.{Mark, Room}
+use Rattle.directory_sheet.specs.Laws.Entries.{EntriesRead, answer-refused, standing-start, standing-refused, standing-room, standing-begun, standing-lost, standing-on, standing-short, standing-ended}
+use Rattle.directory_ruling.specs.Mark.{Mark, Room, heads}
 use Rattle.directory_ruling.specs.Laws.Rulings.{line-within}
 use Rattle.sheet_line.specs.Laws.{taken-fits-line}
+use Rattle.rules.specs.Judge.{refuse}
 use Rattle.rules.specs.Directory.{Stored}
 use lib.ListN.{length, getD}
 use mathlib.Core.Option.{Option, none}
 use mathlib.Core.List.{List, []}
-use mathlib.Core.Path.{sym, ap, _∙_, subst}
+use mathlib.Core.Path.{sym, ap, _∙_}
 use native.Mathlib.Omega.{arith}
 use Prim.Native.Nat.{_-_, _≤_, _<_}
 use denote.Ref.{now}
@@ -29,20 +27,25 @@ loop-holds : tie.Need-loop-holds Inv-loop μ-loop
 loop-holds c = ([], none, [], standing-start (c .before .before .pre))
 
 returns : tie.Need-returns Inv-loop μ-loop
-returns c = subst (λ (r : Notes). DirectoryJudged (c .before .before .before .before .before .before .args .f) (now (c .before .before .before .before .before .before .args .s)) r (c .before .before .before .loop .held)) (sym (c .refused .ensures ∙ ap (refusedWith (c .before .before .before .loop .notes)) (c .before .ended .ensures))) (standing-ended (c .before .before .before .loop .inv .3) (not-line _ (c .before .before .match .keys2)))
+returns c = let st = c .before .before .before .before .before .loop .inv .3 in let e = c .before .before .before .ended .ensures in
+    answer-refused _ _ (st .ready .sheet) _ _ _ (c .refused .ensures) (standing-short st (not-line _ (c .before .before .before .before .match .keys2)) (λ q. c .before .before .if1 .taken (e ∙ q)) ∙ ap refuse (sym e))
+
+returns-2 : tie.Need-returns-2 Inv-loop μ-loop
+returns-2 c = standing-ended (c .before .before .before .loop .inv .3) (not-line _ (c .before .before .match .keys2)) (sym (c .before .ended .ensures) ∙ c .if1 .left)
 
 entry-line-requires : tie.Need-entry-line-requires Inv-loop μ-loop
 entry-line-requires c κs = let st = c .before .before .before .before .before .loop .inv .3 in
     let f = taken-fits-line _ (now (c .before .before .before .before .before .before .before .before .args .s)) (c .before .before .before .before .before .loop .at) (sym (st .stands) ∙ c .before .before .before .taken .given .1) in
     (record { all = c .before .before .before .before .before .loop .inv .2; ready = st .ready; within = line-within f }, st .counted .most, st .sized .levels)
 
-returns-2 : tie.Need-returns-2 Inv-loop μ-loop
-returns-2 c = answer-refused _ _ (c .before .before .before .before .before .before .before .before .before .loop .inv .3 .ready .sheet) _ _ _ (ap (λ (r : Notes). r .refusal) (c .refused2 .ensures)) (standing-refused (c .before .before .before .before .before .before .before .before .before .loop .inv .3) (c .before .before .before .before .before .before .before .taken .given .1) (c .before .before .before .entry-line .ensures (c .before .before .before .before .before .before .before .before .before .loop .inv .2) (c .before .before .before .before .before .before .before .before .before .loop .inv .3 .ready)) (c .before .if1 .taken))
+returns-3 : tie.Need-returns-3 Inv-loop μ-loop
+returns-3 c = let L = c .before .before .before .before .before .before .before .before .before .before .loop in
+    answer-refused _ _ (L .inv .3 .ready .sheet) _ _ _ (c .refused2 .ensures) (standing-refused (L .inv .3) (c .before .before .before .before .before .before .before .before .taken .given .1) (c .before .before .before .before .entry-line .ensures (L .inv .2) (L .inv .3 .ready)) (c .before .before .if2 .taken))
 
 -- where the entry line was taken: room for the entry and for its mark
-room : (c : tie.Else1 Inv-loop μ-loop) → let L = c .before .before .before .before .before .before .before .before .loop in let x = c .before .before .before .before .before .before .taken .given .0 .0 in
-    (L .notes .count < 256) × (x .a ≤ L .notes .count) × (getD (L .depths) (x .a) 0 < 8) × (L .n < 2115) × Room (L .marks) (L .n) (c .before .before .entry-line .result)
-room c = standing-room (c .before .before .before .before .before .before .before .before .loop .inv .3) (c .before .before .before .before .before .before .taken .given .1) (c .before .before .entry-line .ensures (c .before .before .before .before .before .before .before .before .loop .inv .2) (c .before .before .before .before .before .before .before .before .loop .inv .3 .ready)) (c .if1 .left)
+room : (c : tie.Else2 Inv-loop μ-loop) → let L = c .before .before .before .before .before .before .before .before .loop in let x = c .before .before .before .before .before .before .taken .given .0 .0 in
+    (L .notes .count < 256) × (x .a ≤ L .notes .count) × (getD (L .depths) (x .a) 0 < 8) × (L .n < heads) × Room (L .marks) (L .n) (c .before .before .entry-line .result)
+room c = standing-room (c .before .before .before .before .before .before .before .before .loop .inv .3) (c .before .before .before .before .before .before .taken .given .1) (c .before .before .entry-line .ensures (c .before .before .before .before .before .before .before .before .loop .inv .2) (c .before .before .before .before .before .before .before .before .loop .inv .3 .ready)) (c .if2 .left)
 
 note-requires : tie.Need-note-requires Inv-loop μ-loop
 note-requires c κs = room (c .before) .4
@@ -60,11 +63,11 @@ add-values-2 : tie.Need-add-values-2 Inv-loop μ-loop
 add-values-2 c = omega (arith, room (c .before .before .before) .3)
 
 values-requires : tie.Need-values-requires Inv-loop μ-loop
-values-requires c κs = record { complete = _; entry = _; all = _; begun = (standing-begun (c .before .before .before .before .before .before .before .before .before .before .before .before .before .loop .inv .3) (c .before .before .before .before .before .before .before .before .before .before .before .taken .given .1) (c .before .before .before .before .before .before .before .entry-line .ensures (c .before .before .before .before .before .before .before .before .before .before .before .before .before .loop .inv .2) (c .before .before .before .before .before .before .before .before .before .before .before .before .before .loop .inv .3 .ready)) (c .before .before .before .before .before .if1 .left) (c .before .before .before .note .ensures)) }
+values-requires c κs = record { complete = _; entry = _; all = _; begun = (standing-begun (c .before .before .before .before .before .before .before .before .before .before .before .before .before .loop .inv .3) (c .before .before .before .before .before .before .before .before .before .before .before .taken .given .1) (c .before .before .before .before .before .before .before .entry-line .ensures (c .before .before .before .before .before .before .before .before .before .before .before .before .before .loop .inv .2) (c .before .before .before .before .before .before .before .before .before .before .before .before .before .loop .inv .3 .ready)) (c .before .before .before .before .before .if2 .left) (c .before .before .before .note .ensures)) }
 
-returns-3 : tie.Need-returns-3 Inv-loop μ-loop
-returns-3 c = answer-refused _ _ (c .before .before .before .before .before .before .before .before .before .before .before .before .before .before .before .before .before .loop .inv .3 .ready .sheet) _ _ _ (ap (λ (r : Notes). r .refusal) (c .refused3 .ensures))
-    (standing-lost (c .before .before .before .before .before .before .before .before .before .before .before .before .before .before .before .before .before .loop .inv .3) (c .before .before .before .before .before .before .before .before .before .before .before .before .before .before .before .taken .given .1) (c .before .before .before .before .before .before .before .before .before .before .before .entry-line .ensures (c .before .before .before .before .before .before .before .before .before .before .before .before .before .before .before .before .before .loop .inv .2) (c .before .before .before .before .before .before .before .before .before .before .before .before .before .before .before .before .before .loop .inv .3 .ready)) (c .before .before .before .before .before .before .before .before .before .if1 .left) (c .before .before .before .values .ensures _ _ _ (standing-begun (c .before .before .before .before .before .before .before .before .before .before .before .before .before .before .before .before .before .loop .inv .3) (c .before .before .before .before .before .before .before .before .before .before .before .before .before .before .before .taken .given .1) (c .before .before .before .before .before .before .before .before .before .before .before .entry-line .ensures (c .before .before .before .before .before .before .before .before .before .before .before .before .before .before .before .before .before .loop .inv .2) (c .before .before .before .before .before .before .before .before .before .before .before .before .before .before .before .before .before .loop .inv .3 .ready)) (c .before .before .before .before .before .before .before .before .before .if1 .left) (c .before .before .before .before .before .before .before .note .ensures))) (c .before .if2 .taken))
+returns-4 : tie.Need-returns-4 Inv-loop μ-loop
+returns-4 c = answer-refused _ _ (c .before .before .before .before .before .before .before .before .before .before .before .before .before .before .before .before .before .before .loop .inv .3 .ready .sheet) _ _ _ (c .refused3 .ensures)
+    (standing-lost (c .before .before .before .before .before .before .before .before .before .before .before .before .before .before .before .before .before .before .loop .inv .3) (c .before .before .before .before .before .before .before .before .before .before .before .before .before .before .before .before .taken .given .1) (c .before .before .before .before .before .before .before .before .before .before .before .before .entry-line .ensures (c .before .before .before .before .before .before .before .before .before .before .before .before .before .before .before .before .before .before .loop .inv .2) (c .before .before .before .before .before .before .before .before .before .before .before .before .before .before .before .before .before .before .loop .inv .3 .ready)) (c .before .before .before .before .before .before .before .before .before .before .if2 .left) (c .before .before .before .before .values .ensures _ _ _ (standing-begun (c .before .before .before .before .before .before .before .before .before .before .before .before .before .before .before .before .before .before .loop .inv .3) (c .before .before .before .before .before .before .before .before .before .before .before .before .before .before .before .before .taken .given .1) (c .before .before .before .before .before .before .before .before .before .before .before .before .entry-line .ensures (c .before .before .before .before .before .before .before .before .before .before .before .before .before .before .before .before .before .before .loop .inv .2) (c .before .before .before .before .before .before .before .before .before .before .before .before .before .before .before .before .before .before .loop .inv .3 .ready)) (c .before .before .before .before .before .before .before .before .before .before .if2 .left) (c .before .before .before .before .before .before .before .before .note .ensures))) (c .before .before .if3 .taken))
 
 mul-notes-2 : tie.Need-mul-notes-2 Inv-loop μ-loop
 mul-notes-2 c = omega (arith, room (c .before .before .before .before .before .before .before .before) .0)
@@ -121,17 +124,17 @@ array-write-depths : tie.Need-array-write-depths Inv-loop μ-loop
 array-write-depths c = omega (arith, room (c .before .before .before .before .before .before .before .before) .0, c .before .before .before .before .before .before .before .before .before .before .before .before .before .before .before .before .loop .inv .3 .sized .levels)
 
 loop-less : tie.Need-loop-less Inv-loop μ-loop
-loop-less c = let v = (c .before .before .before .values .ensures _ _ _ (standing-begun (c .before .before .before .before .before .before .before .before .before .before .before .before .before .before .before .before .before .loop .inv .3) (c .before .before .before .before .before .before .before .before .before .before .before .before .before .before .before .taken .given .1) (c .before .before .before .before .before .before .before .before .before .before .before .entry-line .ensures (c .before .before .before .before .before .before .before .before .before .before .before .before .before .before .before .before .before .loop .inv .2) (c .before .before .before .before .before .before .before .before .before .before .before .before .before .before .before .before .before .loop .inv .3 .ready)) (c .before .before .before .before .before .before .before .before .before .if1 .left) (c .before .before .before .before .before .before .before .note .ensures))) .read in
+loop-less c = let v = (c .before .before .before .values .ensures _ _ _ (standing-begun (c .before .before .before .before .before .before .before .before .before .before .before .before .before .before .before .before .before .loop .inv .3) (c .before .before .before .before .before .before .before .before .before .before .before .before .before .before .before .taken .given .1) (c .before .before .before .before .before .before .before .before .before .before .before .entry-line .ensures (c .before .before .before .before .before .before .before .before .before .before .before .before .before .before .before .before .before .loop .inv .2) (c .before .before .before .before .before .before .before .before .before .before .before .before .before .before .before .before .before .loop .inv .3 .ready)) (c .before .before .before .before .before .before .before .before .before .if2 .left) (c .before .before .before .before .before .before .before .note .ensures))) .ended (c .before .if3 .left) .read in
     let f = taken-fits-line _ (now (c .before .before .before .before .before .before .before .before .before .before .before .before .before .before .before .before .before .before .before .before .args .s)) (c .before .before .before .before .before .before .before .before .before .before .before .before .before .before .before .before .before .loop .at) (sym (c .before .before .before .before .before .before .before .before .before .before .before .before .before .before .before .before .before .loop .inv .3 .stands) ∙ c .before .before .before .before .before .before .before .before .before .before .before .before .before .before .before .taken .given .1) in omega (arith, v .start, v .within, f .place, f .next)
 
 loop-again : tie.Need-loop-again Inv-loop μ-loop
-loop-again c = (_, _, _, standing-on (c .before .before .before .before .before .before .before .before .before .before .before .before .before .before .before .before .before .loop .inv .3) (c .before .before .before .before .before .before .before .before .before .before .before .before .before .before .before .taken .given .1) (c .before .before .before .before .before .before .before .before .before .before .before .entry-line .ensures (c .before .before .before .before .before .before .before .before .before .before .before .before .before .before .before .before .before .loop .inv .2) (c .before .before .before .before .before .before .before .before .before .before .before .before .before .before .before .before .before .loop .inv .3 .ready)) (c .before .before .before .before .before .before .before .before .before .if1 .left) (c .before .before .before .values .ensures _ _ _ (standing-begun (c .before .before .before .before .before .before .before .before .before .before .before .before .before .before .before .before .before .loop .inv .3) (c .before .before .before .before .before .before .before .before .before .before .before .before .before .before .before .taken .given .1) (c .before .before .before .before .before .before .before .before .before .before .before .entry-line .ensures (c .before .before .before .before .before .before .before .before .before .before .before .before .before .before .before .before .before .loop .inv .2) (c .before .before .before .before .before .before .before .before .before .before .before .before .before .before .before .before .before .loop .inv .3 .ready)) (c .before .before .before .before .before .before .before .before .before .if1 .left) (c .before .before .before .before .before .before .before .note .ensures))) (c .before .if2 .left))
+loop-again c = (_, _, _, standing-on (c .before .before .before .before .before .before .before .before .before .before .before .before .before .before .before .before .before .loop .inv .3) (c .before .before .before .before .before .before .before .before .before .before .before .before .before .before .before .taken .given .1) (c .before .before .before .before .before .before .before .before .before .before .before .entry-line .ensures (c .before .before .before .before .before .before .before .before .before .before .before .before .before .before .before .before .before .loop .inv .2) (c .before .before .before .before .before .before .before .before .before .before .before .before .before .before .before .before .before .loop .inv .3 .ready)) (c .before .before .before .before .before .before .before .before .before .if2 .left) ((c .before .before .before .values .ensures _ _ _ (standing-begun (c .before .before .before .before .before .before .before .before .before .before .before .before .before .before .before .before .before .loop .inv .3) (c .before .before .before .before .before .before .before .before .before .before .before .before .before .before .before .taken .given .1) (c .before .before .before .before .before .before .before .before .before .before .before .entry-line .ensures (c .before .before .before .before .before .before .before .before .before .before .before .before .before .before .before .before .before .loop .inv .2) (c .before .before .before .before .before .before .before .before .before .before .before .before .before .before .before .before .before .loop .inv .3 .ready)) (c .before .before .before .before .before .before .before .before .before .if2 .left) (c .before .before .before .before .before .before .before .note .ensures))) .ended (c .before .if3 .left)))
 
 pub entries-spec : {M : Type 1} → statement M
 entries-spec =
     tie.close
-    (tie.spec Inv-loop μ-loop loop-holds (λ c. search needs) (λ c κs. search needs) (λ c κs. search needs) returns entry-line-requires
-    (λ c κs. search needs) returns-2 note-requires add-values mul-notes element-copy-out-notes add-values-2 values-requires (λ c κs. search needs)
-    returns-3 mul-notes-2 element-write-notes mul-notes-3 element-write-notes-2 mul-notes-4 element-write-notes-3 mul-notes-5 element-write-notes-4
+    (tie.spec Inv-loop μ-loop loop-holds (λ c. search needs) (λ c κs. search needs) (λ c κs. search needs) returns returns-2 entry-line-requires
+    (λ c κs. search needs) returns-3 note-requires add-values mul-notes element-copy-out-notes add-values-2 values-requires (λ c κs. search needs)
+    returns-4 mul-notes-2 element-write-notes mul-notes-3 element-write-notes-2 mul-notes-4 element-write-notes-3 mul-notes-5 element-write-notes-4
     add-notes mul-notes-6 element-write-notes-5 add-notes-2 mul-depths array-read-depths add-depths add-depths-2 mul-depths-2 array-write-depths
     loop-less loop-again)

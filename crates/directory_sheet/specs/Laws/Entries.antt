@@ -28,22 +28,25 @@ use Rattle.sheet_line.specs.Line.{takenBy, takenAt, bytesOf}
 use Rattle.sheet_line.specs.Laws.{lineOf, Fits, taken-fits-line}
 use Rattle.directory_schema.specs.Lines.{judgedFrom}
 use Rattle.directory_schema.specs.Laws.Lines.{formed, judged-refused, judged-on, judged-broken, judged-end, entry-columns}
-use Rattle.directory_schema.specs.Types.{TypesJudged}
-use Rattle.directory_ruling.specs.Mark.{Mark, mark, MarkWithin, Room, withMark, lastIn}
+use Rattle.directory_schema.specs.Types.{TypesEnded}
+use Rattle.directory_schema.specs.Laws.Zeros.{zeros, zeros-more}
+use Rattle.tables.specs.Book.{FIRST-ROWS}
+use Rattle.tables.specs.Held.{noneHeld}
+use Rattle.directory_ruling.specs.Mark.{Mark, mark, MarkWithin, Room, withMark, tableOf, lastIn, heads, tableLength}
 use Rattle.directory_ruling.specs.Twins.{Named}
 use Rattle.directory_ruling.specs.Laws.Twins.{any-snoc, named-start, named-entry, valued-none}
 use Rattle.directory_ruling.specs.Rulings.{Ready, markOf, reading}
 use Rattle.directory_ruling.specs.Laws.Rulings.{line-within, ready-room, ready-more}
 use Rattle.directory_ruling.specs.declared.Ruling.{Ruling}
-use Rattle.directory_entry.specs.EntryLine.{entryRuling}
+use Rattle.directory_entry.specs.EntryLine.{depthCount, entryRuling}
 use Rattle.directory_entry.specs.Laws.EntryLine.{Elsewhere, EntriesCounted, EntryTaken, EntryOutcome, entry-outcome}
 use Rattle.directory_values.specs.declared.Current.{Current}
 use Rattle.directory_values.specs.declared.ValueLines.{ValueLines}
-use Rattle.directory_values.specs.Values.{Begun, ValuesJudged}
+use Rattle.directory_values.specs.Values.{Begun, ValuesEnded, ValuesJudged}
 use Rattle.directory_values.specs.Laws.Values.{values-all}
 use Rattle.directory_schema.specs.declared.TypeLines.{TypeLines}
-use Rattle.directory_sheet.specs.Judged.{EntryNoted, DirectoryNoted, DirectoryJudged}
-use Rattle.directory_sheet.specs.Entries.{Sized, endNumber, refusedWith, nothingNoted, Opened}
+use Rattle.directory_sheet.specs.Judged.{nothingNoted, NothingAfter, EntryNoted, DirectoryNoted, DirectoryJudged}
+use Rattle.directory_sheet.specs.Entries.{Sized, endNumber, Opened}
 use Rattle.directory_sheet.specs.Rows.{AllHeld}
 use Rattle.directory_sheet.specs.Laws.Rows.{held-none, held-more}
 use Rattle.directory_sheet.specs.declared.Notes.{Notes}
@@ -59,6 +62,8 @@ pub record EntriesRead (f : Format) (s : Bytes) (ks : List ℕ) (notes : Notes) 
   pub ready : Ready s ks table ms
   pub usable : Usable f
   pub sized : Sized ks notes depths
+  pub accepting : notes .refusal ≡ 0
+  pub after : NothingAfter notes
   pub marked : length ms ≡ n
   pub space : 31 * n ≤ i
   pub within : i ≤ length s
@@ -72,28 +77,32 @@ pub record EntriesRead (f : Format) (s : Bytes) (ks : List ℕ) (notes : Notes) 
 
 -- ---- the answer
 
+-- with a refusal, nothing else
+judged-nothing : {f : Format} {s : Bytes} {r : Notes} {held : List ℕ} {n : ℕ} → directoryOf f s ≡ refuse n → (r ≡ nothingNoted n) × (held ≡ noneHeld) → DirectoryJudged f s r held
+judged-nothing {f} {s} {r} {held} {n} h only = record {
+  refusal = ap (λ (x : Notes). x .refusal) (only .0) ∙ sym (ap refusalOf h);
+  noted = λ d q. absurd (refused-not n d (sym h ∙ q));
+  refused = λ m q. let e : n ≡ m = ap (refusalOf {A = Directory}) (sym h ∙ q) in (only .0 ∙ ap nothingNoted e, only .1);
+}
+
 module _ (f : Format) (s : Bytes) (fits : length s ≤ 65536) where
   short : directoryOf f s ≡ fold (step (f .top)) finish 2 nothing (lines (f .width) s)
   unfolding directoryOf
   short = rw (le-ltb 65536 (length s) fits)
 
-  pub answer-refused : (r : Notes) (held : List ℕ) (n : ℕ) → r .refusal ≡ n → fold (step (f .top)) finish 2 nothing (lines (f .width) s) ≡ refuse n → DirectoryJudged f s r held
-  answer-refused r held n e h = record {
-    refusal = e ∙ sym (ap refusalOf (short ∙ h));
-    noted = λ d q. absurd (refused-not n d (sym (short ∙ h) ∙ q));
-  }
+  pub answer-refused : (r : Notes) (held : List ℕ) (n : ℕ) → (r ≡ nothingNoted n) × (held ≡ noneHeld) → fold (step (f .top)) finish 2 nothing (lines (f .width) s) ≡ refuse n
+      → DirectoryJudged f s r held
+  answer-refused r held n only h = judged-nothing (short ∙ h) only
 
   pub answer-accepted : (r : Notes) (held : List ℕ) (d : Directory) → r .refusal ≡ 0 → fold (step (f .top)) finish 2 nothing (lines (f .width) s) ≡ accept d → DirectoryNoted (f .width) s d r held → DirectoryJudged f s r held
   answer-accepted r held d e h n = record {
     refusal = e ∙ sym (ap refusalOf (short ∙ h));
     noted = λ d′ q. subst (λ (x : Directory). DirectoryNoted (f .width) s x r held) (accepted-is (sym (short ∙ h) ∙ q)) n;
+    refused = λ m q. absurd (refused-not m d (sym q ∙ short ∙ h));
   }
 
-pub answer-long : (f : Format) (s : Bytes) (r : Notes) (held : List ℕ) → r .refusal ≡ 1 → 65536 < length s → DirectoryJudged f s r held
-answer-long f s r held e h = record {
-  refusal = e ∙ sym (ap refusalOf long);
-  noted = λ d q. absurd (refused-not 1 d (sym long ∙ q));
-}
+pub answer-long : (f : Format) (s : Bytes) (r : Notes) (held : List ℕ) → (r ≡ nothingNoted 1) × (held ≡ noneHeld) → 65536 < length s → DirectoryJudged f s r held
+answer-long f s r held only h = judged-nothing long only
   where
     long : directoryOf f s ≡ refuse 1
     long = unfold directoryOf in (rw (lt-ltb 65536 (length s) h))
@@ -177,7 +186,7 @@ module _ {f : Format} {s : Bytes} {ks : List ℕ} {notes : Notes} {depths table 
 
   module _ (z : r .refusal ≡ 0) where
     abbrev m : Mark
-    m = markOf ks (x .a) (x .b) x
+    m = markOf ks (x .a) (x .b) (x .place) (x .length)
 
     abbrev e : Current
     e = record { number = notes .count + 1; line = x; first = getD (notes .first) (notes .count) 0 }
@@ -197,10 +206,10 @@ module _ {f : Format} {s : Bytes} {ks : List ℕ} {notes : Notes} {depths table 
     low = omega (arith, taking .0 .parent, taking .0 .room)
 
     -- the entry and its mark have their places
-    pub standing-room : (notes .count < 256) × (x .a ≤ notes .count) × (getD depths (x .a) 0 < 8) × (n < 2115) × Room table n r
+    pub standing-room : (notes .count < 256) × (x .a ≤ notes .count) × (getD depths (x .a) 0 < 8) × (n < heads) × Room table n r
     standing-room =
         let t = taking .0 in
-        (t .room, t .parent, t .level, omega (arith, st .marked, st .ready .room), ready-room (st .ready) (x .a) (x .b) (omega (arith, low)) x inside n (st .marked) (t .ruling))
+        (t .room, t .parent, t .level, omega (arith, st .marked, st .ready .room), ready-room (st .ready) (x .a) (x .b) (omega (arith, low)) (x .place) (x .length) inside n (st .marked) (t .ruling))
 
     -- its value lines follow
     pub standing-begun : {table′ : List ℕ} → table′ ≡ withMark table n r → Begun f s ks table′ held (n + 1) e es d (m ∷ ms)
@@ -210,7 +219,7 @@ module _ {f : Format} {s : Bytes} {ks : List ℕ} {notes : Notes} {depths table 
         let few = st .ready .few in
         let number : notes .count + 1 ≡ length (es ++ (d ∷ [])) = ap (λ (q : ℕ). q + 1) (st .counted .number) ∙ sym (length-append es (d ∷ [])) in
         record {
-          ready = rw noted (ready-more (st .ready) (x .a) (x .b) (omega (arith, low)) x inside n (st .marked) (t .ruling) (omega (arith, st .space, fits .place, fits .next, fits .within, st .ready .sheet, st .usable .least)));
+          ready = rw noted (ready-more (st .ready) (x .a) (x .b) (omega (arith, low)) (x .place) (x .length) inside n (st .marked) (t .ruling) (omega (arith, st .space, fits .place, fits .next, fits .within, st .ready .sheet, st .usable .least)));
           usable = st .usable;
           count = omega (arith, st .marked);
           number = number;
@@ -227,10 +236,11 @@ module _ {f : Format} {s : Bytes} {ks : List ℕ} {notes : Notes} {depths table 
           fewer = omega (arith, st .fewer);
         }
 
-    module _ {table′ held′ : List ℕ} {run : ValueLines} (v : ValuesJudged f s ks table′ held held′ e es d run) where
-      pub standing-lost : (run .refusal ≡ 0 → ⊥) → fold (step (f .top)) finish 2 nothing (lines (f .width) s) ≡ refuse (run .refusal)
-      standing-lost q = st .judged ∙ judged-on f s i here (reading ks complete current) (reading ks es (some d)) (taking .1) ∙ v .refused q
+    pub standing-lost : {table′ held′ : List ℕ} {run : ValueLines} → ValuesJudged f s ks table′ held held′ e es d run → (run .refusal ≡ 0 → ⊥)
+        → fold (step (f .top)) finish 2 nothing (lines (f .width) s) ≡ refuse (run .refusal)
+    standing-lost v q = st .judged ∙ judged-on f s i here (reading ks complete current) (reading ks es (some d)) (taking .1) ∙ v .refused q .number
 
+    module _ {table′ held′ : List ℕ} {run : ValueLines} (v : ValuesEnded f s ks table′ held held′ e es d run) where
       abbrev vs : List Part
       vs = v .values
 
@@ -250,69 +260,77 @@ module _ {f : Format} {s : Bytes} {ks : List ℕ} {notes : Notes} {depths table 
       next-room : notes .count + 1 < length (notes .first)
       next-room = omega (arith, taking .0 .room, st .sized .first)
 
-      module _ (ended : run .refusal ≡ 0) where
-        entry-noted : EntryNoted (f .width) s (withValues d vs) i (x .a) (x .b) (x .length)
-        entry-noted =
-            let t = taking .0 in
-            let next : x .next ≡ i + (5 * f .width + 1 + x .length) = omega (arith, fits .place, fits .next) in
-            record {
-              line = taken-front (f .width) s i here ∙ ap₂ (λ (p q : ℕ). Front.Taken p (x .a) (x .b) q (x .length)) (t .kind) (entry-columns (f .top) x (t .form) (t .kind));
-              value = taken-value (f .width) s i fits;
-              within = omega (arith, next, fits .within);
-              values = ap (λ (p : ℕ). valuesOf (linesAt (f .width) s p)) (sym next) ∙ values-all v ended;
-              above = refl;
-              type = refl;
-            }
+      entry-noted : EntryNoted (f .width) s (withValues d vs) i (x .a) (x .b) (x .length)
+      entry-noted =
+          let t = taking .0 in
+          let next : x .next ≡ i + (5 * f .width + 1 + x .length) = omega (arith, fits .place, fits .next) in
+          record {
+            line = taken-front (f .width) s i here ∙ ap₂ (λ (p q : ℕ). Front.Taken p (x .a) (x .b) q (x .length)) (t .kind) (entry-columns (f .top) x (t .form) (t .kind));
+            value = taken-value (f .width) s i fits;
+            within = omega (arith, next, fits .within);
+            values = ap (λ (p : ℕ). valuesOf (linesAt (f .width) s p)) (sym next) ∙ values-all v;
+            above = refl;
+            type = refl;
+          }
 
-        next-noted : AllNoted (f .width) s (noting notes i x (run .to)) (es ++ (withValues d vs ∷ []))
-        next-noted j h = go (ℕ-discrete j (notes .count))
-          where
-            go : Dec (j ≡ notes .count) → EntryNoted (f .width) s (getD (es ++ (withValues d vs ∷ [])) j blank) (getD (set (notes .at) (notes .count) i) j 0)
-                (getD (set (notes .parents) (notes .count) (x .a)) j 0) (getD (set (notes .naming) (notes .count) (x .b)) j 0) (getD (set (notes .lengths) (notes .count) (x .length)) j 0)
-            go (yes q) =
-                let room = taking .0 .room in
-                let size = st .sized in
-                rw (q, getD-set-same (notes .at) (notes .count) i 0 (omega (arith, room, size)), getD-set-same (notes .parents) (notes .count) (x .a) 0 (omega (arith, room, size)), getD-set-same (notes .naming) (notes .count) (x .b) 0 (omega (arith, room, size)), getD-set-same (notes .lengths) (notes .count) (x .length) 0 (omega (arith, room, size)), getD-at es (withValues d vs) [] blank (notes .count) (sym (st .counted .number)))
-                entry-noted
-            go (no q) =
-                rw (getD-set-other (notes .at) (notes .count) j i 0 q, getD-set-other (notes .parents) (notes .count) j (x .a) 0 q, getD-set-other (notes .naming) (notes .count) j (x .b) 0 q, getD-set-other (notes .lengths) (notes .count) j (x .length) 0 q, List·getD-append es (withValues d vs ∷ []) blank j (omega (arith, st .counted .number)))
-                (st .noted j (omega arith))
+      next-noted : AllNoted (f .width) s (noting notes i x (run .to)) (es ++ (withValues d vs ∷ []))
+      next-noted j h = go (ℕ-discrete j (notes .count))
+        where
+          go : Dec (j ≡ notes .count) → EntryNoted (f .width) s (getD (es ++ (withValues d vs ∷ [])) j blank) (getD (set (notes .at) (notes .count) i) j 0)
+              (getD (set (notes .parents) (notes .count) (x .a)) j 0) (getD (set (notes .naming) (notes .count) (x .b)) j 0) (getD (set (notes .lengths) (notes .count) (x .length)) j 0)
+          go (yes q) =
+              let room = taking .0 .room in
+              let size = st .sized in
+              rw (q, getD-set-same (notes .at) (notes .count) i 0 (omega (arith, room, size)), getD-set-same (notes .parents) (notes .count) (x .a) 0 (omega (arith, room, size)), getD-set-same (notes .naming) (notes .count) (x .b) 0 (omega (arith, room, size)), getD-set-same (notes .lengths) (notes .count) (x .length) 0 (omega (arith, room, size)), getD-at es (withValues d vs) [] blank (notes .count) (sym (st .counted .number)))
+              entry-noted
+          go (no q) =
+              rw (getD-set-other (notes .at) (notes .count) j i 0 q, getD-set-other (notes .parents) (notes .count) j (x .a) 0 q, getD-set-other (notes .naming) (notes .count) j (x .b) 0 q, getD-set-other (notes .lengths) (notes .count) j (x .length) 0 q, List·getD-append es (withValues d vs ∷ []) blank j (omega (arith, st .counted .number)))
+              (st .noted j (omega arith))
 
-        -- the next line that is no value line
-        pub standing-on : EntriesRead f s ks (noting notes i x (run .to)) (set depths (notes .count + 1) (getD depths (x .a) 0 + 1)) table′ held′ (run .marks) (not (run .found)) (run .at) (run .taken)
-            es (some (withValues d vs)) (v .all)
-        unfolding entriesOf lacksNaming
-        standing-on = record {
-          ready = v .read .ready;
-          usable = st .usable;
-          sized = record {
-            types = st .sized .types;
-            list = st .sized .list;
-            schema = st .sized .schema;
-            at = simp length-set (st .sized .at);
-            parents = simp length-set (st .sized .parents);
-            naming = simp length-set (st .sized .naming);
-            lengths = simp length-set (st .sized .lengths);
-            first = simp length-set (st .sized .first);
-            levels = simp length-set (st .sized .levels);
-          };
-          marked = v .read .count;
-          space = v .read .space;
-          within = v .read .within;
-          stands = v .stands;
-          elsewhere = v .other ended;
-          counted = record {
-            number = ap (λ (q : ℕ). q + 1) (st .counted .number) ∙ sym (length-append es (withValues d vs ∷ []));
-            most = omega (arith, taking .0 .room);
-            lacking = ap not (v .read .holds);
-            levels = next-levels;
-            named = named-filled ks es d vs (v .read .named);
-          };
-          noted = next-noted;
-          rows = held-more (st .rows) (withValues d vs) (v .read .rows) (st .counted .number) next-room;
-          fewer = rw (getD-set-same (notes .first) (notes .count + 1) (run .to) 0 next-room) (v .read .fewer);
-          judged = st .judged ∙ judged-on f s i here (reading ks complete current) (reading ks es (some d)) (taking .1) ∙ v .read .judged;
-        }
+      -- the next line that is no value line
+      pub standing-on : EntriesRead f s ks (noting notes i x (run .to)) (set depths (notes .count + 1) (getD depths (x .a) 0 + 1)) table′ held′ (run .marks) (not (run .found)) (run .at) (run .taken)
+          es (some (withValues d vs)) (v .all)
+      unfolding entriesOf lacksNaming
+      standing-on = record {
+        ready = v .read .ready;
+        usable = st .usable;
+        sized = record {
+          types = st .sized .types;
+          list = st .sized .list;
+          schema = st .sized .schema;
+          at = simp length-set (st .sized .at);
+          parents = simp length-set (st .sized .parents);
+          naming = simp length-set (st .sized .naming);
+          lengths = simp length-set (st .sized .lengths);
+          first = simp length-set (st .sized .first);
+          levels = simp length-set (st .sized .levels);
+        };
+        accepting = st .accepting;
+        after = record {
+          schema = st .after .schema;
+          at = zeros-more (notes .count) (notes .at) i (st .after .at);
+          parents = zeros-more (notes .count) (notes .parents) (x .a) (st .after .parents);
+          naming = zeros-more (notes .count) (notes .naming) (x .b) (st .after .naming);
+          lengths = zeros-more (notes .count) (notes .lengths) (x .length) (st .after .lengths);
+          first = zeros-more (notes .count + 1) (notes .first) (run .to) (st .after .first);
+        };
+        marked = v .read .count;
+        space = v .read .space;
+        within = v .read .within;
+        stands = v .stands;
+        elsewhere = v .other;
+        counted = record {
+          number = ap (λ (q : ℕ). q + 1) (st .counted .number) ∙ sym (length-append es (withValues d vs ∷ []));
+          most = omega (arith, taking .0 .room);
+          lacking = ap not (v .read .holds);
+          levels = next-levels;
+          named = named-filled ks es d vs (v .read .named);
+        };
+        noted = next-noted;
+        rows = held-more (st .rows) (withValues d vs) (v .read .rows) (st .counted .number) next-room;
+        fewer = rw (getD-set-same (notes .first) (notes .count + 1) (run .to) 0 next-room) (v .read .fewer);
+        judged = st .judged ∙ judged-on f s i here (reading ks complete current) (reading ks es (some d)) (taking .1) ∙ v .read .judged;
+      }
 
 -- ---- no line stands there
 
@@ -322,7 +340,7 @@ module _ {f : Format} {s : Bytes} {ks : List ℕ} {notes : Notes} {depths table 
   unfolding finish
   ends is = st .judged ∙ judged-end f s i _ (sym (st .stands) ∙ is) ∙ rw (← st .counted .lacking)
 
-  all-noted : DirectoryNoted (f .width) s (record { schema = schemaOf ks; entries = entriesOf (reading ks complete current) }) (refusedWith notes 0) held
+  all-noted : DirectoryNoted (f .width) s (record { schema = schemaOf ks; entries = entriesOf (reading ks complete current) }) notes held
   all-noted = record {
     types = st .sized .types;
     schema = ap schemaOf (st .sized .list);
@@ -337,33 +355,48 @@ module _ {f : Format} {s : Bytes} {ks : List ℕ} {notes : Notes} {depths table 
     first-length = st .sized .first;
     held-length = st .rows .table;
     entry = st .noted;
+    start = st .rows .start;
     values = rw (st .sized .list) (st .rows .values);
+    after = st .after;
+    held-after = st .rows .after;
   }
 
-  pub standing-ended : ((x : Line) → taken ≡ Taken.Line x → ⊥) → DirectoryJudged f s (refusedWith notes (endNumber taken lacks)) held
-  standing-ended none-there = go taken refl lacks refl
-    where
-      go : (t : Taken) → taken ≡ t → (b : Bool) → lacks ≡ b → DirectoryJudged f s (refusedWith notes (endNumber t b)) held
-      go (Taken.Line x) is b q = absurd (none-there x is)
-      go Taken.NotInForm is b q = answer-refused f s (st .ready .sheet) (refusedWith notes 2) held 2 refl (st .judged ∙ judged-broken f s i _ (sym (st .stands) ∙ is))
-      go Taken.End is true q = answer-refused f s (st .ready .sheet) (refusedWith notes 6) held 6 refl (ends is ∙ rw q)
-      go Taken.End is false q = answer-accepted f s (st .ready .sheet) (refusedWith notes 0) held _ refl (ends is ∙ rw q) all-noted
+  module _ (none-there : (x : Line) → taken ≡ Taken.Line x → ⊥) where
+    pub standing-short : (endNumber taken lacks ≡ 0 → ⊥) → fold (step (f .top)) finish 2 nothing (lines (f .width) s) ≡ refuse (endNumber taken lacks)
+    standing-short = go taken refl lacks refl
+      where
+        go : (t : Taken) → taken ≡ t → (b : Bool) → lacks ≡ b → (endNumber t b ≡ 0 → ⊥) → fold (step (f .top)) finish 2 nothing (lines (f .width) s) ≡ refuse (endNumber t b)
+        go (Taken.Line x) is b q z = absurd (none-there x is)
+        go Taken.NotInForm is b q z = st .judged ∙ judged-broken f s i _ (sym (st .stands) ∙ is)
+        go Taken.End is true q z = ends is ∙ rw q
+        go Taken.End is false q z = absurd (z refl)
+
+    pub standing-ended : endNumber taken lacks ≡ 0 → DirectoryJudged f s notes held
+    standing-ended = go taken refl lacks refl
+      where
+        go : (t : Taken) → taken ≡ t → (b : Bool) → lacks ≡ b → endNumber t b ≡ 0 → DirectoryJudged f s notes held
+        go (Taken.Line x) is b q z = absurd (none-there x is)
+        go Taken.NotInForm is b q z = absurd (omega arith)
+        go Taken.End is true q z = absurd (omega arith)
+        go Taken.End is false q z = answer-accepted f s (st .ready .sheet) notes held _ (st .accepting) (ends is ∙ rw q) all-noted
 
 -- ---- before the first entry
 
 module _ {f : Format} {s : Bytes} {ks : List ℕ} {notes : Notes} {held : List ℕ} {i : ℕ} {taken : Taken} (o : Opened f s ks notes held i taken) where
-  pub standing-start : EntriesRead f s ks notes (replicate 257 0) (replicate 4419 0) held 0 false i taken [] none []
-  unfolding entriesOf lacksNaming lastIn nameAt
+  pub standing-start : EntriesRead f s ks notes (replicate depthCount 0) (replicate tableLength 0) held 0 false i taken [] none []
+  unfolding entriesOf lacksNaming tableOf lastIn nameAt
   standing-start = record {
     ready = record {
       sheet = o .sheet;
       rising = o .rising;
       few = o .few;
-      chain = record { table = length-replicate {A = ℕ} 4419 0; chained = tt; newest = λ b h. getD-replicate 4419 (2115 + b) 0 0 (omega arith); slots = tt };
+      chain = record { whole = refl; table = length-replicate {A = ℕ} tableLength 0; chained = tt; newest = λ b h. getD-replicate tableLength (heads + b) 0 0 (omega arith); slots = tt };
       room = omega arith;
     };
     usable = o .usable;
     sized = o .sized;
+    accepting = o .accepting;
+    after = o .after;
     marked = refl;
     space = omega arith;
     within = o .within;
@@ -377,40 +410,42 @@ module _ {f : Format} {s : Bytes} {ks : List ℕ} {notes : Notes} {held : List �
       named = named-start s ks;
     };
     noted = λ k h. absurd (omega (arith, o .none-yet));
-    rows = held-none ks s (notes .first) held (notes .count) (o .none-yet) (o .table);
+    rows = held-none ks s (notes .first) held (notes .count) (o .none-yet) (o .none-held) (o .empty);
     fewer = rw (o .none-yet) (omega (arith, o .none-held));
     judged = o .judged;
   }
     where
-      level : (k : ℕ) → k ≤ 0 → getD (replicate 257 0) k 0 ≡ length (nameAt [] k)
-      level zero h = getD-replicate 257 0 0 0 (omega arith)
+      level : (k : ℕ) → k ≤ 0 → getD (replicate depthCount 0) k 0 ≡ length (nameAt [] k)
+      level zero h = getD-replicate depthCount 0 0 0 (omega arith)
       level (suc k) h = absurd (omega arith)
 
 -- after the K 1 lines, with nothing else noted
-pub opened : (f : Format) (s : Bytes) (schema held : List ℕ) (r : TypeLines) (b : Notes) → length s ≤ 65536 → Usable f × (length held ≡ 6345) → b ≡ nothingNoted → TypesJudged f s schema r → r .refusal ≡ 0
-    → Opened f s (take (r .count) schema)
-    (record { refusal = b .refusal; types = r .count; schema = schema; count = b .count; at = b .at; parents = b .parents; naming = b .naming; lengths = b .lengths; first = b .first }) held (r .at) (r .taken)
-opened f s schema held r b fits asked is t z = record {
+pub opened : (f : Format) (s : Bytes) (held : List ℕ) (r : TypeLines) (b : Notes) → length s ≤ 65536 → Usable f × (held ≡ noneHeld) → b ≡ nothingNoted 0 → TypesEnded f s r
+    → Opened f s (take (r .count) (r .schema))
+    (record { refusal = b .refusal; types = r .count; schema = r .schema; count = b .count; at = b .at; parents = b .parents; naming = b .naming; lengths = b .lengths; first = b .first }) held (r .at) (r .taken)
+opened f s held r b fits asked is t = rw is (record {
   sheet = fits;
   usable = asked .0;
   rising = t .read .rising;
-  few = rw (length-take-le (r .count) schema (omega (arith, t .read .most, t .read .room))) (t .read .most);
+  few = rw (length-take-le (r .count) (r .schema) (omega (arith, t .read .most, t .read .room))) (t .read .most);
   sized = record {
     types = t .read .most;
     list = refl;
     schema = t .read .room;
-    at = ap (λ (x : Notes). length (x .at)) is ∙ length-replicate {A = ℕ} 256 0;
-    parents = ap (λ (x : Notes). length (x .parents)) is ∙ length-replicate {A = ℕ} 256 0;
-    naming = ap (λ (x : Notes). length (x .naming)) is ∙ length-replicate {A = ℕ} 256 0;
-    lengths = ap (λ (x : Notes). length (x .lengths)) is ∙ length-replicate {A = ℕ} 256 0;
-    first = ap (λ (x : Notes). length (x .first)) is ∙ length-replicate {A = ℕ} 257 0;
-    levels = length-replicate {A = ℕ} 257 0;
+    at = length-replicate {A = ℕ} 256 0;
+    parents = length-replicate {A = ℕ} 256 0;
+    naming = length-replicate {A = ℕ} 256 0;
+    lengths = length-replicate {A = ℕ} 256 0;
+    first = length-replicate {A = ℕ} FIRST-ROWS 0;
+    levels = length-replicate {A = ℕ} depthCount 0;
   };
-  none-yet = ap (λ (x : Notes). x .count) is;
-  none-held = ap (λ (x : Notes). getD (x .first) 0 0) is ∙ getD-replicate 257 0 0 0 (omega arith);
-  table = asked .1;
+  accepting = refl;
+  after = record { schema = t .read .rest; at = zeros 256 0; parents = zeros 256 0; naming = zeros 256 0; lengths = zeros 256 0; first = zeros FIRST-ROWS 1 };
+  none-yet = refl;
+  none-held = getD-replicate FIRST-ROWS 0 0 0 (omega arith);
+  empty = asked .1;
   within = t .read .within;
   stands = t .stands;
-  other = t .other z;
+  other = t .other;
   judged = t .read .same;
-}
+})

@@ -20,11 +20,11 @@ returns-2 c = λ ms ready. rw (sym (c .before .before .before .before .directory
 rank-requires : tie.Need-rank-requires
 rank-requires c κs = omega (arith, c .before .before .before .before .before .before .pre .2, rank-rises (now (c .before .before .before .before .before .before .args .schema)) (c .before .before .before .before .before .before .args .last) (c .before .before .before .before .before .before .args .line .a) (c .if2 .left))
 
-add-ruled : tie.Need-add-ruled
-add-ruled c = omega (arith, c .before .before .before .before .before .before .before .pre .1)
+add-owner : tie.Need-add-owner
+add-owner c = omega (arith, c .before .before .before .before .before .before .before .pre .1)
 
 ruled-requires : tie.Need-ruled-requires
-ruled-requires c κs = record { sought = c .before .before .before .before .before .before .before .pre .0; ranked = c .rank .ensures; low = omega (arith, c .before .before .before .before .before .before .before .pre .1) }
+ruled-requires c κs = let g = c .before .before .before .before .before .before .before .pre .0 in record { all = g .all; ready = g .ready; within = g .within; ranked = c .rank .ensures; low = omega (arith, c .before .before .before .before .before .before .before .pre .1) }
 
 returns-3 : tie.Need-returns-3
 unfolding valueRuling
@@ -33,4 +33,4 @@ returns-3 c = λ ms ready. rw (sym (c .before .before .before .before .before .d
 pub value-line-spec : {M : Type 1} → statement M
 value-line-spec =
     tie.close
-    (tie.spec (λ c κs. search needs) (λ c κs. search needs) returns (λ c κs. search needs) returns-2 rank-requires add-ruled ruled-requires returns-3)
+    (tie.spec (λ c κs. search needs) (λ c κs. search needs) returns (λ c κs. search needs) returns-2 rank-requires add-owner ruled-requires returns-3)

@@ -33,7 +33,7 @@ use Rattle.directory_values.specs.ValueLine.{valueRuling, broughtBy}
 pub record ValueTaken (s : Bytes) (ks table : List ℕ) (number last : ℕ) (x : Line) (r : Ruling) : Type 0 where
   pub rises : last ≤ x .a
   pub fit : allowed (schemaOf ks) (x .a) (bytesOf s x) ≡ true
-  pub ruling : r ≡ marking s ks table (ownerOf number) (x .a) x
+  pub ruling : r ≡ marking s ks table (ownerOf number) (x .a) (x .place) (x .length)
 
 -- the line, refused or taken, after the values `vs` of entry `d`
 abbrev pub ValueOutcome : ℕ → Bytes → List ℕ → List ℕ → ℕ → ℕ → List Stored → Stored → List Part → Line → Ruling → Type 0
@@ -60,7 +60,7 @@ value-outcome top s ks table number last complete d vs ms newest valued x formed
     go : (f falls al tw : Bool) → columnsFit top x ≡ f → ltb (x .a) last ≡ falls → allowed (schemaOf ks) (x .a) (bytesOf s x) ≡ al
         → twins s ks (ownerOf number) (x .a) (bytesOf s x) ms ≡ tw
         → ValueOutcome top s ks table number last complete d vs x
-        (cond f (cond falls (refusing 3) (cond al (cond tw (refusing 5) (marking s ks table (ownerOf number) (x .a) x)) (refusing 4))) (refusing 2))
+        (cond f (cond falls (refusing 3) (cond al (cond tw (refusing 5) (marking s ks table (ownerOf number) (x .a) (x .place) (x .length))) (refusing 4))) (refusing 2))
     go false falls al tw p₁ p₂ p₃ p₄ = inl (record { not = λ z. omega arith; is = step-form top (reading ks complete (some (withValues d vs))) (lineOf s x) (sym formed ∙ p₁) })
     go true true al tw p₁ p₂ p₃ p₄ = inl (record { not = λ z. omega arith; is = value-same p₁ ∙ rw p₂ })
     go true false false tw p₁ p₂ p₃ p₄ = inl (record { not = λ z. omega arith; is = value-same p₁ ∙ rw (p₂, p₃) })

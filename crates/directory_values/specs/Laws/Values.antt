@@ -22,7 +22,8 @@ use Rattle.sheet_line.specs.Laws.{lineOf, taken-fits-line}
 use Rattle.directory_schema.specs.Laws.Lines.{formed, judged-refused, judged-on, values-on, values-none}
 use Rattle.directory_schema.specs.Schema.{rankOf}
 use Rattle.directory_schema.specs.Laws.Schema.{allowed-known}
-use Rattle.directory_ruling.specs.Mark.{Mark, mark, MarkWithin, Room, withMark}
+use Rattle.tables.specs.Held.{ROWS, HELD}
+use Rattle.directory_ruling.specs.Mark.{Mark, mark, MarkWithin, Room, withMark, heads}
 use Rattle.directory_ruling.specs.Twins.{ownerOf}
 use Rattle.directory_ruling.specs.Laws.Twins.{any-snoc, last-snoc, part-same, named-value, valued-more}
 use Rattle.directory_ruling.specs.Rulings.{markOf, reading}
@@ -34,7 +35,7 @@ use Rattle.directory_values.specs.Rows.{written}
 use Rattle.directory_values.specs.Laws.Rows.{rows-start, rows-more}
 use Rattle.directory_values.specs.declared.Current.{Current}
 use Rattle.directory_values.specs.declared.ValueLines.{ValueLines}
-use Rattle.directory_values.specs.Values.{Begun, judgedWith, ValuesRead, ValuesJudged}
+use Rattle.directory_values.specs.Values.{Begun, judgedWith, valuesRefused, ValuesRead, ValuesEnded, ValuesJudged}
 
 pub going-start : {f : Format} {s : Bytes} {ks table held : List ℕ} {n : ℕ} {e : Current} {complete : List Stored} {d : Stored} {ms : List Mark}
     → Begun f s ks table held n e complete d ms → ValuesRead f s ks table held held n false 0 0 (e .line .next) (e .first) e complete d [] ms
@@ -57,8 +58,8 @@ going-start {s = s} {ks = ks} {held = held} {e = e} b = record {
 
 -- where another line stands, all values have been read
 pub values-all : {f : Format} {s : Bytes} {ks table before held : List ℕ} {e : Current} {complete : List Stored} {d : Stored} {r : ValueLines}
-    (v : ValuesJudged f s ks table before held e complete d r) → r .refusal ≡ 0 → valuesOf (linesAt (f .width) s (e .line .next)) ≡ v .values
-values-all {f} {s} {r = r} v z = v .read .sofar ∙ ap (λ (x : List Part). v .values ++ x) (values-none f s (r .at) (r .taken) (v .stands) (v .other z)) ∙ append-nil (v .values)
+    (v : ValuesEnded f s ks table before held e complete d r) → valuesOf (linesAt (f .width) s (e .line .next)) ≡ v .values
+values-all {f} {s} {r = r} v = v .read .sofar ∙ ap (λ (x : List Part). v .values ++ x) (values-none f s (r .at) (r .taken) (v .stands) (v .other)) ∙ append-nil (v .values)
 
 -- one value line more
 module _ {f : Format} {s : Bytes} {ks table₀ before table held : List ℕ} {n₀ n : ℕ} {found : Bool} {last from i to : ℕ} {e : Current} {complete : List Stored} {d : Stored} {vs : List Part} {ms₀ ms : List Mark}
@@ -67,9 +68,15 @@ module _ {f : Format} {s : Bytes} {ks table₀ before table held : List ℕ} {n�
   outcome : ValueOutcome (f .top) s ks table (e .number) last complete d vs x (valueRuling (f .top) (e .number) last x s ks table ms)
   outcome = value-outcome (f .top) s ks table (e .number) last complete d vs ms (g .newest) (g .valued) x (formed f s i took) kind
 
-  pub going-refused : (r .refusal ≡ 0 → ⊥) → judgedWith f s ks complete d [] (e .line .next) ≡ refuse (r .refusal)
-  going-refused z = go outcome
+  pub going-refused : (r .refusal ≡ 0 → ⊥) → (v : ValueLines) → v ≡ valuesRefused (r .refusal) → ValuesJudged f s ks table before held e complete d v
+  going-refused z v only = record {
+    ended = λ q. absurd (z (sym number ∙ q));
+    refused = λ q. record { values = vs; all = ms; marks = n; found = found; last = last; from = from; at = i; to = to; read = g; number = go outcome ∙ ap refuse (sym number); only = only ∙ ap valuesRefused (sym number) };
+  }
     where
+      number : v .refusal ≡ r .refusal
+      number = ap (λ (y : ValueLines). y .refusal) only
+
       go : ValueOutcome (f .top) s ks table (e .number) last complete d vs x (valueRuling (f .top) (e .number) last x s ks table ms)
           → judgedWith f s ks complete d [] (e .line .next) ≡ refuse (r .refusal)
       go (inl q) = g .judged ∙ judged-refused f s i took _ _ (q .is) ∙ ap (λ (y : Ruling). refuse (y .refusal)) (sym is)
@@ -100,9 +107,9 @@ module _ {f : Format} {s : Bytes} {ks table₀ before table held : List ℕ} {n�
     inside = line-within (taken-fits-line (f .width) s i took)
 
     -- the mark and the row have their places
-    pub going-room : Room table n r × (r .rank < length ks) × (x .place + x .length ≤ length s) × (n < 2115) × (to < 2115) × (length held ≡ 6345)
+    pub going-room : Room table n r × (r .rank < length ks) × (x .place + x .length ≤ length s) × (n < heads) × (to < ROWS) × (length held ≡ HELD)
     going-room = (
-      ready-room (g .ready) owner (x .a) (omega (arith, b .most)) x inside n (g .count) (taking z .0 .ruling),
+      ready-room (g .ready) owner (x .a) (omega (arith, b .most)) (x .place) (x .length) inside n (g .count) (taking z .0 .ruling),
       rw rank (allowed-known 0 ks (g .ready .rising) (x .a) here (taking z .0 .fit) .within),
       omega (arith, inside .bytes),
       omega (arith, g .count, g .ready .room),
@@ -113,7 +120,7 @@ module _ {f : Format} {s : Bytes} {ks table₀ before table held : List ℕ} {n�
     -- whether the naming value is among the values now
     pub going-on : (found′ : Bool) → found′ ≡ (found || (eqb (e .line .b) (x .a) && same (getD ks (r .rank) 0 % 4) (bytesOf s (e .line)) here))
         → {held′ : List ℕ} → held′ ≡ written held to (r .rank) (x .place) (x .length) → {table′ : List ℕ} → table′ ≡ withMark table n r
-        → ValuesRead f s ks table′ before held′ (n + 1) found′ (x .a) (r .rank) (x .next) (to + 1) e complete d (vs ++ (broughtBy s x ∷ [])) (markOf ks owner (x .a) x ∷ ms)
+        → ValuesRead f s ks table′ before held′ (n + 1) found′ (x .a) (r .rank) (x .next) (to + 1) e complete d (vs ++ (broughtBy s x ∷ [])) (markOf ks owner (x .a) (x .place) (x .length) ∷ ms)
     going-on found′ now-found row mark-noted =
         let t = taking z .0 in
         let h = taken-fits-line (f .width) s i took in
@@ -122,7 +129,7 @@ module _ {f : Format} {s : Bytes} {ks table₀ before table held : List ℕ} {n�
         let names : (eqb (e .line .b) (x .a) && same (getD ks (r .rank) 0 % 4) (bytesOf s (e .line)) here) ≡ samePart (schemaOf ks) (d .naming) (broughtBy s x)
         = rw (b .type, b .value, rank) (sym (part-same ks (ready .rising) (ready .few) (d .naming .type) (x .a) (d .naming .value) here (b .fit) (t .fit))) in
         record {
-          ready = rw mark-noted (ready-more ready owner (x .a) (omega (arith, b .most)) x inside n (g .count) (t .ruling) (omega (arith, g .space, h .place, h .next, h .within, ready .sheet, b .usable .least)));
+          ready = rw mark-noted (ready-more ready owner (x .a) (omega (arith, b .most)) (x .place) (x .length) inside n (g .count) (t .ruling) (omega (arith, g .space, h .place, h .next, h .within, ready .sheet, b .usable .least)));
           count = omega (arith, g .count);
           space = omega (arith, g .space, h .place, h .next, b .usable .least);
           start = omega (arith, g .start, h .place, h .next);
@@ -130,8 +137,8 @@ module _ {f : Format} {s : Bytes} {ks table₀ before table held : List ℕ} {n�
           newest = sym (ap (λ (p : Part). p .type) (last-snoc (part 0 []) vs (broughtBy s x)));
           low = rw rank (omega arith);
           holds = now-found ∙ or-comm found _ ∙ ap₂ _||_ names (g .holds) ∙ sym (any-snoc (samePart (schemaOf ks) (d .naming)) vs (broughtBy s x));
-          named = named-value ks (ready .rising) (ready .few) s (markOf ks owner (x .a) x) owner (x .a) here refl refl (t .fit) (g .named) (g .valued) (ap ownerOf (b .number));
-          valued = valued-more ks (ready .rising) (ready .few) s (markOf ks owner (x .a) x) owner (x .a) here refl refl (t .fit) (g .named) (g .valued) (ap ownerOf (b .number));
+          named = named-value ks (ready .rising) (ready .few) s (markOf ks owner (x .a) (x .place) (x .length)) owner (x .a) here refl refl (t .fit) (g .named) (g .valued) (ap ownerOf (b .number));
+          valued = valued-more ks (ready .rising) (ready .few) s (markOf ks owner (x .a) (x .place) (x .length)) owner (x .a) here refl refl (t .fit) (g .named) (g .valued) (ap ownerOf (b .number));
           sofar = g .sofar ∙ ap (λ (y : List Part). vs ++ y) (values-on f s i took kind) ∙ sym (append-assoc vs (broughtBy s x ∷ []) _);
           judged = g .judged ∙ judged-on f s i took _ _ (taking z .1);
           rows = rw row (rows-more (g .rows) (broughtBy s x) (r .rank) (x .place) (x .length) (room .4) (room .1) (rw rank (allowed-known 0 ks (ready .rising) (x .a) here (t .fit) .number)) (room .2) refl);

@@ -1,4 +1,4 @@
-use mathlib.Core.Path.{_≡_, refl, sym, ap, _∙_}
+use mathlib.Core.Path.{refl, sym, ap, _∙_}
 use mathlib.Core.List.{[]}
 use native.Mathlib.Omega.{arith}
 use lib.ListN.{length}
@@ -8,7 +8,7 @@ use Rattle.rules.specs.Places.{schemaOf}
 use Rattle.tables.specs.Book.{width}
 use Rattle.access_items.specs.Laws.Sorted.{sorted-of}
 use Rattle.engine.specs.Laws.Serve.{replies-refused, replies-same, permissions-refuse, permissions-accept}
-use Rattle.engine.specs.Laws.Respond.{order-front, sorted-in, cleared}
+use Rattle.engine.specs.Laws.Respond.{order-front, order-room, sorted-in}
 use borrow.Author.Needs.{needs}
 use Rattle.engine.proofs.permitted.Statement.{statement}
 use Rattle.engine.proofs.permitted.Tie as tie
@@ -27,42 +27,42 @@ returns c = let A = c .before .before .before .before .before .before .before .b
 rank-items-requires : tie.Need-rank-items-requires
 rank-items-requires c κs = let A = c .before .before .before .before .before .before .before .before .before .before .before .before .before .args in let f = A .terms .format in let k = A .terms .limits in let W = width (now (A .book)) in let p = now (A .p) in let j = c .before .before .before .before .before .before .judge in let x = c .before .before .before .before .before .before .before .before .before .before .before .before .before .pre .0 in let D = c .before .before .before .before .before .before .before .before .before .before .before .before .before .pre .1 in
     let a = j .ensures .accepted (c .before .before .before .before .if1 .left) in let N = j .ensures .noted (a .0) (a .1) in
-    (search needs, (f .width, p, a .0, j .result .scopes, N .table, sym (N .count)))
+    (search needs, omega (arith, N .count, N .table .few), omega (arith, N .count, N .table .few, N .table .rights-length))
 
 slice-aggregate-requested : tie.Need-slice-aggregate-requested
-slice-aggregate-requested c = let A = c .before .before .before .before .before .before .before .before .before .before .before .before .before .before .before .before .before .args in let f = A .terms .format in let k = A .terms .limits in let W = width (now (A .book)) in let p = now (A .p) in let j = c .before .before .before .before .before .before .before .before .before .before .judge in let x = c .before .before .before .before .before .before .before .before .before .before .before .before .before .before .before .before .before .pre .0 in let D = c .before .before .before .before .before .before .before .before .before .before .before .before .before .before .before .before .before .pre .1 in
-    let a = j .ensures .accepted (c .before .before .before .before .before .before .before .before .if1 .left) in let N = j .ensures .noted (a .0) (a .1) in
+slice-aggregate-requested c = let A = c .before .before .before .before .before .before .before .before .before .before .before .before .before .before .before .before .args in let f = A .terms .format in let k = A .terms .limits in let W = width (now (A .book)) in let p = now (A .p) in let j = c .before .before .before .before .before .before .before .before .before .judge in let x = c .before .before .before .before .before .before .before .before .before .before .before .before .before .before .before .before .pre .0 in let D = c .before .before .before .before .before .before .before .before .before .before .before .before .before .before .before .before .pre .1 in
+    let a = j .ensures .accepted (c .before .before .before .before .before .before .before .if1 .left) in let N = j .ensures .noted (a .0) (a .1) in
     omega (arith, N .table .rights-length)
 
 slice-aggregate-requested-2 : tie.Need-slice-aggregate-requested-2
-slice-aggregate-requested-2 c = let A = c .before .before .before .before .before .before .before .before .before .before .before .before .before .before .before .before .before .before .args in let f = A .terms .format in let k = A .terms .limits in let W = width (now (A .book)) in let p = now (A .p) in let j = c .before .before .before .before .before .before .before .before .before .before .before .judge in let x = c .before .before .before .before .before .before .before .before .before .before .before .before .before .before .before .before .before .before .pre .0 in let D = c .before .before .before .before .before .before .before .before .before .before .before .before .before .before .before .before .before .before .pre .1 in
-    let a = j .ensures .accepted (c .before .before .before .before .before .before .before .before .before .if1 .left) in let N = j .ensures .noted (a .0) (a .1) in
+slice-aggregate-requested-2 c = let A = c .before .before .before .before .before .before .before .before .before .before .before .before .before .before .before .before .before .args in let f = A .terms .format in let k = A .terms .limits in let W = width (now (A .book)) in let p = now (A .p) in let j = c .before .before .before .before .before .before .before .before .before .before .judge in let x = c .before .before .before .before .before .before .before .before .before .before .before .before .before .before .before .before .before .pre .0 in let D = c .before .before .before .before .before .before .before .before .before .before .before .before .before .before .before .before .before .pre .1 in
+    let a = j .ensures .accepted (c .before .before .before .before .before .before .before .before .if1 .left) in let N = j .ensures .noted (a .0) (a .1) in
     omega (arith, N .table .scopes-length)
 
 part-requested-end : tie.Need-part-requested-end
-part-requested-end c = let A = c .before .before .before .before .before .before .before .before .before .before .before .before .before .before .before .before .before .before .before .args in let f = A .terms .format in let k = A .terms .limits in let W = width (now (A .book)) in let p = now (A .p) in let j = c .before .before .before .before .before .before .before .before .before .before .before .before .judge in let x = c .before .before .before .before .before .before .before .before .before .before .before .before .before .before .before .before .before .before .before .pre .0 in let D = c .before .before .before .before .before .before .before .before .before .before .before .before .before .before .before .before .before .before .before .pre .1 in
-    let a = j .ensures .accepted (c .before .before .before .before .before .before .before .before .before .before .if1 .left) in let N = j .ensures .noted (a .0) (a .1) in
-    let r = c .before .before .before .before .before .rank-items in let m : length (r .last .1 .1 .0) ≡ 256 = r .kept .1 .1 .0 ∙ cleared 256 in omega (arith, N .count, N .table .few, m)
+part-requested-end c = let A = c .before .before .before .before .before .before .before .before .before .before .before .before .before .before .before .before .before .before .args in let f = A .terms .format in let k = A .terms .limits in let W = width (now (A .book)) in let p = now (A .p) in let j = c .before .before .before .before .before .before .before .before .before .before .before .judge in let x = c .before .before .before .before .before .before .before .before .before .before .before .before .before .before .before .before .before .before .pre .0 in let D = c .before .before .before .before .before .before .before .before .before .before .before .before .before .before .before .before .before .before .pre .1 in
+    let a = j .ensures .accepted (c .before .before .before .before .before .before .before .before .before .if1 .left) in let N = j .ensures .noted (a .0) (a .1) in
+    let r = c .before .before .before .before .rank-items in order-room (j .result .rights) (r .last .1 .1 .0) _ (j .result .count) (r .ensures)
 
 requested-requires : tie.Need-requested-requires
-requested-requires c κs = let A = c .before .before .before .before .before .before .before .before .before .before .before .before .before .before .before .before .before .before .before .before .args in let f = A .terms .format in let k = A .terms .limits in let W = width (now (A .book)) in let p = now (A .p) in let j = c .before .before .before .before .before .before .before .before .before .before .before .before .before .judge in let x = c .before .before .before .before .before .before .before .before .before .before .before .before .before .before .before .before .before .before .before .before .pre .0 in let D = c .before .before .before .before .before .before .before .before .before .before .before .before .before .before .before .before .before .before .before .before .pre .1 in
-    let a = j .ensures .accepted (c .before .before .before .before .before .before .before .before .before .before .before .if1 .left) in let N = j .ensures .noted (a .0) (a .1) in
-    let r = c .before .before .before .before .before .before .rank-items in let F = order-front (a .0) (r .last .1 .1 .0) _ (r .ensures .0 (f .width) p (a .0) (j .result .scopes) (N .table) (sym (N .count))) (N .count) (r .kept .1 .1 .0 ∙ cleared 256) (N .table .few) in
-    let S = sorted-in (D .columns) (sorted-of f (schemaOf (now (c .before .before .before .before .before .before .before .before .before .before .before .before .before .before .schema .result))) p (a .0) (j .result) _ (a .1) N (F .0) (F .1)) in
+requested-requires c κs = let A = c .before .before .before .before .before .before .before .before .before .before .before .before .before .before .before .before .before .before .before .args in let f = A .terms .format in let k = A .terms .limits in let W = width (now (A .book)) in let p = now (A .p) in let j = c .before .before .before .before .before .before .before .before .before .before .before .before .judge in let x = c .before .before .before .before .before .before .before .before .before .before .before .before .before .before .before .before .before .before .before .pre .0 in let D = c .before .before .before .before .before .before .before .before .before .before .before .before .before .before .before .before .before .before .before .pre .1 in
+    let a = j .ensures .accepted (c .before .before .before .before .before .before .before .before .before .before .if1 .left) in let N = j .ensures .noted (a .0) (a .1) in
+    let r = c .before .before .before .before .before .rank-items in let F = order-front (f .width) p (a .0) (j .result .rights) (j .result .scopes) (r .last .1 .1 .0) _ (j .result .count) (N .table) (N .count) (r .ensures) in
+    let S = sorted-in (D .columns) (sorted-of f (schemaOf (now (c .before .before .before .before .before .before .before .before .before .before .before .before .before .schema .result))) p (a .0) (j .result) _ (a .1) N (F .0) (F .1)) in
     (record { directory = x; items = a .0 }, record { directory = D; items = S })
 
 returns-2 : tie.Need-returns-2
-returns-2 c = let A = c .before .before .before .before .before .before .before .before .before .before .before .before .before .before .before .before .before .before .before .before .before .before .before .args in let f = A .terms .format in let k = A .terms .limits in let W = width (now (A .book)) in let p = now (A .p) in let j = c .before .before .before .before .before .before .before .before .before .before .before .before .before .before .before .before .judge in λ x D.
-    let a = j .ensures .accepted (c .before .before .before .before .before .before .before .before .before .before .before .before .before .before .if1 .left) in let N = j .ensures .noted (a .0) (a .1) in
-    let r = c .before .before .before .before .before .before .before .before .before .rank-items in let F = order-front (a .0) (r .last .1 .1 .0) _ (r .ensures .0 (f .width) p (a .0) (j .result .scopes) (N .table) (sym (N .count))) (N .count) (r .kept .1 .1 .0 ∙ cleared 256) (N .table .few) in
-    let S = sorted-in (D .columns) (sorted-of f (schemaOf (now (c .before .before .before .before .before .before .before .before .before .before .before .before .before .before .before .before .before .schema .result))) p (a .0) (j .result) _ (a .1) N (F .0) (F .1)) in
+returns-2 c = let A = c .before .before .before .before .before .before .before .before .before .before .before .before .before .before .before .before .before .before .before .before .before .before .args in let f = A .terms .format in let k = A .terms .limits in let W = width (now (A .book)) in let p = now (A .p) in let j = c .before .before .before .before .before .before .before .before .before .before .before .before .before .before .before .judge in λ x D.
+    let a = j .ensures .accepted (c .before .before .before .before .before .before .before .before .before .before .before .before .before .if1 .left) in let N = j .ensures .noted (a .0) (a .1) in
+    let r = c .before .before .before .before .before .before .before .before .rank-items in let F = order-front (f .width) p (a .0) (j .result .rights) (j .result .scopes) (r .last .1 .1 .0) _ (j .result .count) (N .table) (N .count) (r .ensures) in
+    let S = sorted-in (D .columns) (sorted-of f (schemaOf (now (c .before .before .before .before .before .before .before .before .before .before .before .before .before .before .before .before .schema .result))) p (a .0) (j .result) _ (a .1) N (F .0) (F .1)) in
     replies-same
-    (permissions-accept f k x (now (c .before .before .before .before .before .before .before .before .before .before .before .before .before .before .before .before .before .schema .result)) ((D .entries (settingOf x [] (record { level = 0; name = [] })) refl) .schema-is ∙ ap schemaOf (sym (c .before .before .before .before .before .before .before .before .before .before .before .before .before .before .before .before .before .schema .ensures))) p (now (A .q)) (length (now (A .out))) (j .result) (j .ensures) (a .0) (a .1))
+    (permissions-accept f k x (now (c .before .before .before .before .before .before .before .before .before .before .before .before .before .before .before .before .schema .result)) ((D .entries (settingOf x [] (record { level = 0; name = [] })) refl) .schema-is ∙ ap schemaOf (sym (c .before .before .before .before .before .before .before .before .before .before .before .before .before .before .before .before .schema .ensures))) p (now (A .q)) (length (now (A .out))) (j .result) (j .ensures) (a .0) (a .1))
     (c .before .before .requested .ensures (record { directory = x; items = a .0 }) (record { directory = D; items = S }))
 
 pub permitted-spec : {M : Type 1} → statement M
 permitted-spec =
     tie.close
-    (tie.spec schema-requires judge-requires (λ c κs. search needs) returns (λ c. search needs) (λ c. search needs)
+    (tie.spec schema-requires judge-requires (λ c κs. search needs) returns (λ c. search needs)
     rank-items-requires slice-aggregate-requested slice-aggregate-requested-2 (λ c. search needs) (λ c. search needs) part-requested-end
     requested-requires (λ c. search needs) returns-2)

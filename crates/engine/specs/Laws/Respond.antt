@@ -1,10 +1,10 @@
 -- Laws for an accepted request: from what is noted of it to the reply.
 use Prim.Native.Nat.{ℕ, _+_, _-_, _≤_}
-use mathlib.Core.Path.{_≡_, refl, sym, ap, _∙_, subst}
+use mathlib.Core.Path.{_≡_, sym, ap, _∙_, subst}
 use mathlib.Core.List.{List, _++_, map}
 use native.Mathlib.Omega.{arith}
 use lib.ListN.{length, getD, take, replicate, length-replicate, length-append}
-use lib.Seq.{take-append-seam, length-take-le}
+use lib.Seq.{take-append-seam, take-at, length-take-le}
 use Rattle.rules.specs.Sheet.{Bytes, Usable, print}
 use Rattle.rules.specs.declared.Format.{Format}
 use Rattle.rules.specs.Name.{Name}
@@ -21,6 +21,7 @@ use Rattle.rules.specs.Numbers.{walk, reachOf}
 use Rattle.rules.specs.declared.Found.{Found}
 use Rattle.request_sheet.specs.Noted as Requests
 use Rattle.request_sheet.specs.declared.Asked.{Asked}
+use Rattle.permission_sheet.specs.Noted.{Table}
 use Rattle.tables.specs.Book as Book
 use Rattle.directory_schema.specs.Schema.{Rising}
 use Rattle.directory_sheet.specs.declared.Notes.{Notes}
@@ -28,17 +29,21 @@ use Rattle.directory_sheet.specs.Judged as Directories
 use Rattle.directory_book.specs.Filled.{filled, StandsFor}
 use Rattle.directory_book.specs.Laws.Filled.{Copied, copied}
 use Rattle.directory_book.specs.Laws.Entries.{fit-of}
-use Rattle.tables.specs.Sets.{Rights}
+use Rattle.tables.specs.Sets.{SETS, Rights}
 use Rattle.tables.specs.World.{Entries, World}
-use Rattle.tables.specs.Laws.Book.{parents-length, parent-at}
+use Rattle.tables.specs.Laws.Book.{schema-length, parents-length, parent-at}
 use Rattle.tables.specs.Laws.World.{parent-is}
 use Rattle.directory_lookup.specs.Find.{UpTo}
 use Rattle.directory_lookup.specs.Laws.Find.{up-to}
-use Rattle.access_scope.specs.Scopes.{Asker}
+use Rattle.access_scope.specs.Scopes.{Asker, reachesBy}
+use Rattle.access_scope.specs.Laws.Resolved.{reaches-are}
 use Rattle.access_scope.specs.declared.Requester as Scopes
 use Rattle.access_items.specs.Sorted.{Sorted}
-use Rattle.access_items.specs.Laws.Rank.{ranked-front}
+use Rattle.access_items.specs.Rank.{orderOf}
+use Rattle.access_items.specs.Laws.Rank.{length-orderOf, ranked-order}
+use Rattle.access_covers.specs.Noted.{rightsNoted}
 use Rattle.access_covers.specs.Reached.{Reached}
+use Rattle.access_covers.specs.Laws.Covers.{rights-size, rights-noted}
 use Rattle.answer_plan.specs.Sound.{Base, Numbered}
 use Rattle.engine.specs.Judges.{DirectoryAt}
 
@@ -57,7 +62,7 @@ module _ (σ : Setting) (es : List Stored) (w : ℕ) (q : Bytes) (n : Name) (pla
 
 -- ---- the requester
 
-pub asker-of : (σ : Setting) (G : Grammar) (w : ℕ) (q : Bytes) (y : Request) (a : Asked) → σ .requester ≡ y .requester → Requests.Noted G w q y a
+pub asker-of : (σ : Setting) (G : Grammar) (w : ℕ) (q : Bytes) (y : Request) (a : Asked) → σ .requester ≡ y .requester → Requests.RequestNoted G w q y a
     → Asker σ w q (record { level = a .level; place = a .requester; parts = a .«requester_parts» })
 asker-of σ G w q y a u n = record {
   level-is = ap (λ (r : Requester). r .level) u ∙ sym (n .level);
@@ -99,7 +104,7 @@ respond-is f w g y room e = rw e
 
 -- the filled book stands for the directory that was judged
 module _ (f : Format) (d : Bytes) (x : Directory) (r : Notes) (held b book : List ℕ) (ok : directoryOf f d ≡ accept x) (noted : Directories.DirectoryNoted (f .width) d x r held)
-    (size : length b ≡ 1353) (is : book ≡ filled (f .width) r b) where
+    (size : length b ≡ Book.BOOK) (is : book ≡ filled (f .width) r b) where
   copy : Copied (f .width) r book
   copy = subst (Copied (f .width) r) (sym is) (copied (f .width) r b (fit-of noted) size)
 
@@ -107,16 +112,35 @@ module _ (f : Format) (d : Bytes) (x : Directory) (r : Notes) (held b book : Lis
   directory-at usable stands = record { usable = usable; columns = copy .width-is; entries = λ σ e. stands σ d x held ok noted e; rising = subst (Rising 0) (sym (copy .schema-is)) (noted .rising) }
 
 -- the sets stand for what the requester may
-pub world-of : {σ : Setting} {es : List Stored} {d p : Bytes} {book held : List ℕ} (schema sets : List ℕ) → Entries σ es d book held → length sets ≡ 2360 → schema ≡ Book.schema book
-    → Rights σ es schema p sets → World σ es d p book held sets
-world-of {σ} {es} {p = p} schema sets E size s rights = record { entries = E; size = size; rights = subst (λ (x : List ℕ). Rights σ es x p sets) s rights }
+module _ {σ : Setting} {es : List Stored} {d p : Bytes} {book held : List ℕ} (E : Entries σ es d book held) (w : ℕ) (rights scopes order reach parents : List ℕ)
+    (S : Sorted w p (σ .items) rights scopes order) (R : Reached σ es reach order parents)
+  where
+    pub world-of : (schema cleared sets : List ℕ) → schema ≡ Book.schema book → Rising 0 schema → cleared ≡ replicate SETS 0 → sets ≡ rightsNoted rights schema order reach parents cleared
+        → World σ es d p book held sets
+    world-of schema cleared sets q rising clear is =
+        let few : length schema ≤ 64 = omega (arith, ap length q, schema-length (E .fits), E .fits .few-types) in
+        let e : sets ≡ rightsNoted rights schema order reach parents (replicate SETS 0) = is ∙ ap (rightsNoted rights schema order reach parents) clear in
+        record {
+          entries = E;
+          size = ap length e ∙ rights-size rights schema order reach parents (omega (arith, R .count, R .few-items)) (omega (arith, R .parents-noted, R .few));
+          rights = subst (λ (x : List ℕ). Rights σ es x p sets) q (subst (Rights σ es schema p) (sym e) (rights-noted σ es w p rights scopes schema order reach parents rising few S R));
+        }
+
+-- the reaches of the setting's items
+pub reach-is : (σ : Setting) (es : List Stored) (w : ℕ) (p : Bytes) (rights scopes : List ℕ) (q : Bytes) (who : Scopes.Requester) → Asker σ w q who → Table w p (σ .items) rights scopes
+    → (reach : List ℕ) (n : ℕ) → n ≡ length (σ .items) → reach ≡ reachesBy (σ .schema) es w p rights scopes q who n → reach ≡ map (reachOf σ es) (σ .items)
+reach-is σ es w p rights scopes q who asker table reach n e h = h ∙ ap (reachesBy (σ .schema) es w p rights scopes q who) e ∙ reaches-are σ es w p rights scopes q who asker table
 
 -- the numbers of the items in order, as far as there are items
-pub order-front : (is : List Item) (order : List ℕ) (n : ℕ) → Ranked is order → n ≡ length is → length order ≡ 256 → length is ≤ 256
+pub order-front : (w : ℕ) (p : Bytes) (is : List Item) (rights scopes order behind : List ℕ) (n : ℕ) → Table w p is rights scopes → n ≡ length is → order ≡ orderOf rights n ++ behind
     → Ranked is (take (n - 0) order) × (length (take (n - 0) order) ≡ length is)
-order-front is order n ranked e size few =
-    let z : n - 0 ≡ length is = omega (arith, e) in
-    rw z (ranked-front is order ranked, length-take-le (length is) order (omega (arith, size, few)))
+order-front w p is rights scopes order behind n table e q =
+    let z : n - 0 ≡ n = omega arith in
+    let front : take (n - 0) order ≡ orderOf rights (length is) = ap (λ (m : ℕ). take m order) z ∙ ap (take n) q ∙ take-at (orderOf rights n) behind n (length-orderOf rights n) ∙ ap (orderOf rights) e in
+    (subst (Ranked is) (sym front) (ranked-order w p is rights scopes table), ap length front ∙ length-orderOf rights (length is))
+
+pub order-room : (rights order behind : List ℕ) (n : ℕ) → order ≡ orderOf rights n ++ behind → n ≤ length order
+order-room rights order behind n q = omega (arith, ap length q, front-within (orderOf rights n) behind n (length-orderOf rights n))
 
 -- the items in columns of the same width by another word
 pub sorted-in : {v w : ℕ} {p : Bytes} {is : List Item} {rights scopes order : List ℕ} → v ≡ w → Sorted w p is rights scopes order → Sorted v p is rights scopes order

@@ -13,7 +13,7 @@ use Rattle.rules.specs.declared.Format.{Format}
 use Rattle.rules.specs.declared.Limits.{Limits}
 use Rattle.rules.specs.Places.{schemaOf}
 use Rattle.permission_sheet.specs.Noted as Permissions
-use Rattle.permission_sheet.specs.declared.Items.{Items}
+use Rattle.permission_sheet.specs.declared.NotedItems.{NotedItems}
 use Rattle.answer_reply.specs.declared.Reply.{Reply}
 use Rattle.answer_reply.specs.Reply.{replyOf, leftOf, Replies}
 use Rattle.engine.specs.Serve.{fromGround, fromDirectory}
@@ -36,7 +36,7 @@ module _ (f : Format) (k : Limits) (d p q : Bytes) (room : ℕ) where
       go (accept is) = refl
       go (refuse n) = refl
 
-module _ (f : Format) (k : Limits) (x : Directory) (schema : List ℕ) (same : x .schema ≡ schemaOf schema) (p q : Bytes) (room : ℕ) (r : Items) (j : Permissions.Judged f p schema r) where
+module _ (f : Format) (k : Limits) (x : Directory) (schema : List ℕ) (same : x .schema ≡ schemaOf schema) (p q : Bytes) (room : ℕ) (r : NotedItems) (j : Permissions.PermissionsJudged f p schema r) where
   by-refusal : (v : Verdict (List Item)) → r .refusal ≡ refusalOf v → (r .refusal ≡ 0 → ⊥) → v ≡ refuse (r .refusal)
   by-refusal (accept is) e n = absurd (n e)
   by-refusal (refuse m) e n = rw e

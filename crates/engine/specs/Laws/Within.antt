@@ -7,7 +7,7 @@ use Rattle.rules.specs.Judge.{Grammar}
 use Rattle.rules.specs.Request.{Operation, read, compare, list, search, Request}
 use Rattle.rules.specs.Serve.{tighter, capped, within}
 use Rattle.rules.specs.declared.Limits.{Limits}
-use Rattle.request_sheet.specs.Noted.{Noted, NotedOperation, NoAssertion}
+use Rattle.request_sheet.specs.Noted.{RequestNoted, NotedOperation, NoAssertion}
 use Rattle.request_sheet.specs.declared.Asked.{Asked}
 
 -- what is asked, with this size limit
@@ -33,9 +33,9 @@ withLimit a m =
       filter = a .filter;
     }
 
-module _ (G : Grammar) (w : ℕ) (q : Bytes) (k : Limits) (x : Request) (a : Asked) (n : Noted G w q x a) where
+module _ (G : Grammar) (w : ℕ) (q : Bytes) (k : Limits) (x : Request) (a : Asked) (n : RequestNoted G w q x a) where
   -- read and compare have no size limit
-  pub noted-unlimited : a .operation < 3 → Noted G w q (within k x) a
+  pub noted-unlimited : a .operation < 3 → RequestNoted G w q (within k x) a
   unfolding within capped
   noted-unlimited l = record { level = n .level; requester = n .requester; base = n .base; operation = go (x .operation) (n .operation); short = n .short }
     where
@@ -46,7 +46,7 @@ module _ (G : Grammar) (w : ℕ) (q : Bytes) (k : Limits) (x : Request) (a : Ask
       go (search s) h = let z : a .operation ≡ 4 = h .operation in absurd (omega arith)
 
   -- list and search have the tighter one
-  pub noted-limited : 3 ≤ a .operation → (m : ℕ) → m ≡ tighter (k .entries) (a .limit) → Noted G w q (within k x) (withLimit a m)
+  pub noted-limited : 3 ≤ a .operation → (m : ℕ) → m ≡ tighter (k .entries) (a .limit) → RequestNoted G w q (within k x) (withLimit a m)
   unfolding within capped
   noted-limited l m e = record { level = n .level; requester = n .requester; base = n .base; operation = go (x .operation) (n .operation); short = n .short }
     where

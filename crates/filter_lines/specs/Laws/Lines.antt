@@ -16,7 +16,7 @@ use Rattle.sheet_line.specs.Laws.{Fits, linesBy, taken-lines, taken-fits-line}
 use Rattle.sheet_line.specs.declared.Line.{Line}
 use Rattle.sheet_line.specs.declared.Taken.the-variants as Taken
 use Rattle.name.specs.Schema.{rankIn}
-use Rattle.filter_lines.specs.Lines.{kindAt, firstAt, secondAt, positionAt, placeAt, typeRank, nextAt, valueAt, lineAt, Row, Lines, noted}
+use Rattle.filter_lines.specs.Lines.{LINES, kindAt, firstAt, secondAt, positionAt, placeAt, typeRank, nextAt, valueAt, lineAt, Row, Lines, Beyond, noted}
 
 -- ---- a row's line
 
@@ -206,8 +206,19 @@ module _ (schema : List ℕ) (w : ℕ) (q : Bytes) (rows : List ℕ) (at n j : �
           noted-rank rows (n * 6) (x .kind) (x .a) (x .b) (x .place) rank (x .next) room,
         ) p
 
+-- what stands beyond the rows: at the start, and with one line more
+pub beyond-start : (rows₀ rows : List ℕ) (at n : ℕ) → Beyond n (set rows₀ 3 at) rows → Beyond n rows₀ rows
+beyond-start rows₀ rows at n h i l d = h i l d ∙ getD-set-other rows₀ 3 i at 0 (λ z. d (omega (arith, l, z)))
+
+pub beyond-on : (rows₀ rows more : List ℕ) (n kind a b place rank next : ℕ) → more ≡ noted rows (n * 6) kind a b place rank next → Beyond n rows₀ rows → Beyond (n + 1) rows₀ more
+beyond-on rows₀ rows more n kind a b place rank next e h i l d =
+    ap (λ (x : List ℕ). getD x i 0) e
+    ∙ noted-other rows (n * 6) kind a b place rank next i
+    (λ z. omega (arith, l, z)) (λ z. omega (arith, l, z)) (λ z. omega (arith, l, z)) (λ z. omega (arith, l, z)) (λ z. omega (arith, l, z)) (λ z. d (omega (arith, z)))
+    ∙ h i (omega (arith, l)) (λ z. omega (arith, l, z))
+
 -- no line follows
-pub lines-noted : (schema : List ℕ) (w : ℕ) (q : Bytes) (rows : List ℕ) (at n j : ℕ) → Noting schema w q rows at n j → n * 6 + 6 ≤ length rows → n ≤ 265
+pub lines-noted : (schema : List ℕ) (w : ℕ) (q : Bytes) (rows : List ℕ) (at n j : ℕ) → Noting schema w q rows at n j → n * 6 + 6 ≤ length rows → n ≤ LINES
     → (unread : Bool) → linesAt w q j ≡ cond unread broken end → Lines w q rows n
 lines-noted schema w q rows at n j o room few unread e = record {
   placed = record { room = room; few = few; begins = λ k l. row-begins (o .line k l); within = λ k l. row-ends (o .line k l) };

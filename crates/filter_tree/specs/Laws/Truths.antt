@@ -11,9 +11,9 @@ use Rattle.rules.specs.Sheet.{Bytes}
 use Rattle.rules.specs.Filter.{Assertion}
 use Rattle.rules.specs.declared.Truth.{Truth}
 use Rattle.rules.specs.declared.Truth.the-variants.{True, False, Undefined}
-use Rattle.filter_tree.specs.Truths.{numberOf, truthOf, TruthAt, Truths}
+use Rattle.filter_tree.specs.Truths.{truthNumber, truthOf, TruthAt, Truths}
 
-pub truth-number : (t : Truth) → truthOf (numberOf t) ≡ t
+pub truth-number : (t : Truth) → truthOf (truthNumber t) ≡ t
 unfolding truthOf
 truth-number Undefined = refl
 truth-number False = refl

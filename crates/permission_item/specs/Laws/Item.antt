@@ -1,19 +1,24 @@
 -- Laws of `Item`: what lines that were taken tell, and that the item is the one which the rules give.
 use Prim.Native.Nat.{ℕ, _+_, _≤_, _<_}
 use mathlib.Core.Path.{_≡_, sym, ap, _∙_}
+use mathlib.Core.List.{List}
 use native.Mathlib.Omega.{arith}
 use lib.ListN.{length}
+use denote.Ref.{RefT, now}
 use Rattle.rules.specs.Sheet.{Bytes, Sheet}
 use Rattle.rules.specs.Name.{Schema}
-use Rattle.rules.specs.Judge.{Verdict, Grammar, nameOf}
+use Rattle.rules.specs.Judge.{Verdict, Grammar}
 use Rattle.rules.specs.Permission.{Item, item, permissionGrammar}
 use Rattle.rules.specs.Places.{linesAt, partsOf}
 use Rattle.rules.specs.declared.Format.{Format}
-use Rattle.sheet_due.specs.Lines.{reachedAt, afterDue, afterGroup, dueAt, groupAt}
+use Rattle.sheet_due.specs.Lines.{reachedAt, afterDue, afterGroup}
 use Rattle.sheet_due.specs.Laws.Lines.{after, due-is, group-is, first-parts, Took, took, took-columns, took-further, TookGroup, took-group, followers, name-length}
 use Rattle.sheet_due.specs.declared.Due.{Due}
 use Rattle.sheet_due.specs.declared.Group.{Group}
 use Rattle.sheet_due.specs.declared.Reached.{Reached}
+use Rattle.sheet_reader.specs.Readings.{readerAt, dueReading, groupReading}
+use Rattle.sheet_reader.specs.declared.Reader.{Reader}
+use Rattle.sheet_reader.specs.declared.Reading.{Reading}
 use Rattle.permission_item.specs.Item.{headAt, baseAt, userAt, targetAt, maskAt, itemLines, itemOf}
 use Rattle.permission_item.specs.Laws.Bounds.{head-bounds, base-bounds, user-bounds, target-bounds, mask-bounds}
 use Rattle.permission_item.specs.declared.Lines.{Lines}
@@ -37,6 +42,14 @@ pub record TookItem (f : Format) (p : Bytes) (i : Lines) : Type 0 where
   pub value-within : i .target .place + i .target .length ≤ length p
   pub permissions : (1 ≤ i .mask .a) × (i .mask .a ≤ 63)
 
+-- the lines as a reader goes through them
+pub lines-are : (f : Format) (s : RefT (List ℕ)) (S : Schema) (at : ℕ) {r : Reader} {x y z t m : Reading} → let G = permissionGrammar (f .top) S in let w = f .width in
+    r ≡ readerAt s at → x ≡ dueReading G w r 0 4 → y ≡ groupReading G w (x .rest) (x .refusal) 5 9 → z ≡ groupReading G w (y .rest) (y .refusal) 6 9
+    → t ≡ dueReading G w (z .rest) (z .refusal) 7 → m ≡ dueReading G w (t .rest) (t .refusal) 8
+    → record { refusal = m .refusal; head = x .line; base = y .line; user = z .line; target = t .line; mask = m .line } ≡ itemLines f (now s) S at
+unfolding itemLines
+lines-are f s S at er ex ey ez et em = rw (em, et, ez, ey, ex, er)
+
 module _ (f : Format) (p : Bytes) (S : Schema) (at : ℕ) where
   abbrev G : Grammar
   G = permissionGrammar (f .top) S
@@ -58,13 +71,6 @@ module _ (f : Format) (p : Bytes) (S : Schema) (at : ℕ) where
 
   abbrev m : Due
   m = maskAt f p S at
-
-  -- the lines as they come one after the other
-  pub lines-are : {x t m : Due} {y z : Group} {r₀ r₁ r₂ r₃ r₄ : Reached} → r₀ ≡ reachedAt at → x ≡ dueAt G w p r₀ 4 → r₁ ≡ afterDue x → y ≡ groupAt G w p r₁ 5 9
-      → r₂ ≡ afterGroup y → z ≡ groupAt G w p r₂ 6 9 → r₃ ≡ afterGroup z → t ≡ dueAt G w p r₃ 7 → r₄ ≡ afterDue t → m ≡ dueAt G w p r₄ 8
-      → record { refusal = m .refusal; head = x .line; base = y .line; user = z .line; target = t .line; mask = m .line } ≡ itemLines f p S at
-  unfolding itemLines
-  lines-are e₀ ex e₁ ey e₂ ez e₃ et e₄ em = rw (em, e₄, et, e₃, ez, e₂, ey, e₁, ex, e₀)
 
   -- an item that is due
   pub item-is : {A : Type 0} (next : Item → Sheet → Verdict A) → let i = itemLines f p S at in

@@ -23,15 +23,15 @@ use Rattle.sheet_due.specs.declared.Group.{Group}
 use Rattle.request_operation.specs.Operations.{bodyAt}
 use Rattle.request_operation.specs.declared.Body.{Body}
 use Rattle.request_sheet.specs.declared.Asked.{Asked}
-use Rattle.request_sheet.specs.Noted.{NotedName, Noted, refused, Judged}
+use Rattle.request_sheet.specs.Noted.{NotedName, RequestNoted, refused, RequestJudged}
 use Rattle.request_sheet.specs.Whole.{asked, endBy, orRefused, withBody, requesterAt, baseAt, askedOf}
 use Rattle.request_sheet.specs.Laws.Bounds.{Bounds, request-bounds}
 use Rattle.request_sheet.specs.Laws.Operations.{Leads, body-leads}
 
--- `Judged`, of any verdict
+-- `RequestJudged`, of any verdict
 record Meets (G : Grammar) (w : ℕ) (q : Bytes) (v : Verdict Request) (r : Asked) : Type 0 where
   refusal : r .refusal ≡ refusalOf v
-  noted : (x : Request) → v ≡ accept x → Noted G w q x r
+  noted : (x : Request) → v ≡ accept x → RequestNoted G w q x r
   accepted : r .refusal ≡ 0 → (x : Request) × (v ≡ accept x)
   nothing : (r .refusal ≡ 0 → ⊥) → r ≡ refused (r .refusal)
 
@@ -49,11 +49,11 @@ module _ (G : Grammar) (bounds : Bounds G) (w : ℕ) (q : Bytes) where
       by false e = rw e (meets-refused n (eqb-false n 0 e))
 
   -- the end of the sheet
-  module _ (x : Request) (requester base : Line) (b : Body) (h : Noted G w q x (asked requester base b)) where
+  module _ (x : Request) (requester base : Line) (b : Body) (h : RequestNoted G w q x (asked requester base b)) where
     end-seen : (s : Seen) → Meets G w q (onSeen w q (accept x) (refuse (G .refusals + 2)) (λ y rest. refuse (G .refusals + 3)) s) (endBy (G .refusals) requester base b s)
     end-seen (Seen.Line y) = meets-refused (G .refusals + 3) (λ z. omega arith)
     end-seen Seen.NotAllowed = meets-refused (G .refusals + 2) (λ z. omega arith)
-    end-seen Seen.Missing = record { refusal = refl; noted = λ y e. subst (λ y. Noted G w q y (asked requester base b)) (accepted-is e) h; accepted = λ z. (x, refl); nothing = λ z. absurd (z refl) }
+    end-seen Seen.Missing = record { refusal = refl; noted = λ y e. subst (λ y. RequestNoted G w q y (asked requester base b)) (accepted-is e) h; accepted = λ z. (x, refl); nothing = λ z. absurd (z refl) }
 
     end-meets : Meets G w q (atEnd x (linesAt w q (b .next)) (misplaced G (linesAt w q (b .next)))) (endBy (G .refusals) requester base b (seenAt (G .forms) w q (b .next)))
     unfolding misplaced
@@ -128,6 +128,6 @@ module _ (G : Grammar) (bounds : Bounds G) (w : ℕ) (q : Bytes) where
   asked-by false e = rw request-is (meets-after (base .refusal) (body-meets (ltb-false 8192 (length q) e)))
 
 -- what the code does is what `judge` promises
-pub asked-judged : (f : Format) (q : Bytes) → Judged f q (askedOf (requestGrammar (f .top)) (f .width) q)
+pub asked-judged : (f : Format) (q : Bytes) → RequestJudged f q (askedOf (requestGrammar (f .top)) (f .width) q)
 unfolding askedOf requestOf
 asked-judged f q = let m = asked-by (requestGrammar (f .top)) (request-bounds (f .top)) (f .width) q (ltb 8192 (length q)) refl in record { refusal = m .refusal; noted = m .noted; accepted = m .accepted; nothing = m .nothing }

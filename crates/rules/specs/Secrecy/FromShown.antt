@@ -17,6 +17,7 @@ use Rattle.rules.specs.Decision.{Setting, entry, ofType, ofValue, grante
 use Rattle.rules.specs.Filter.{Assertion, equality, atLeast, atMost, present, substrings, Filter, truth, isTrue, evaluate}
 use Rattle.rules.specs.FilterItem.{assertedType, holds, someValue, defined, satisfied, decidable, itemTruth}
 use Rattle.rules.specs.Request.{Selection, Search, Operation, read, compare, list, search}
+use Rattle.rules.specs.declared.Outcome.the-variants.{Result, NoSuchObject, InsufficientAccessRights, NoSuchAttributeOrValue, InvalidAttributeSyntax}
 use Rattle.rules.specs.Answer.{bit, outcome, nameLines, entryLines, valueLines, limited, selected, orName, typeLines, information, readEntry, compareEntry, listed, candidate, found, inSubset, disclosed, listHit, searchHit, matchedName, noSuchObject, named, opened, returned, listHits, searchHits, answer}
 use Rattle.rules.specs.Shown.{Sight, shownHeld, shownEntry, shownBy}
 use Rattle.rules.specs.Laws.Tests.{contra, and-left, and-right, and-cong, and-cong-left, cond-cong}
@@ -126,7 +127,7 @@ module _ (σ : Setting) (g : Sight) where
 
     noSuchObject-shown : (op : ℕ) (n : Name) → noSuchObject σ (shownBy g es) op n ≡ noSuchObject σ es op n
     unfolding noSuchObject
-    noSuchObject-shown op n = ap (λ (m : Name). outcome op 1 ++ nameLines m) (matchedName-shown n (length n - 1))
+    noSuchObject-shown op n = ap (λ (m : Name). outcome op NoSuchObject ++ nameLines m) (matchedName-shown n (length n - 1))
 
     -- the base of a list or search
     returned-shown : (op : ℕ) (n : Name) (limit : ℕ) {hits hits′ : List (List Line)} → hits ≡ hits′
@@ -158,7 +159,7 @@ module _ (σ : Setting) (g : Sight) where
         absent : (o : Option Entry) → opened σ (shownBy g es) op q n f o ≡ respond o
         absent none = noSuchObject-shown op n
         absent (some e) =
-            ap (λ (l : List Line). cond (granted σ (e .name) entry q) (f e) (cond (granted σ (e .name) entry DiscloseOnError) (outcome op 2) l)) (noSuchObject-shown op n)
+            ap (λ (l : List Line). cond (granted σ (e .name) entry q) (f e) (cond (granted σ (e .name) entry DiscloseOnError) (outcome op InsufficientAccessRights) l)) (noSuchObject-shown op n)
 
         hidden : (e : Entry) → g .entries (e .name) ≡ false → respond (some e) ≡ respond none
         hidden e h = rw (contra (granted σ (e .name) entry q) _ (shown-open (e .name)) h, contra (granted σ (e .name) entry DiscloseOnError) _ (shows (e .name)) h)
@@ -188,8 +189,8 @@ module _ (σ : Setting) (g : Sight) where
       form : List Line → Bool → List Line
       form i d =
           cond (isEmpty i && not (s .listed && isEmpty (s .types)))
-          (outcome 1 (cond d 2 3))
-          (outcome 1 0 ++ (entryLines (given (granted σ n entry ReturnDN) n) ++ i))
+          (outcome 1 (cond d InsufficientAccessRights NoSuchAttributeOrValue))
+          (outcome 1 Result ++ (entryLines (given (granted σ n entry ReturnDN) n) ++ i))
 
       info : information σ s (shownEntry g e) ≡ information σ s e
       info = information-shown s e (λ t. k .typeRead n t m) (λ t v. k .valueRead n t v m)
@@ -233,14 +234,14 @@ module _ (σ : Setting) (g : Sight) where
     compareEntry-shown : (t : ℕ) (v : Bytes) (e : Entry) → compareEntry σ t v (shownEntry g e) ≡ compareEntry σ t v e
     unfolding compareEntry shownEntry
     compareEntry-shown t v e =
-        cond-cong (granted σ n (ofType t) Compare) (λ m. allowed′ (k .typeCompared n t m)) (λ m. ap (λ (b : Bool). outcome 2 (cond b 2 3)) refused)
+        cond-cong (granted σ n (ofType t) Compare) (λ m. allowed′ (k .typeCompared n t m)) (λ m. ap (λ (b : Bool). outcome 2 (cond b InsufficientAccessRights NoSuchAttributeOrValue)) refused)
       where
         n : Name
         n = e .name
 
         result : Bool → Bool → List Line
         result held equal′ =
-            cond held (cond (allowed (σ .schema) t v) (outcome 2 0 ++ (line 31 (bit equal′) 0 0 [] ∷ [])) (outcome 2 4)) (outcome 2 3)
+            cond held (cond (allowed (σ .schema) t v) (outcome 2 Result ++ (line 31 (bit equal′) 0 0 [] ∷ [])) (outcome 2 InvalidAttributeSyntax)) (outcome 2 NoSuchAttributeOrValue)
 
         allowed′ : g .types n t ≡ true
             → result (holds (shownEntry g e) t) (someValue σ (shownEntry g e) t Compare (λ w. equal (σ .schema) t v w))

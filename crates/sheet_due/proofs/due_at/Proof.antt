@@ -1,7 +1,7 @@
 -- By the refusal, by what was seen, then by the tests of a line; a line that was seen fits the sheet.
 use mathlib.Core.Path.{sym, ap, _∙_}
 use native.Mathlib.Omega.{arith}
-use borrow.Author.Tests.{eq-eqb, ne-eqb}
+use borrow.Author.Tests.{eq-eqb, ne-eqb, not-true, not-false}
 use denote.Ref.{now}
 use Rattle.sheet_due.specs.Lines.{dueAt, notDue}
 use Rattle.sheet_due.specs.Laws.Lines.{seen-stands}
@@ -15,18 +15,18 @@ returns c = rw (ne-eqb _ 0 (c .before .if1 .taken)) (c .not-due .ensures)
 
 returns-2 : tie.Need-returns-2
 unfolding dueAt
-returns-2 c = rw (eq-eqb _ 0 (c .before .before .before .before .before .before .before .before .if1 .left), sym (c .before .before .before .before .before .before .before .seen-at .ensures) ∙ c .before .before .before .before .before .line .given .1, ne-eqb _ _ (c .before .before .if2 .taken)) (c .not-due2 .ensures ∙ ap notDue (c .before .refusal .ensures))
+returns-2 c = rw (eq-eqb _ 0 (c .before .before .before .before .before .before .before .before .if1 .left), sym (c .before .before .before .before .before .before .before .seen-at .ensures) ∙ c .before .before .before .before .before .line .given .1, sym (c .before .before .before .is .ensures) ∙ not-true _ (c .before .before .if2 .taken)) (c .not-due2 .ensures ∙ ap notDue (c .before .refusal .ensures))
 
 sound-requires : tie.Need-sound-requires
 sound-requires c κs = let f = seen-stands _ (c .before .before .before .before .before .before .before .before .before .before .args .f .width) (now (c .before .before .before .before .before .before .before .before .before .before .args .s)) _ (sym (c .before .before .before .before .before .seen-at .ensures) ∙ c .before .before .before .line .given .1) .fits in omega (arith, f .next, f .within)
 
 returns-3 : tie.Need-returns-3
 unfolding dueAt
-returns-3 c = rw (eq-eqb _ 0 (c .before .before .before .before .before .before .before .before .if1 .left), sym (c .before .before .before .before .before .before .before .seen-at .ensures) ∙ c .before .before .before .before .before .line .given .1, eq-eqb _ _ (c .before .before .if2 .left), sym (c .before .sound .ensures) ∙ c .if3 .taken)
+returns-3 c = rw (eq-eqb _ 0 (c .before .before .before .before .before .before .before .before .if1 .left), sym (c .before .before .before .before .before .before .before .seen-at .ensures) ∙ c .before .before .before .before .before .line .given .1, sym (c .before .before .before .is .ensures) ∙ not-false _ (c .before .before .if2 .left), sym (c .before .sound .ensures) ∙ c .if3 .taken)
 
 returns-4 : tie.Need-returns-4
 unfolding dueAt
-returns-4 c = rw (eq-eqb _ 0 (c .before .before .before .before .before .before .before .before .before .before .if1 .left), sym (c .before .before .before .before .before .before .before .before .before .seen-at .ensures) ∙ c .before .before .before .before .before .before .before .line .given .1, eq-eqb _ _ (c .before .before .before .before .if2 .left), sym (c .before .before .before .sound .ensures) ∙ c .before .before .if3 .left) (c .not-due3 .ensures ∙ ap notDue (c .before .refusal2 .ensures))
+returns-4 c = rw (eq-eqb _ 0 (c .before .before .before .before .before .before .before .before .before .before .if1 .left), sym (c .before .before .before .before .before .before .before .before .before .seen-at .ensures) ∙ c .before .before .before .before .before .before .before .line .given .1, sym (c .before .before .before .before .before .is .ensures) ∙ not-false _ (c .before .before .before .before .if2 .left), sym (c .before .before .before .sound .ensures) ∙ c .before .before .if3 .left) (c .not-due3 .ensures ∙ ap notDue (c .before .refusal2 .ensures))
 
 returns-5 : tie.Need-returns-5
 unfolding dueAt
@@ -39,6 +39,6 @@ returns-6 c = rw (eq-eqb _ 0 (c .before .before .before .before .before .if1 .le
 pub due-at-spec : {M : Type 1} → statement M
 due-at-spec =
     tie.close
-    (tie.spec (λ c κs. search needs) returns (λ c κs. search needs) (λ c. search needs) (λ c κs. search needs) (λ c κs. search needs) returns-2
+    (tie.spec (λ c κs. search needs) returns (λ c κs. search needs) (λ c. search needs) (λ c κs. search needs) (λ c κs. search needs) (λ c κs. search needs) returns-2
     sound-requires returns-3 (λ c κs. search needs) (λ c κs. search needs) (λ c. search needs) (λ c κs. search needs) (λ c κs. search needs)
     (λ c. search needs) (λ c κs. search needs) (λ c κs. search needs) returns-4 returns-5 returns-6)

@@ -1,14 +1,14 @@
 -- Laws of `Columns`: what they say of a line, and a form by the lowest and highest numbers of its columns.
-use Prim.Native.Nat.{ℕ, _≤_, _<_}
+use Prim.Native.Nat.{ℕ, _≤_}
 use mathlib.Core.Path.{_≡_, refl, sym, _∙_}
 use mathlib.Core.Bool.{Bool, true, false, _&&_, _||_, or-false}
 use mathlib.Core.List.{List}
 use native.Mathlib.Omega.{arith}
 use lib.Dec.{leb, eqb}
-use lib.ListN.{length, drop}
+use lib.ListN.{length}
 use borrow.Author.Tests.{le-leb, eq-eqb, ne-eqb, leb-true, leb-false}
 use Rattle.rules.specs.Sheet.{Bytes, line}
-use Rattle.rules.specs.Columns.{Range, unnamed, exactly, between, free, inRange, Form, form, takes, requestForms, inForm}
+use Rattle.rules.specs.Columns.{Range, unnamed, exactly, between, free, inRange, Form, form, takes, inForm}
 use Rattle.sheet_line.specs.declared.Line.{Line}
 use Rattle.sheet_line.specs.declared.Taken.the-variants as Taken
 use Rattle.sheet_line.specs.Line.{takenAt, bytesOf}
@@ -64,11 +64,3 @@ module _ (a b c l : ℕ) (ha : a ≤ 18446744073709551615) (hb : b ≤ 184467440
   pub four-forms : (f g h i : Form) → fits (boundedForm f) a b c l || (fits (boundedForm g) a b c l || (fits (boundedForm h) a b c l || fits (boundedForm i) a b c l))
       ≡ fits f a b c l || (fits g a b c l || (fits h a b c l || (fits i a b c l || false)))
   four-forms f g h i = rw (fits-bounded f, three-forms g h i)
-
--- a filter's kinds stand after the others
-pub filter-forms : (top k a b c l : ℕ) → 20 ≤ k → inFormOf (drop 9 (requestForms top)) k a b c l ≡ inFormOf (requestForms top) k a b c l
-unfolding inFormOf requestForms
-filter-forms top k a b c l h = rw (past 9 (omega arith), past 10 (omega arith), past 11 (omega arith), past 12 (omega arith), past 13 (omega arith), past 14 (omega arith), past 15 (omega arith))
-  where
-    past : (n : ℕ) → n < 20 → eqb k n ≡ false
-    past n g = ne-eqb k n (λ e. omega arith)

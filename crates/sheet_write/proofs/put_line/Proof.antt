@@ -10,16 +10,17 @@ use Rattle.sheet_write.proofs.put_line.Statement.{statement}
 use Rattle.sheet_write.proofs.put_line.Tie as tie
 
 same-length : tie.Need-same-length
-same-length c = omega (arith, length-set (c .before .before .put .last .0) (c .before .before .before .before .before .before .put-numbers .result + length (now (c .before .before .before .before .before .before .before .before .before .before .args .bytes))) 10)
+same-length c = omega (arith, length-set (c .before .before .put .last .0) (c .before .before .before .before .before .before .put-numbers .result + length (now (c .before .before .before .before .before .before .before .before .before .before .before .args .bytes))) 10)
 
 returns : tie.Need-returns
 returns c =
-    let A = c .before .before .before .before .before .before .before .before .before .before .args in
+    let A = c .before .before .before .before .before .before .before .before .before .before .before .args in
+    let k = c .before .before .before .before .before .before .before .number-of in
     let from = c .before .before .before .before .before .before .put-numbers .result in
     let r = c .before .before .before .before .before .before .put-numbers .ensures in
-    (omega (arith, r .0), put-line (now (A .out)) (A .at) (A .w) (line (A .kind) (A .a) (A .b) (A .c) (now (A .bytes))) (c .before .before .before .before .before .before .before .before .before .before .pre .1) from (r .0) (r .1) (c .before .before .put .ensures) (omega arith))
+    rw (← k .ensures) (omega (arith, r .0), put-line (now (A .out)) (A .at) (A .w) (line (k .result) (A .a) (A .b) (A .c) (now (A .bytes))) (c .before .before .before .before .before .before .before .before .before .before .before .pre .1) from (r .0) (r .1) (c .before .before .put .ensures) (omega arith))
 
 pub put-line-spec : {M : Type 1} → statement M
 put-line-spec =
     tie.close
-    (tie.spec (λ c κs. search needs) (λ c κs. search needs) (λ c. search needs) (λ c. search needs) (λ c. search needs) same-length returns)
+    (tie.spec (λ c κs. search needs) (λ c κs. search needs) (λ c κs. search needs) (λ c. search needs) (λ c. search needs) (λ c. search needs) same-length returns)

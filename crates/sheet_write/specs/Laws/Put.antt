@@ -4,7 +4,7 @@ use mathlib.Core.Path.{_≡_, refl, sym, _∙_}
 use mathlib.Core.List.{[], _∷_, _++_, append-assoc, append-nil}
 use native.Mathlib.Omega.{arith}
 use borrow.Author.Tests.{ne-eqb}
-use lib.ListN.{length, take, drop, set, length-append, take-append-drop}
+use lib.ListN.{length, take, drop, set, length-append, length-set, take-append-drop}
 use lib.Seq.{paste, take-length, take-append-seam, drop-append-add, drop-drop, drop-at, length-take-le, take-set-le, set-split, append-snoc}
 use Rattle.rules.specs.Sheet.{Bytes, Line, leading, column, numbers, lineBytes}
 use Rattle.rules.specs.Laws.Sheet.{leading-length, column-length, numbers-length}
@@ -68,6 +68,22 @@ pub column-done : (d : Bytes) (at i v : ℕ) → i ≤ 0 → putAt d at (leading
 unfolding leading
 column-done d at zero v h = put-none d at
 column-done d at (suc i) v h = absurd (omega arith)
+
+-- four spaces, from the right, and a fifth before them
+pub spaces-four : (d : Bytes) (at : ℕ) → at + 4 ≤ length d → set (set (set (set d (at + 3) 32) (at + 2) 32) (at + 1) 32) at 32 ≡ putAt d at (leading 4 0)
+spaces-four d at h =
+    let e : at + 0 ≡ at = omega arith in
+    let d₁ = set d (at + 3) 32 in
+    let d₂ = set d₁ (at + 2) 32 in
+    let d₃ = set d₂ (at + 1) 32 in
+    sym (column-done (set d₃ at 32) at 0 0 (omega arith))
+    ∙ rw e at (column-on d₃ at 1 0 (omega arith) (simp length-set (omega arith)))
+    ∙ column-on d₂ at 2 0 (omega arith) (simp length-set (omega arith))
+    ∙ column-on d₁ at 3 0 (omega arith) (simp length-set (omega arith))
+    ∙ column-on d at 4 0 (omega arith) h
+
+pub spaces-five : (d : Bytes) (at : ℕ) → at + 5 ≤ length d → putAt (set d (at + 4) 32) at (leading 4 0) ≡ putAt d at (leading 5 0)
+spaces-five d at h = column-on d at 5 0 (omega arith) h
 
 -- ---- a line: five columns, the bytes, byte 10
 

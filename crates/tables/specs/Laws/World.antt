@@ -9,7 +9,7 @@ use Rattle.rules.specs.Sheet.{Bytes}
 use Rattle.rules.specs.Directory.{Stored, blank}
 use Rattle.rules.specs.Decision.{Setting, Thing, granted}
 use Rattle.tables.specs.Book.{types, entries, schema, parentAt, firstAt}
-use Rattle.tables.specs.Held.{rankAt, placeAt, sizeAt, HeldAt}
+use Rattle.tables.specs.Held.{ROWS, rankAt, placeAt, sizeAt, HeldAt}
 use Rattle.tables.specs.Sets.{grantedAt}
 use Rattle.tables.specs.World.{EntryAt, Entries}
 use Rattle.tables.specs.Laws.Book.{schema-length}
@@ -38,7 +38,7 @@ module _ {σ : Setting} {es : List Stored} {d : Bytes} {book held : List ℕ} (h
   pub rows-of : HeldAt (schema book) d (getD es k blank .values) held (firstAt book k) (firstAt book (suc k))
   rows-of = h .values k inside
 
-  pub rows-within : (firstAt book k ≤ firstAt book (suc k)) × (firstAt book (suc k) ≤ 2115)
+  pub rows-within : (firstAt book k ≤ firstAt book (suc k)) × (firstAt book (suc k) ≤ ROWS)
   rows-within = (omega (arith, rows-of .count), rows-of .room)
 
   module _ (i : ℕ) (from : firstAt book k ≤ i) (to : i < firstAt book (suc k)) where

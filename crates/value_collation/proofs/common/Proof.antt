@@ -4,7 +4,8 @@ use mathlib.Core.Path.{sym, _∙_}
 use borrow.Author.Tests.{not-true, not-false}
 use denote.Ref.{now}
 use Rattle.rules.specs.Value.{normal}
-use Rattle.value_collation.specs.Compare.{Shared, shared-on, shared-off, shared-end}
+use Rattle.value_collation.specs.Compare.{Shared}
+use Rattle.value_collation.specs.Laws.Compare.{shared-on, shared-off, shared-end}
 use borrow.Author.Needs.{needs}
 use Rattle.value_collation.proofs.common.Statement.{statement}
 use Rattle.value_collation.proofs.common.Tie as tie

@@ -5,7 +5,8 @@ use native.Mathlib.Omega.{arith}
 use borrow.Author.Tests.{not-false}
 use denote.Ref.{now}
 use Rattle.rules.specs.Value.{normal}
-use Rattle.value_collation.specs.Compare.{Shared, shared-start, shared-four}
+use Rattle.value_collation.specs.Compare.{Shared}
+use Rattle.value_collation.specs.Laws.Compare.{shared-start, shared-four}
 use borrow.Author.Needs.{needs}
 use Rattle.value_collation.proofs.leap.Statement.{statement}
 use Rattle.value_collation.proofs.leap.Tie as tie

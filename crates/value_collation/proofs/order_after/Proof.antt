@@ -2,7 +2,7 @@
 use mathlib.Core.Path.{sym}
 use native.Mathlib.Omega.{arith}
 use denote.Ref.{now}
-use Rattle.value_collation.specs.Compare.{within, order-equal, order-less, order-greater, order-below, order-above}
+use Rattle.value_collation.specs.Laws.Compare.{within, order-equal, order-less, order-greater, order-below, order-above}
 use borrow.Author.Needs.{needs}
 use Rattle.value_collation.proofs.order_after.Statement.{statement}
 use Rattle.value_collation.proofs.order_after.Tie as tie

@@ -1,7 +1,7 @@
 -- First bytes that differ tell the order; else it is told by what stands after the shared beginning.
 use mathlib.Core.Path.{sym}
 use denote.Ref.{now}
-use Rattle.value_collation.specs.Compare.{first-below, first-above}
+use Rattle.value_collation.specs.Laws.Compare.{first-below, first-above}
 use borrow.Author.Needs.{needs}
 use Rattle.value_collation.proofs.order_bytes.Statement.{statement}
 use Rattle.value_collation.proofs.order_bytes.Tie as tie

@@ -6,7 +6,7 @@ use lib.Dec.{lit<}
 use lib.ListN.{length, drop}
 use denote.Ref.{now}
 use Rattle.rules.specs.Sheet.{digits}
-use Rattle.value_integer.specs.Numeral.{digits-off, digits-on, digits-end, below-on, below-18}
+use Rattle.value_integer.specs.Laws.Numeral.{digits-off, digits-on, digits-end, below-on, below-18}
 use borrow.Author.Needs.{needs}
 use Rattle.value_integer.proofs.digits.Statement.{statement}
 use Rattle.value_integer.proofs.digits.Tie as tie

@@ -2,7 +2,7 @@
 use mathlib.Core.Path.{sym, ap, _∙_}
 use denote.Ref.{now}
 use Rattle.rules.specs.Value.{negative, positive}
-use Rattle.value_integer.specs.Numeral.{negative-bounded, positive-bounded, integer-none, integer-minus, integer-plain}
+use Rattle.value_integer.specs.Laws.Numeral.{negative-bounded, positive-bounded, integer-none, integer-minus, integer-plain}
 use borrow.Author.Needs.{needs}
 use Rattle.value_integer.proofs.integer.Statement.{statement}
 use Rattle.value_integer.proofs.integer.Tie as tie

@@ -4,7 +4,7 @@ use native.Mathlib.Omega.{arith}
 use borrow.Author.Tests.{eq-eqb, ne-eqb, le-leb, lt-leb}
 use mir.Facts.{toZ-ofZ}
 use Rattle.rules.specs.Value.{negative}
-use Rattle.value_integer.specs.Numeral.{minus, minus-fits}
+use Rattle.value_integer.specs.Laws.Numeral.{minus, minus-fits}
 use borrow.Author.Needs.{needs}
 use Rattle.value_integer.proofs.negative.Statement.{statement}
 use Rattle.value_integer.proofs.negative.Tie as tie

@@ -3,7 +3,7 @@ use mathlib.Core.Path.{sym, _∙_}
 use mathlib.Core.Logic.{⊎-elim}
 use native.Mathlib.Omega.{arith}
 use denote.Ref.{now}
-use Rattle.value_integer.specs.Numeral.{bounded-none, bounded-long, bounded-zero, bounded-one, bounded-many}
+use Rattle.value_integer.specs.Laws.Numeral.{bounded-none, bounded-long, bounded-zero, bounded-one, bounded-many}
 use borrow.Author.Needs.{needs}
 use Rattle.value_integer.proofs.number.Statement.{statement}
 use Rattle.value_integer.proofs.number.Tie as tie

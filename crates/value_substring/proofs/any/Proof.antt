@@ -5,7 +5,7 @@ use native.Mathlib.Omega.{arith}
 use lib.ListN.{length, drop}
 use denote.Ref.{now}
 use Rattle.rules.specs.Value.{text, normal, find}
-use Rattle.value_substring.specs.Pieces.{seek-within, any-empty, any-found, any-short, any-first, any-on}
+use Rattle.value_substring.specs.Laws.Pieces.{seek-within, any-empty, any-found, any-short, any-first, any-on}
 use borrow.Author.Needs.{needs}
 use Rattle.value_substring.proofs.any.Statement.{statement}
 use Rattle.value_substring.proofs.any.Tie as tie

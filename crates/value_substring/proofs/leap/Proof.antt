@@ -7,7 +7,8 @@ use lib.ListN.{length}
 use denote.Ref.{now}
 use Rattle.rules.specs.Value.{text, normal}
 use Rattle.rules.specs.Laws.Value.{normal-length}
-use Rattle.value_substring.specs.Pieces.{Sought, sought-start, sought-four}
+use Rattle.value_substring.specs.Pieces.{Sought}
+use Rattle.value_substring.specs.Laws.Pieces.{sought-start, sought-four}
 use borrow.Author.Needs.{needs}
 use Rattle.value_substring.proofs.leap.Statement.{statement}
 use Rattle.value_substring.proofs.leap.Tie as tie

@@ -4,7 +4,8 @@ use mathlib.Core.Path.{sym, _∙_}
 use lib.ListN.{length}
 use denote.Ref.{now}
 use Rattle.rules.specs.Value.{text, normal}
-use Rattle.value_substring.specs.Pieces.{Sought, sought-on, sought-at, sought-end}
+use Rattle.value_substring.specs.Pieces.{Sought}
+use Rattle.value_substring.specs.Laws.Pieces.{sought-on, sought-at, sought-end}
 use borrow.Author.Needs.{needs}
 use Rattle.value_substring.proofs.seek.Statement.{statement}
 use Rattle.value_substring.proofs.seek.Tie as tie

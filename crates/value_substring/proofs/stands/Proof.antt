@@ -1,6 +1,6 @@
 -- The beginning that the text from `at` on shares with the piece is all of the piece.
 use denote.Ref.{now}
-use Rattle.value_substring.specs.Pieces.{stands-common}
+use Rattle.value_substring.specs.Laws.Pieces.{stands-common}
 use borrow.Author.Needs.{needs}
 use Rattle.value_substring.proofs.stands.Statement.{statement}
 use Rattle.value_substring.proofs.stands.Tie as tie

@@ -5,7 +5,7 @@ use lib.ListN.{length-drop}
 use denote.Ref.{now}
 use Rattle.rules.specs.Value.{text, used}
 use Rattle.rules.specs.Laws.Value.{normal-length}
-use Rattle.value_substring.specs.Pieces.{ends-short, ends-stands}
+use Rattle.value_substring.specs.Laws.Pieces.{ends-short, ends-stands}
 use borrow.Author.Needs.{needs}
 use Rattle.value_syntax.proofs.piece_end.Statement.{statement}
 use Rattle.value_syntax.proofs.piece_end.Tie as tie

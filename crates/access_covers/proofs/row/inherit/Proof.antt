@@ -1,6 +1,6 @@
 use native.Mathlib.Omega.{arith}
 use denote.Ref.{now}
-use Rattle.access_covers.specs.Laws.Row.{inherits-of}
+use Rattle.access_covers.specs.Laws.Row.{down-written, covers-written}
 use borrow.Author.Needs.{needs}
 use Rattle.access_covers.proofs.row.inherit.Statement.{statement}
 use Rattle.access_covers.proofs.row.inherit.Tie as tie
@@ -9,9 +9,16 @@ store-requires-2 : tie.Need-store-requires-2
 store-requires-2 c κs = omega (arith, c .before .before .before .before .before .before .before .before .before .before .before .before .before .before .before .pre .0, c .before .before .before .before .before .before .before .before .before .before .before .before .before .before .before .pre .2)
 
 returns : tie.Need-returns
-returns c = let A = c .before .before .before .before .before .before .before .before .before .before .before .before .before .before .before .before .before .before .args in let P = c .before .before .before .before .before .before .before .before .before .before .before .before .before .before .before .before .before .before .pre in
-    inherits-of (A .e) (A .above) (now (A .covers)) (now (A .down)) _ _ (c .before .before .before .before .before .before .before .before .before .before .before .before .before .before .row .result) (c .before .before .before .before .before .before .before .before .before .before .before .before .row2 .result) (c .before .before .before .before .before .row3 .result) (c .before .before .before .before .before .before .before .before .before .before .before .or .result) (c .before .before .before .before .or2 .result) (P .0) (P .1) (P .2)
-    (c .before .before .before .before .before .before .before .before .before .before .before .before .before .before .row .ensures) (c .before .before .before .before .before .before .before .before .before .before .before .before .row2 .ensures) (c .before .before .before .before .before .before .before .before .before .before .before .or .ensures) (c .before .before .before .before .before .before .before .before .before .store .ensures) (c .before .before .before .before .before .row3 .ensures) (c .before .before .before .before .or2 .ensures) (c .before .before .store2 .ensures)
+returns c =
+    let A = c .before .before .before .before .before .before .before .before .before .before .before .before .before .before .before .before .before .before .args in
+    let x = c .before .before .before .before .before .before .before .before .before .before .before .before .before .before .row in
+    let y = c .before .before .before .before .before .before .before .before .before .before .before .before .row2 in
+    let s = c .before .before .before .before .before .before .before .before .before .before .before .or in
+    let z = c .before .before .before .before .before .row3 in
+    let o = c .before .before .before .before .or2 in (
+      covers-written (A .e) (A .above) (now (A .covers)) (now (A .down)) (x .result) (y .result) (s .result) (x .ensures) (y .ensures) (s .ensures) (z .result) (o .result) _ (z .ensures) (o .ensures) (c .before .before .store2 .ensures),
+      down-written (A .e) (A .above) (now (A .covers)) (now (A .down)) (x .result) (y .result) (s .result) (x .ensures) (y .ensures) (s .ensures) _ (c .before .before .before .before .before .before .before .before .before .store .ensures),
+    )
 
 pub inherit-spec : {M : Type 1} → statement M
 inherit-spec =

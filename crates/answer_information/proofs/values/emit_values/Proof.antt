@@ -2,7 +2,7 @@ use denote.Ref.{now}
 use native.Mathlib.Omega.{arith}
 use mathlib.Core.Path.{_≡_, ap, subst}
 use mathlib.Core.List.{List}
-use Prim.Native.Nat.{ℕ, _+_, _-_, _*_, _≤_, _^_}
+use Prim.Native.Nat.{ℕ, _+_, _-_, _*_, _≤_}
 use lib.ListN.{length}
 use Rattle.rules.specs.Directory.{Stored, nameAt}
 use Rattle.rules.specs.Decision.{Setting}
@@ -12,13 +12,14 @@ use Rattle.tables.specs.World.{World}
 use Rattle.answer_information.specs.Laws.Values.{values-none, values-on}
 use Rattle.answer_information.specs.Laws.Rows.{rows-of, row-within, part-few}
 use Rattle.answer_information.specs.Information.{rowValues, readable, Counted}
+use Rattle.answer_line.specs.Room.{lineRoom}
 use borrow.Author.Needs.{needs}
 use Rattle.answer_information.proofs.values.emit_values.Statement.{statement}
 use Rattle.answer_information.proofs.values.emit_values.Tie as tie
 
 abbrev Inv-loop : tie.InvT-loop
 Inv-loop out₀ at book held sets d p e run st₀ end i₀ out st i =
-    (run .first ≤ i) × (i ≤ run .end) × (st .next ≤ at + (i - run .first) * 2 ^ 17) × (st .count ≤ i - run .first)
+    (run .first ≤ i) × (i ≤ run .end) × (st .next ≤ at + (i - run .first) * lineRoom) × (st .count ≤ i - run .first)
     × ((σ : Setting) (es : List Stored) → World σ es d p book held sets → Counted (width book) out₀ (record { next = at; count = 0 }) (readable σ (nameAt es e) (typeAt (schema book) (run .rank)) (rowValues d held (run .first) (i - run .first))) out st)
     × (length out ≡ length out₀)
 

@@ -2,7 +2,7 @@ use denote.Ref.{now}
 use native.Mathlib.Omega.{arith}
 use mathlib.Core.Path.{_≡_, refl}
 use mathlib.Core.List.{List}
-use Prim.Native.Nat.{ℕ, _+_, _-_, _*_, _≤_, _^_}
+use Prim.Native.Nat.{ℕ, _+_, _-_, _*_, _≤_}
 use lib.ListN.{length, getD, take}
 use Rattle.rules.specs.Lists.{gather}
 use Rattle.rules.specs.Directory.{Stored}
@@ -12,13 +12,14 @@ use Rattle.tables.specs.World.{Entries}
 use Rattle.answer_line.specs.Emit.{Emits}
 use Rattle.answer_plan.specs.Plan.{childLines}
 use Rattle.answer_print.specs.Laws.Lines.{run-start, run-on, run-end, child-by}
+use Rattle.answer_line.specs.Room.{lineRoom}
 use borrow.Author.Needs.{needs}
 use Rattle.answer_print.proofs.entries.emit_children.Statement.{statement}
 use Rattle.answer_print.proofs.entries.emit_children.Tie as tie
 
 abbrev Inv-loop : tie.InvT-loop
 Inv-loop out₀ at book d hits next₀ i₀ out next i =
-    (i ≤ length hits) × (length out ≡ length out₀) × (next ≤ at + i * 2 ^ 17)
+    (i ≤ length hits) × (length out ≡ length out₀) × (next ≤ at + i * lineRoom)
     × ((σ : Setting) (es : List Stored) (held : List ℕ) → Entries σ es d book held → Emits (width book) out₀ at (gather (childLines es) (take i hits)) out next)
 
 abbrev μ-loop : tie.MeasureT-loop

@@ -2,7 +2,7 @@ use denote.Ref.{now}
 use native.Mathlib.Omega.{arith}
 use mathlib.Core.Path.{_≡_, refl}
 use mathlib.Core.List.{List}
-use Prim.Native.Nat.{_+_, _-_, _*_, _≤_, _^_}
+use Prim.Native.Nat.{_+_, _-_, _*_, _≤_}
 use lib.ListN.{length, getD, take}
 use Rattle.rules.specs.Lists.{gather}
 use Rattle.rules.specs.Directory.{Stored}
@@ -14,13 +14,14 @@ use Rattle.answer_line.specs.Emit.{Emits}
 use Rattle.answer_plan.specs.Plan.{foundLines}
 use Rattle.answer_plan.specs.Choice.{Chooses}
 use Rattle.answer_print.specs.Laws.Lines.{run-start, run-on, run-end, found-by}
+use Rattle.answer_line.specs.Room.{foundRoom}
 use borrow.Author.Needs.{needs}
 use Rattle.answer_print.proofs.entries.emit_matches.Statement.{statement}
 use Rattle.answer_print.proofs.entries.emit_matches.Tie as tie
 
 abbrev Inv-loop : tie.InvT-loop
 Inv-loop out₀ at book held sets d p choice hits next₀ i₀ out next i =
-    (i ≤ length hits) × (length out ≡ length out₀) × (next ≤ at + i * 2 ^ 41)
+    (i ≤ length hits) × (length out ≡ length out₀) × (next ≤ at + i * foundRoom)
     × ((σ : Setting) (es : List Stored) (s : Selection) → World σ es d p book held sets → Chooses (schema book) s choice → Emits (width book) out₀ at (gather (foundLines σ es s) (take i hits)) out next)
 
 abbrev μ-loop : tie.MeasureT-loop

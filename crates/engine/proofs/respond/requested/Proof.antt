@@ -4,7 +4,7 @@ use lib.ListN.{length}
 use denote.Ref.{now}
 use Rattle.rules.specs.Serve.{settingOf, within}
 use Rattle.rules.specs.Request.{requestGrammar}
-use Rattle.request_sheet.specs.Noted.{Noted}
+use Rattle.request_sheet.specs.Noted.{RequestNoted}
 use Rattle.tables.specs.Book.{width}
 use Rattle.request_sheet.specs.Laws.Noted.{judged-refused, judged-accepted}
 use Rattle.engine.specs.Laws.Serve.{replies-refused, replies-same, request-refuses, request-accepts}
@@ -24,31 +24,31 @@ returns c = let A = c .before .before .before .before .before .before .before .b
 note-sets-requires : tie.Need-note-sets-requires
 note-sets-requires c κs = let A = c .before .before .before .before .before .before .before .before .before .before .before .before .args in let f = A .terms .format in let k₀ = A .terms .limits in let W = width (now (A .book)) in let q = now (A .q) in let k = c .before .before .before .before .judge in let g = c .before .before .before .before .before .before .before .before .before .before .before .before .pre .0 in let G = c .before .before .before .before .before .before .before .before .before .before .before .before .pre .1 in
     let J = judged-accepted f q (k .result) (k .ensures) (c .before .before .if1 .left) in
-    let y = within k₀ (J .0) in let N = c .before .within .ensures (requestGrammar (f .top)) W q (J .0) (subst (λ (m : ℕ). Noted (requestGrammar (f .top)) m q (J .0) (k .result)) (sym (G .directory .columns)) (J .2)) in
+    let y = within k₀ (J .0) in let N = c .before .within .ensures (requestGrammar (f .top)) W q (J .0) (subst (λ (m : ℕ). RequestNoted (requestGrammar (f .top)) m q (J .0) (k .result)) (sym (G .directory .columns)) (J .2)) in
     let σ = settingOf (g .directory) (g .items) (y .requester) in let es = g .directory .entries in let E = G .directory .entries σ refl in
     let asker = asker-of σ (requestGrammar (f .top)) W q y (c .before .within .result) refl N in
     (refl, G .directory .rising, (σ, es, now (A .held), E, asker, G .items))
 
 respond-requires : tie.Need-respond-requires
-respond-requires c κs = let A = c .before .before .before .before .before .before .before .before .before .before .before .before .before .before .before .before .args in let f = A .terms .format in let k₀ = A .terms .limits in let W = width (now (A .book)) in let q = now (A .q) in let k = c .before .before .before .before .before .before .before .before .judge in let g = c .before .before .before .before .before .before .before .before .before .before .before .before .before .before .before .before .pre .0 in let G = c .before .before .before .before .before .before .before .before .before .before .before .before .before .before .before .before .pre .1 in
-    let J = judged-accepted f q (k .result) (k .ensures) (c .before .before .before .before .before .before .if1 .left) in
-    let y = within k₀ (J .0) in let N = c .before .before .before .before .before .within .ensures (requestGrammar (f .top)) W q (J .0) (subst (λ (m : ℕ). Noted (requestGrammar (f .top)) m q (J .0) (k .result)) (sym (G .directory .columns)) (J .2)) in
+respond-requires c κs = let A = c .before .before .before .before .before .before .before .before .before .before .before .before .before .before .before .args in let f = A .terms .format in let k₀ = A .terms .limits in let W = width (now (A .book)) in let q = now (A .q) in let k = c .before .before .before .before .before .before .before .judge in let g = c .before .before .before .before .before .before .before .before .before .before .before .before .before .before .before .pre .0 in let G = c .before .before .before .before .before .before .before .before .before .before .before .before .before .before .before .pre .1 in
+    let J = judged-accepted f q (k .result) (k .ensures) (c .before .before .before .before .before .if1 .left) in
+    let y = within k₀ (J .0) in let N = c .before .before .before .before .within .ensures (requestGrammar (f .top)) W q (J .0) (subst (λ (m : ℕ). RequestNoted (requestGrammar (f .top)) m q (J .0) (k .result)) (sym (G .directory .columns)) (J .2)) in
     let σ = settingOf (g .directory) (g .items) (y .requester) in let es = g .directory .entries in let E = G .directory .entries σ refl in
-    let asker = asker-of σ (requestGrammar (f .top)) W q y (c .before .before .before .before .before .within .result) refl N in
-    ((σ, es, c .before .before .before .note-sets .ensures σ es (now (A .held)) E asker (G .items)), (requestGrammar (f .top), y, N))
+    let asker = asker-of σ (requestGrammar (f .top)) W q y (c .before .before .before .before .within .result) refl N in
+    ((σ, es, c .before .before .note-sets .ensures σ es (now (A .held)) E asker (G .items)), (requestGrammar (f .top), y, N))
 
 returns-2 : tie.Need-returns-2
-returns-2 c = let A = c .before .before .before .before .before .before .before .before .before .before .before .before .before .before .before .before .before .before .before .args in let f = A .terms .format in let k₀ = A .terms .limits in let W = width (now (A .book)) in let q = now (A .q) in let k = c .before .before .before .before .before .before .before .before .before .before .before .judge in λ g G.
-    let J = judged-accepted f q (k .result) (k .ensures) (c .before .before .before .before .before .before .before .before .before .if1 .left) in
-    let y = within k₀ (J .0) in let N = c .before .before .before .before .before .before .before .before .within .ensures (requestGrammar (f .top)) W q (J .0) (subst (λ (m : ℕ). Noted (requestGrammar (f .top)) m q (J .0) (k .result)) (sym (G .directory .columns)) (J .2)) in
+returns-2 c = let A = c .before .before .before .before .before .before .before .before .before .before .before .before .before .before .before .before .before .before .args in let f = A .terms .format in let k₀ = A .terms .limits in let W = width (now (A .book)) in let q = now (A .q) in let k = c .before .before .before .before .before .before .before .before .before .before .judge in λ g G.
+    let J = judged-accepted f q (k .result) (k .ensures) (c .before .before .before .before .before .before .before .before .if1 .left) in
+    let y = within k₀ (J .0) in let N = c .before .before .before .before .before .before .before .within .ensures (requestGrammar (f .top)) W q (J .0) (subst (λ (m : ℕ). RequestNoted (requestGrammar (f .top)) m q (J .0) (k .result)) (sym (G .directory .columns)) (J .2)) in
     let σ = settingOf (g .directory) (g .items) (y .requester) in let es = g .directory .entries in let E = G .directory .entries σ refl in
-    let asker = asker-of σ (requestGrammar (f .top)) W q y (c .before .before .before .before .before .before .before .before .within .result) refl N in
+    let asker = asker-of σ (requestGrammar (f .top)) W q y (c .before .before .before .before .before .before .before .within .result) refl N in
     let room = length (now (A .out)) in
     replies-same (respond-is f W g y room (G .directory .columns) ∙ request-accepts f k₀ g q room (J .0) (J .1))
-    (c .before .before .respond .ensures σ es (requestGrammar (f .top)) y (c .before .before .before .before .before .before .note-sets .ensures σ es (now (A .held)) E asker (G .items)) N)
+    (c .before .before .respond .ensures σ es (requestGrammar (f .top)) y (c .before .before .before .before .before .note-sets .ensures σ es (now (A .held)) E asker (G .items)) N)
 
 pub requested-spec : {M : Type 1} → statement M
 requested-spec =
     tie.close
-    (tie.spec judge-requires (λ c κs. search needs) returns (λ c κs. search needs) (λ c. search needs) note-sets-requires
+    (tie.spec judge-requires (λ c κs. search needs) returns (λ c κs. search needs) note-sets-requires
     respond-requires (λ c. search needs) returns-2)

@@ -2,6 +2,7 @@ use denote.Ref.{now}
 use mathlib.Core.Path.{sym, ap, _∙_}
 use native.Mathlib.Omega.{arith}
 use mathlib.Core.Bool.{true≢false}
+use Rattle.sheet_kind.specs.Laws.Kinds.{is-kind}
 use Rattle.filter_lines.specs.Lines.{typeRank}
 use Rattle.filter_item.specs.Laws.Mask.{occurs-own, operator-none}
 use Rattle.filter_tree.specs.Truths.{truthOf}
@@ -11,18 +12,19 @@ use Rattle.filter_tree.proofs.items.line_truth.Statement.{statement}
 use Rattle.filter_tree.proofs.items.line_truth.Tie as tie
 
 returns : tie.Need-returns
-returns c = λ σ es asked e s m. record { told = λ ne g. absurd (true≢false (sym (c .if1 .taken) ∙ g)) }
+returns c = λ σ es asked e s m. record { told = λ ne g. absurd (true≢false (sym (sym (c .before .joins .ensures) ∙ c .if1 .taken) ∙ g)) }
 
 returns-2 : tie.Need-returns-2
-returns-2 c = λ σ es asked e s m. record { told = λ ne g. absurd (ne (c .if2 .taken)) }
+returns-2 c = λ σ es asked e s m. record { told = λ ne g. absurd (ne (is-kind (c .before .is .ensures) (c .if2 .taken))) }
 
 item-requires : tie.Need-item-requires
-item-requires c κs = c .before .before .before .before .before .pre
+item-requires c κs = c .before .before .before .before .before .before .before .pre
 
 returns-3 : tie.Need-returns-3
-returns-3 c = λ σ es asked e s m. record { told = λ ne g. ap truthOf (c .number-of .ensures) ∙ truth-number _ ∙ c .before .item .ensures σ es asked e s (λ l. m .rank (typeRank (now (c .before .before .before .before .before .before .before .args .rows)) (c .before .before .before .before .before .before .before .args .line)) (omega (arith, l, e .fits .few-types)) ∙ occurs-own (now (c .before .before .before .before .before .before .before .args .rows)) (c .before .before .before .before .before .before .before .args .lines) (c .before .before .before .before .before .before .before .args .line) (c .before .before .before .before .before .before .before .pre .4) (operator-none (now (c .before .before .before .before .before .before .before .args .rows)) (c .before .before .before .before .before .before .before .args .line) g ne)) }
+returns-3 c = λ σ es asked e s m. record { told = λ ne g. ap truthOf (c .truth-number .ensures) ∙ truth-number _ ∙ c .before .item .ensures σ es asked e s (λ l. m .rank (typeRank (now (c .before .before .before .before .before .before .before .before .before .args .rows)) (c .before .before .before .before .before .before .before .before .before .args .line)) (omega (arith, l, e .fits .few-types)) ∙ occurs-own (now (c .before .before .before .before .before .before .before .before .before .args .rows)) (c .before .before .before .before .before .before .before .before .before .args .lines) (c .before .before .before .before .before .before .before .before .before .args .line) (c .before .before .before .before .before .before .before .before .before .pre .4) (operator-none (now (c .before .before .before .before .before .before .before .before .before .args .rows)) (c .before .before .before .before .before .before .before .before .before .args .line) g ne)) }
 
 pub line-truth-spec : {M : Type 1} → statement M
 line-truth-spec =
     tie.close
-    (tie.spec (λ c. search needs) (λ c. search needs) (λ c. search needs) returns returns-2 item-requires (λ c κs. search needs) returns-3)
+    (tie.spec (λ c. search needs) (λ c. search needs) (λ c. search needs) (λ c κs. search needs) returns (λ c κs. search needs) returns-2
+    item-requires (λ c κs. search needs) returns-3)

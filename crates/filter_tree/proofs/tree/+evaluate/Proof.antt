@@ -2,13 +2,13 @@ use borrow.Author.Needs.{needs}
 use Prim.Native.Nat.{ℕ, _-_, _≤_, _<_}
 use mathlib.Core.Path.{_≡_, sym, ap, ap₂, _∙_}
 use native.Mathlib.Omega.{arith}
-use lib.Dec.{eqb}
 use denote.Ref.{now}
 use Rattle.rules.specs.Sheet.{Bytes}
 use Rattle.rules.specs.Filter.{Assertion, negation}
 use Rattle.rules.specs.Places.{linesAt}
 use Rattle.rules.specs.FilterLines.{Evaluated, evaluated, partsFrom, evaluateLines}
-use Rattle.filter_lines.specs.Lines.{Lines, positionAt, kindAt}
+use Rattle.sheet_kind.specs.Laws.Kinds.{is-kind, not-kind}
+use Rattle.filter_lines.specs.Lines.{Lines, positionAt}
 use Rattle.filter_tree.specs.Tree.{joinBy}
 use Rattle.filter_tree.specs.Laws.Tree.{tree-none, tree-over, tree-not, tree-group, tree-item, parts-end, parts-on}
 use Rattle.filter_tree.specs.Truths.{Truths}
@@ -18,6 +18,8 @@ use borrow.Fn.PlainCycle.{Measures, is, falls, and}
 use Rattle.filter_tree.proofs.tree.evaluate.Reads as evaluate
 use Rattle.filter_tree.proofs.tree.evaluate.Kinds as evaluate-kinds
 use Rattle.filter_tree.proofs.tree.+evaluate.Lts-evaluate as evaluate-lts
+use Rattle.sheet_kind.proofs.is.Reads as is-reads
+use Rattle.filter_lines.proofs.joins.Reads as joins-reads
 use Rattle.filter_lines.proofs.truth.truth_of.Reads as truth-of-reads
 use Rattle.filter_tree.proofs.items.truth_at.Reads as truth-at-reads
 use Rattle.filter_tree.proofs.tree.after_item.Reads as after-item-reads
@@ -45,10 +47,14 @@ evaluate-μ-loop rows truths lines k depth kind conjunction truth₀ next₀ lef
 
 pub +evaluate-spec : {M : Type 1} → statement M
 +evaluate-spec = close μ-evaluate λ t. evaluate-lts.spec (
+  is-reads.Asked,
+  is-reads.Learnt,
   evaluate-below t,
   evaluate.Post,
   negated-reads.Asked,
   negated-reads.Learnt,
+  joins-reads.Asked,
+  joins-reads.Learnt,
   truth-of-reads.Asked,
   truth-of-reads.Learnt,
   joined-reads.Asked,
@@ -67,40 +73,43 @@ pub +evaluate-spec : {M : Type 1} → statement M
     (λ c. omega (arith, c .if2 .left, c .before .before .before .before .pre .1 .0))
     (λ c. search (needs, c .if2 .left, c .before .before .before .before .pre .1 .0))
     (λ c. omega (arith, c .before .if2 .left, c .before .before .before .before .before .pre .1 .0))
-    (λ c. omega (arith, c .before .before .if2 .left, c .before .before .before .before .before .before .pre .1 .0))
-    (λ c. search needs)
-    (λ c κs. let s = c .before .before .before .before .before .before .pre in (omega (arith, s .0, c .before .before .before .if1 .left), (s .1 .0, omega (arith, c .before .before .if2 .left))))
     (λ c κs. search needs)
-    (λ c. let a = c .before .before .before .before .before .before .before .before .args in (
+    (λ c. omega (arith, c .before .before .before .if2 .left, c .before .before .before .before .before .before .before .pre .1 .0))
+    (λ c. search needs)
+    (λ c κs. let s = c .before .before .before .before .before .before .before .pre in (omega (arith, s .0, c .before .before .before .before .if1 .left), (s .1 .0, omega (arith, c .before .before .before .if2 .left))))
+    (λ c κs. search needs)
+    (λ c. let a = c .before .before .before .before .before .before .before .before .before .args in (
       c .before .evaluate .ensures .0,
       λ w q m h told. rw (c .negated .ensures) (ap (λ (r : Evaluated). evaluated (negation (r .truth)) (r .rest)) (c .before .evaluate .ensures .1 w q m h told)
-          ∙ sym (tree-not m h (a .k) (a .depth) (c .before .before .before .before .if2 .left) (c .before .before .before .before .before .if1 .left) (c .before .before .if3 .taken))),
+          ∙ sym (tree-not m h (a .k) (a .depth) (c .before .before .before .before .before .if2 .left) (c .before .before .before .before .before .before .if1 .left) (is-kind (c .before .before .before .is .ensures) (c .before .before .if3 .taken)))),
     ))
     (λ c κs. search needs)
-    (λ c. omega (arith, c .before .before .before .before .if2 .left, c .before .before .before .before .before .before .before .before .pre .1 .0))
-    (λ c. omega (arith, c .before .before .before .before .if2 .left, c .before .before .before .before .before .before .before .before .pre .1 .0))
-    (λ c. omega (arith, c .before .before .before .before .if2 .left, c .before .before .before .before .before .before .before .before .pre .1 .0))
-    (λ c. search (needs, c .before .before .before .before .if2 .left, c .before .before .before .before .before .before .before .before .pre .1 .0))
-    (λ c. omega (arith, c .before .before .before .before .before .if2 .left, c .before .before .before .before .before .before .before .before .before .pre .1 .0))
-    (λ c. let a = c .before .before .before .before .before .before .before .before .before .args in (omega (arith, c .before .before .before .before .before .if2 .left), λ w q m h told. rw (c .before .truth-of .ensures) (sym (tree-group m h (a .k) (a .depth) (c .before .before .before .before .before .if2 .left) (c .before .before .before .before .before .before .if1 .left) (c .before .before .if4 .taken)))))
+    (λ c κs. search needs)
+    (λ c κs. search needs)
+    (λ c. omega (arith, c .before .before .before .before .before .before .before .if2 .left, c .before .before .before .before .before .before .before .before .before .before .before .pre .1 .0))
+    (λ c. omega (arith, c .before .before .before .before .before .before .before .if2 .left, c .before .before .before .before .before .before .before .before .before .before .before .pre .1 .0))
+    (λ c. omega (arith, c .before .before .before .before .before .before .before .if2 .left, c .before .before .before .before .before .before .before .before .before .before .before .pre .1 .0))
+    (λ c. search (needs, c .before .before .before .before .before .before .before .if2 .left, c .before .before .before .before .before .before .before .before .before .before .before .pre .1 .0))
+    (λ c. omega (arith, c .before .before .before .before .before .before .before .before .if2 .left, c .before .before .before .before .before .before .before .before .before .before .before .before .pre .1 .0))
+    (λ c. let a = c .before .before .before .before .before .before .before .before .before .before .before .before .args in (omega (arith, c .before .before .before .before .before .before .before .before .if2 .left), λ w q m h told. rw (c .before .truth-of .ensures, c .before .before .is2 .ensures) (sym (tree-group m h (a .k) (a .depth) (c .before .before .before .before .before .before .before .before .if2 .left) (c .before .before .before .before .before .before .before .before .before .if1 .left) (sym (c .before .before .before .before .joins .ensures) ∙ c .before .before .before .if4 .taken)))))
     (λ c. search needs)
-    (λ c κs. let s = c .before .before .before .before .before .before .before .before .before .before .before .pre in (omega (arith, s .0, c .before .before .before .before .before .before .before .before .if1 .left), (s .1 .0, c .before .loop .inv .0)))
+    (λ c κs. let s = c .before .before .before .before .before .before .before .before .before .before .before .before .before .before .pre in (omega (arith, s .0, c .before .before .before .before .before .before .before .before .before .before .before .if1 .left), (s .1 .0, c .before .loop .inv .0)))
     (λ c κs. search needs)
     (λ c. search needs)
     (λ c. search needs)
-    (λ c. let a = c .before .before .before .before .before .before .before .before .before .before .before .before .before .args in
+    (λ c. let a = c .before .before .before .before .before .before .before .before .before .before .before .before .before .before .before .before .args in
     let L = c .before .before .before .loop in (
       c .before .evaluate2 .ensures .0,
       λ w q m h told. rw (c .joined .ensures)
-          (sym (parts-on (joinBy (eqb (kindAt (now (a .rows)) (a .k)) 20)) (evaluateLines m (a .depth - 1)) (L .left) (L .truth) (linesAt w q (positionAt (now (a .rows)) (L .next))) (c .before .before .loop-test .taken) _ _ (c .before .evaluate2 .ensures .1 w q m h told)) ∙ L .inv .1 w q m h told),
+          (sym (parts-on (joinBy (c .before .before .before .before .before .before .is2 .result)) (evaluateLines m (a .depth - 1)) (L .left) (L .truth) (linesAt w q (positionAt (now (a .rows)) (L .next))) (c .before .before .loop-test .taken) _ _ (c .before .evaluate2 .ensures .1 w q m h told)) ∙ L .inv .1 w q m h told),
     ))
-    (λ c. let a = c .before .before .before .before .before .before .before .before .before .before .before .args in
+    (λ c. let a = c .before .before .before .before .before .before .before .before .before .before .before .before .before .before .args in
     let L = c .before .loop in
-    (L .inv .0, λ w q m h told. sym (parts-end (joinBy (eqb (kindAt (now (a .rows)) (a .k)) 20)) (evaluateLines m (a .depth - 1)) (L .left) (L .truth) (linesAt w q (positionAt (now (a .rows)) (L .next))) (c .loop-test .left)) ∙ L .inv .1 w q m h told))
+    (L .inv .0, λ w q m h told. sym (parts-end (joinBy (c .before .before .before .before .is2 .result)) (evaluateLines m (a .depth - 1)) (L .left) (L .truth) (linesAt w q (positionAt (now (a .rows)) (L .next))) (c .loop-test .left)) ∙ L .inv .1 w q m h told))
     (λ c κs. search needs)
-    (λ c κs. (c .before .before .before .before .before .before .before .before .pre .1 .0, c .before .before .before .before .if2 .left))
-    (λ c. let a = c .before .before .before .before .before .before .before .before .before .args in (
+    (λ c κs. (c .before .before .before .before .before .before .before .before .before .before .pre .1 .0, c .before .before .before .before .before .before .if2 .left))
+    (λ c. let a = c .before .before .before .before .before .before .before .before .before .before .before .args in (
       c .after-item .ensures .0,
-      λ w q m h told. ap₂ evaluated (c .before .truth-at .ensures ∙ told .line (a .k) (c .before .before .before .before .before .if2 .left) .told (c .before .before .before .if3 .left) (c .before .before .if4 .left)) (c .after-item .ensures .1 w q h)
-          ∙ sym (tree-item m h (a .k) (a .depth) (c .before .before .before .before .before .if2 .left) (c .before .before .before .before .before .before .if1 .left) (c .before .before .before .if3 .left) (c .before .before .if4 .left)),
+      λ w q m h told. ap₂ evaluated (c .before .truth-at .ensures ∙ told .line (a .k) (c .before .before .before .before .before .before .before .if2 .left) .told (not-kind (c .before .before .before .before .before .is .ensures) (c .before .before .before .before .if3 .left)) (sym (c .before .before .before .joins .ensures) ∙ c .before .before .if4 .left)) (c .after-item .ensures .1 w q h)
+          ∙ sym (tree-item m h (a .k) (a .depth) (c .before .before .before .before .before .before .before .if2 .left) (c .before .before .before .before .before .before .before .before .if1 .left) (not-kind (c .before .before .before .before .before .is .ensures) (c .before .before .before .before .if3 .left)) (sym (c .before .before .before .joins .ensures) ∙ c .before .before .if4 .left)),
     ))

@@ -10,42 +10,42 @@ use types.Run.{miss}
 use denote.Enum.Declared.{tagOf}
 use borrow.Author.Tests.{ne-eqb}
 use Rattle.rules.specs.Columns.{permissionForms}
+use Rattle.sheet_kind.specs.Kinds.{kindOf}
+use Rattle.sheet_kind.specs.Laws.Kinds.{kind-is}
+use Rattle.sheet_kind.proofs.Kind.{the-type}
 use Rattle.sheet_form.specs.Columns.{inFormOf}
 use Rattle.sheet_form.specs.Laws.Columns.{one-form}
-use Rattle.sheet_form.specs.Kinds.{kindOf}
-use Rattle.sheet_form.specs.Laws.Kinds.{kind-is}
-use Rattle.sheet_form.proofs.kind.Kind.{the-type}
 use borrow.Author.Needs.{needs}
 use Rattle.sheet_form.proofs.columns.permission_columns.Statement.{statement}
 use Rattle.sheet_form.proofs.columns.permission_columns.Tie as tie
 
 abbrev others : List ℕ
-others = 0 ∷ 1 ∷ 2 ∷ 9 ∷ 10 ∷ 11 ∷ 12 ∷ 13 ∷ 14 ∷ 15 ∷ 16 ∷ 17 ∷ []
+others = 0 ∷ 1 ∷ 2 ∷ 9 ∷ 10 ∷ 11 ∷ 12 ∷ 13 ∷ 14 ∷ 15 ∷ 16 ∷ 17 ∷ 18 ∷ 19 ∷ 20 ∷ 21 ∷ 22 ∷ 23 ∷ 24 ∷ 25 ∷ 26 ∷ 27 ∷ 28 ∷ 29 ∷ 30 ∷ []
 
 other : (c : tie.At-match-keys7) (n : ℕ) → T (not (hasKey others (tagOf the-type (kindOf n)))) → eqb (c .before .before .args .line .kind) n ≡ false
 other c n t = ne-eqb _ n (λ e. miss others (tagOf the-type (kindOf n)) t (rw (c .before .kind-of .ensures, e) at (c .match .keys7)))
 
 returns : tie.Need-returns
 unfolding inFormOf permissionForms
-returns c = let A = c .before .before .before .before .args in rw (c .row .ensures, kind-is (A .line .kind) 4 refl (sym (c .before .before .before .kind-of .ensures) ∙ c .before .enum-told .given .1)) (one-form (A .line .a) (A .line .b) (A .line .c) (A .line .length) (omega arith) (omega arith) (omega arith) (omega arith) _)
+returns c = let A = c .before .before .before .before .args in rw (c .row .ensures, kind-is (A .line .kind) refl (sym (c .before .before .before .kind-of .ensures) ∙ c .before .enum-told .given .1)) (one-form (A .line .a) (A .line .b) (A .line .c) (A .line .length) (omega arith) (omega arith) (omega arith) (omega arith) _)
 
 returns-2 : tie.Need-returns-2
 unfolding inFormOf permissionForms
-returns-2 c = let A = c .before .before .before .before .args in rw (c .row2 .ensures, kind-is (A .line .kind) 5 refl (sym (c .before .before .before .kind-of .ensures) ∙ c .before .enum-told2 .given .1)) (one-form (A .line .a) (A .line .b) (A .line .c) (A .line .length) (omega arith) (omega arith) (omega arith) (omega arith) _)
+returns-2 c = let A = c .before .before .before .before .args in rw (c .row2 .ensures, kind-is (A .line .kind) refl (sym (c .before .before .before .kind-of .ensures) ∙ c .before .enum-told2 .given .1)) (one-form (A .line .a) (A .line .b) (A .line .c) (A .line .length) (omega arith) (omega arith) (omega arith) (omega arith) _)
 
 returns-3 : tie.Need-returns-3
-returns-3 c = let A = c .before .before .before .before .args in c .user-class-columns .ensures (A .top) ∙ rw (kind-is (A .line .kind) 6 refl (sym (c .before .before .before .kind-of .ensures) ∙ c .before .enum-told3 .given .1))
+returns-3 c = let A = c .before .before .before .before .args in c .user-class-columns .ensures (A .top) ∙ rw (kind-is (A .line .kind) refl (sym (c .before .before .before .kind-of .ensures) ∙ c .before .enum-told3 .given .1))
 
 returns-4 : tie.Need-returns-4
-returns-4 c = let A = c .before .before .before .before .args in c .protected-item-columns .ensures ∙ rw (kind-is (A .line .kind) 7 refl (sym (c .before .before .before .kind-of .ensures) ∙ c .before .enum-told4 .given .1))
+returns-4 c = let A = c .before .before .before .before .args in c .protected-item-columns .ensures ∙ rw (kind-is (A .line .kind) refl (sym (c .before .before .before .kind-of .ensures) ∙ c .before .enum-told4 .given .1))
 
 returns-5 : tie.Need-returns-5
 unfolding inFormOf permissionForms
-returns-5 c = let A = c .before .before .before .before .args in rw (c .row3 .ensures, kind-is (A .line .kind) 8 refl (sym (c .before .before .before .kind-of .ensures) ∙ c .before .enum-told5 .given .1)) (one-form (A .line .a) (A .line .b) (A .line .c) (A .line .length) (omega arith) (omega arith) (omega arith) (omega arith) _)
+returns-5 c = let A = c .before .before .before .before .args in rw (c .row3 .ensures, kind-is (A .line .kind) refl (sym (c .before .before .before .kind-of .ensures) ∙ c .before .enum-told5 .given .1)) (one-form (A .line .a) (A .line .b) (A .line .c) (A .line .length) (omega arith) (omega arith) (omega arith) (omega arith) _)
 
 returns-6 : tie.Need-returns-6
 unfolding inFormOf permissionForms
-returns-6 c = let A = c .before .before .before .before .args in rw (c .row4 .ensures, kind-is (A .line .kind) 9 refl (sym (c .before .before .before .kind-of .ensures) ∙ c .before .enum-told6 .given .1)) (one-form (A .line .a) (A .line .b) (A .line .c) (A .line .length) (omega arith) (omega arith) (omega arith) (omega arith) _)
+returns-6 c = let A = c .before .before .before .before .args in rw (c .row4 .ensures, kind-is (A .line .kind) refl (sym (c .before .before .before .kind-of .ensures) ∙ c .before .enum-told6 .given .1)) (one-form (A .line .a) (A .line .b) (A .line .c) (A .line .length) (omega arith) (omega arith) (omega arith) (omega arith) _)
 
 returns-7 : tie.Need-returns-7
 unfolding inFormOf permissionForms kindOf

@@ -1,6 +1,5 @@
 //! Worlds, and six requests over each.
 
-use std::collections::HashMap;
 use std::sync::OnceLock;
 
 use harness::limits::open;
@@ -150,38 +149,42 @@ fn crowded(number: u32) -> Vec<u8> {
     values[number as usize].to_vec()
 }
 
-/// Fifty octets, others for each number below 1,024, all with one digest: ten times a choice between
-/// two blocks that lead from one digest to the next.
+/// Fifty octets, others for each number below 4,096, all with one digest: six times a choice between
+/// four blocks that lead from one digest to the next, and two octets more.
 fn twin(number: u32) -> Vec<u8> {
-    static PAIRS: OnceLock<Vec<[[u8; 5]; 2]>> = OnceLock::new();
-    let pairs = PAIRS.get_or_init(|| {
+    static CHOICES: OnceLock<Vec<[[u8; 8]; 4]>> = OnceLock::new();
+    let choices = CHOICES.get_or_init(|| {
         let mut sum = seed();
-        let mut pairs = Vec::new();
-        while pairs.len() < 10 {
-            let pair = colliding_blocks(sum);
-            sum = digest_from(sum, &pair[0]);
-            pairs.push(pair);
+        let mut choices = Vec::new();
+        while choices.len() < 6 {
+            let blocks = colliding_blocks(sum);
+            sum = digest_from(sum, &blocks[0]);
+            choices.push(blocks);
         }
-        pairs
+        choices
     });
-    pairs
-        .iter()
-        .enumerate()
-        .flat_map(|(place, pair)| pair[(number >> place & 1) as usize])
-        .collect()
+    let blocks = choices.iter().enumerate();
+    let chosen = blocks.flat_map(|(place, block)| block[(number >> (2 * place) & 3) as usize]);
+    chosen.chain([128; 2]).collect()
 }
 
-/// Two blocks of five octets that lead from `sum` to one digest.
-fn colliding_blocks(sum: u64) -> [[u8; 5]; 2] {
+/// Four blocks of eight octets that lead from `sum` to one digest: after any first word there is a second
+/// that makes the same sum with what the first has led to.
+fn colliding_blocks(sum: u64) -> [[u8; 8]; 4] {
+    const SUM: u64 = (1 << 32) + (1 << 30);
     let mut random = Random::new(sum);
-    let mut met = HashMap::new();
-    loop {
-        let block = [0; 5].map(|_| 128 + random.below(128) as u8);
-        match met.insert(digest_from(sum, &block), block) {
-            Some(other) if other != block => return [other, block],
-            _ => {}
+    let mut blocks = Vec::new();
+    while blocks.len() < 4 {
+        let first = [0; 4].map(|_| 128 + random.below(128) as u8);
+        let second = SUM - digest_from(sum, &first);
+        let Ok(second) = u32::try_from(second) else { continue };
+        let [a, b, c, d] = first;
+        let [e, f, g, h] = second.to_le_bytes();
+        if [e, f, g, h].iter().all(|byte| *byte >= 128) {
+            blocks.push([a, b, c, d, e, f, g, h]);
         }
     }
+    [blocks[0], blocks[1], blocks[2], blocks[3]]
 }
 
 /// The library's digest (crate `value_syntax`) of a value of the type KEY that the first entry holds.
@@ -194,9 +197,14 @@ fn seed() -> u64 {
 }
 
 fn digest_from(sum: u64, value: &[u8]) -> u64 {
-    let mixed = value.iter().fold(sum, |sum, byte| {
-        let product = sum % (1 << 32) * 16_777_619 + u64::from(byte.to_ascii_lowercase());
-        product + product / (1 << 20)
+    let small = value.to_ascii_lowercase();
+    let words = small.chunks_exact(4);
+    let left = words.remainder();
+    let words = words.map(|word| u64::from(u32::from_le_bytes([word[0], word[1], word[2], word[3]])));
+    let numbers = words.chain(left.iter().map(|byte| u64::from(*byte)));
+    let mixed = numbers.fold(sum, |sum, number| {
+        let product = (sum % (1 << 32) + number) * 1_540_483_477;
+        product ^ product >> 29
     });
     mixed % (1 << 32)
 }

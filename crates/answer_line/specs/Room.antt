@@ -1,0 +1,22 @@
+-- The most bytes that each part of an answer has. A function that writes a part is called where the part ends before `farthest`, so that every place is
+-- a number of 64 bits.
+use Prim.Native.Nat.{ℕ, _+_, _*_, _/_, _^_}
+
+abbrev pub farthest : ℕ
+farthest = 2 ^ 62
+
+-- a line: five columns of at most 18 bytes, bytes that stand on a sheet of at most 65,536, and its end
+abbrev pub lineRoom : ℕ
+lineRoom = 5 * 18 + 65536 + 1
+
+-- an entry and its full name: K 33, and K 9 for it and what is above it, of 256 entries
+abbrev pub nameRoom : ℕ
+nameRoom = (1 + 256) * lineRoom
+
+-- what is returned of an entry: a K 34 and a K 35 at most for each value, of as many as a directory has lines of at least 31 bytes
+abbrev pub informationRoom : ℕ
+informationRoom = (65536 / 31 + 1) * (2 * lineRoom)
+
+-- an entry found
+abbrev pub foundRoom : ℕ
+foundRoom = nameRoom + informationRoom
