@@ -10,7 +10,7 @@ use lib.Seq.{getD-set-same, getD-set-other}
 use borrow.Author.Tests.{eqb-true, eqb-false}
 use Rattle.access_set.specs.declared.Bits.{Bits}
 use Rattle.access_set.specs.Member.{member, join}
-use Rattle.access_set.specs.Sets.{member-join}
+use Rattle.access_set.specs.Laws.Sets.{member-join}
 use Rattle.tables.specs.Sets.{rowOf, inRow}
 use Rattle.access_items.specs.Laws.Rows.{same-row}
 use Rattle.access_covers.specs.Row.{stored, downInherited, coversInherited}

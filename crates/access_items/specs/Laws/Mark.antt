@@ -12,7 +12,7 @@ use lib.Pow.{shl-exact}
 use lib.Seq.{getD-set-same, getD-set-other}
 use borrow.Author.Tests.{eq-eqb, ne-eqb, eqb-true, eqb-false, ltb-true, ltb-false}
 use Rattle.access_set.specs.Member.{bit}
-use Rattle.access_set.specs.Bit.{bit-or, bit-none, bit-pow}
+use Rattle.access_set.specs.Laws.Bit.{bit-or, bit-none, bit-pow}
 use Rattle.tables.specs.Sets.{inRow}
 use Rattle.access_items.specs.Mark.{marked}
 use Rattle.access_items.specs.Laws.Rows.{in-row, in-beyond}

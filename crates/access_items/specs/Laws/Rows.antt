@@ -8,8 +8,8 @@ use lib.Dec.{eqb, ltb}
 use lib.ListN.{getD, replicate, getD-replicate, length-replicate, List·getD-eq-default}
 use borrow.Author.Tests.{eqb-true, eqb-false, lt-ltb, le-ltb, ltb-true, ltb-false}
 use Rattle.access_set.specs.Member.{bit, wordOf, member}
-use Rattle.access_set.specs.Bit.{bit-none}
-use Rattle.access_set.specs.Sets.{member-beyond}
+use Rattle.access_set.specs.Laws.Bit.{bit-none}
+use Rattle.access_set.specs.Laws.Sets.{member-beyond}
 use Rattle.tables.specs.Sets.{rowOf, inRow}
 
 -- ---- words

@@ -3,7 +3,7 @@ use mathlib.Core.Path.{ap, ap₂, _∙_}
 use mathlib.Core.Bool.{Bool, _&&_}
 use Prim.Native.Nat.{_+_, _-_}
 use Rattle.access_set.specs.Member.{member}
-use Rattle.access_set.specs.Sets.{member-meet}
+use Rattle.access_set.specs.Laws.Sets.{member-meet}
 use Rattle.access_may.specs.Laws.Decided.{row-member}
 use borrow.Author.Needs.{needs}
 use Rattle.access_may.proofs.about_one.Statement.{statement}

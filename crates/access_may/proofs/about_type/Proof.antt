@@ -2,7 +2,7 @@ use denote.Ref.{now}
 use mathlib.Core.Path.{ap₂, _∙_}
 use mathlib.Core.Bool.{_&&_, _||_}
 use Prim.Native.Nat.{_+_, _-_}
-use Rattle.access_set.specs.Sets.{member-meet, member-join}
+use Rattle.access_set.specs.Laws.Sets.{member-meet, member-join}
 use Rattle.access_may.specs.Laws.Decided.{row-member}
 use borrow.Author.Needs.{needs}
 use Rattle.access_may.proofs.about_type.Statement.{statement}

@@ -11,7 +11,7 @@ use Rattle.rules.specs.declared.Found.{Found}
 use Rattle.rules.specs.declared.Found.the-variants.{At, Nothing}
 use Rattle.access_set.specs.declared.Bits.{Bits}
 use Rattle.access_set.specs.Member.{member, Least}
-use Rattle.access_set.specs.Sets.{member-beyond}
+use Rattle.access_set.specs.Laws.Sets.{member-beyond}
 use Rattle.tables.specs.Sets.{rowOf, inRow}
 use Rattle.access_may.specs.Decided.{Decided, First}
 

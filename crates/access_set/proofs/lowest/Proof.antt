@@ -1,6 +1,6 @@
 use native.Mathlib.Omega.{arith}
 use lib.Count.{trailing-le}
-use Rattle.access_set.specs.Bit.{lowest-trailing}
+use Rattle.access_set.specs.Laws.Bit.{lowest-trailing}
 use Rattle.access_set.proofs.lowest.Statement.{statement}
 use Rattle.access_set.proofs.lowest.Tie as tie
 

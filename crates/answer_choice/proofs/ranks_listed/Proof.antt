@@ -10,7 +10,7 @@ use denote.Ref.{now}
 use Rattle.rules.specs.Lists.{any}
 use Rattle.rules.specs.Places.{linesAt, typesOf}
 use Rattle.access_set.specs.Member.{bit}
-use Rattle.access_set.specs.Bit.{bit-none}
+use Rattle.access_set.specs.Laws.Bit.{bit-none}
 use Rattle.tables.specs.Book.{width, schema}
 use Rattle.tables.specs.Held.{typeAt, Distinct}
 use Rattle.tables.specs.Laws.Book.{schema-length}

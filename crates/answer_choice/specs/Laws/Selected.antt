@@ -25,7 +25,7 @@ use Rattle.name.specs.Laws.Schema.{rank-first}
 use Rattle.request_sheet.specs.Noted as Requests
 use Rattle.request_sheet.specs.declared.Asked.{Asked}
 use Rattle.access_set.specs.Member.{bit}
-use Rattle.access_set.specs.Bit.{bit-or, bit-pow, one-shl}
+use Rattle.access_set.specs.Laws.Bit.{bit-or, bit-pow, one-shl}
 use Rattle.tables.specs.Held.{typeAt, Distinct}
 use Rattle.answer_plan.specs.declared.Choice.{Choice}
 use Rattle.answer_plan.specs.Choice.{Chooses}

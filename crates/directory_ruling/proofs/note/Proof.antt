@@ -1,7 +1,7 @@
 -- The three stores are `withMark`.
 use Prim.Native.Nat.{_%_}
 use native.Mathlib.Omega.{arith}
-use Rattle.access_set.specs.Bit.{one-shl}
+use Rattle.access_set.specs.Laws.Bit.{one-shl}
 use Rattle.directory_ruling.specs.Mark.{withMark}
 use borrow.Author.Needs.{needs}
 use Rattle.directory_ruling.proofs.note.Statement.{statement}

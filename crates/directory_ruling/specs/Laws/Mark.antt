@@ -16,7 +16,7 @@ use Rattle.rules.specs.Value.{same}
 use Rattle.rules.specs.Laws.Tests.{and-left, and-right, both, bool-ext, contra}
 use Rattle.value_syntax.specs.Laws.Digest.{digest-same}
 use Rattle.access_set.specs.Member.{bit}
-use Rattle.access_set.specs.Bit.{bit-or, bit-pow}
+use Rattle.access_set.specs.Laws.Bit.{bit-or, bit-pow}
 use Rattle.directory_ruling.specs.declared.Ruling.{Ruling}
 use Rattle.directory_ruling.specs.Mark.{Mark, mark, markedBytes, bucketAt, bucketOf, labelAt, labelOf, slotAt, slotOf, packed, headAt, slotIn, withMark, tableOf, Room, lastIn, MarkWithin, Chained, Slotted, Chain, twin, bears, Walk, labelIn, placeIn, sizeIn, beforeIn, heads, slots, tableLength}
 

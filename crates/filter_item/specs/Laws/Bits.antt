@@ -10,7 +10,7 @@ use lib.ListN.{length, getD, set}
 use lib.Seq.{getD-set-same, getD-set-other}
 use borrow.Author.Tests.{eq-eqb, ne-eqb, eqb-true, eqb-false}
 use Rattle.access_set.specs.Member.{bit}
-use Rattle.access_set.specs.Bit.{bit-or, bit-pow, bit-none}
+use Rattle.access_set.specs.Laws.Bit.{bit-or, bit-pow, bit-none}
 use Rattle.filter_item.specs.Seen.{bitAt}
 
 -- the bit of place `n`, or none

@@ -10,7 +10,7 @@ use lib.Bits.{bitOr}
 use lib.Dec.{eqb, ltb}
 use borrow.Author.Tests.{eq-eqb, ne-eqb, eqb-true, eqb-false, ltb-true, ltb-false}
 use Rattle.access_set.specs.Member.{bit}
-use Rattle.access_set.specs.Bit.{bit-none}
+use Rattle.access_set.specs.Laws.Bit.{bit-none}
 use Rattle.filter_lines.specs.Lines.{kindAt, typeRank}
 use Rattle.filter_item.specs.Mask.{operatorAt, occurs, Masks}
 use Rattle.filter_item.specs.Laws.Bits.{word-more}

@@ -13,7 +13,7 @@ use Rattle.rules.specs.Directory.{Stored}
 use Rattle.rules.specs.Permission.{FilterMatch}
 use Rattle.rules.specs.Decision.{Setting, ofType}
 use Rattle.access_set.specs.Member.{bit}
-use Rattle.access_set.specs.Bit.{bit-none}
+use Rattle.access_set.specs.Laws.Bit.{bit-none}
 use Rattle.tables.specs.Book.{Fits, types, entries, schema, firstAt}
 use Rattle.tables.specs.Held.{typeAt}
 use Rattle.tables.specs.Sets.{grantedAt}

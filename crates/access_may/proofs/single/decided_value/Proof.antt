@@ -2,7 +2,7 @@ use denote.Ref.{now}
 use mathlib.Core.Path.{_∙_}
 use mathlib.Core.Bool.{_&&_}
 use Rattle.access_set.specs.Member.{member}
-use Rattle.access_set.specs.Sets.{member-meet}
+use Rattle.access_set.specs.Laws.Sets.{member-meet}
 use Rattle.access_may.specs.Single.{agreesAt, sameAt}
 use Rattle.access_may.specs.Laws.Decided.{row-member, decided-all, decided-one}
 use Rattle.access_may.specs.Laws.Single.{near-same}

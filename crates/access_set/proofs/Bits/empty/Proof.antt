@@ -1,4 +1,4 @@
-use Rattle.access_set.specs.Sets.{member-empty}
+use Rattle.access_set.specs.Laws.Sets.{member-empty}
 use Rattle.access_set.proofs.Bits.empty.Statement.{statement}
 use Rattle.access_set.proofs.Bits.empty.Tie as tie
 

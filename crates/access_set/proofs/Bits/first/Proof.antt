@@ -1,5 +1,5 @@
 use native.Mathlib.Omega.{arith}
-use Rattle.access_set.specs.Sets.{least-a, least-b, least-c, least-d, least-none}
+use Rattle.access_set.specs.Laws.Sets.{least-a, least-b, least-c, least-d, least-none}
 use borrow.Author.Needs.{needs}
 use Rattle.access_set.proofs.Bits.first.Statement.{statement}
 use Rattle.access_set.proofs.Bits.first.Tie as tie

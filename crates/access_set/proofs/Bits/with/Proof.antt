@@ -1,7 +1,7 @@
 use Prim.Native.Nat.{_%_}
 use native.Mathlib.Omega.{arith}
-use Rattle.access_set.specs.Bit.{one-shl}
-use Rattle.access_set.specs.Sets.{with-a, with-b, with-c, with-d}
+use Rattle.access_set.specs.Laws.Bit.{one-shl}
+use Rattle.access_set.specs.Laws.Sets.{with-a, with-b, with-c, with-d}
 use borrow.Author.Needs.{needs}
 use Rattle.access_set.proofs.Bits.with.Statement.{statement}
 use Rattle.access_set.proofs.Bits.with.Tie as tie

@@ -1,7 +1,7 @@
 use Prim.Native.Nat.{_%_}
 use native.Mathlib.Omega.{arith}
-use Rattle.access_set.specs.Bit.{one-shl}
-use Rattle.access_set.specs.Sets.{without-a, without-b, without-c, without-d}
+use Rattle.access_set.specs.Laws.Bit.{one-shl}
+use Rattle.access_set.specs.Laws.Sets.{without-a, without-b, without-c, without-d}
 use borrow.Author.Needs.{needs}
 use Rattle.access_set.proofs.Bits.without.Statement.{statement}
 use Rattle.access_set.proofs.Bits.without.Tie as tie

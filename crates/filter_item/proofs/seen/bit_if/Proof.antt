@@ -2,7 +2,7 @@ use mathlib.Core.Path.{sym, ap, _∙_}
 use native.Mathlib.Omega.{arith}
 use Prim.Native.Nat.{_%_, _^_}
 use mathlib.Core.Bool.{Bool, cond}
-use Rattle.access_set.specs.Bit.{one-shl}
+use Rattle.access_set.specs.Laws.Bit.{one-shl}
 use borrow.Author.Needs.{needs}
 use Rattle.filter_item.proofs.seen.bit_if.Statement.{statement}
 use Rattle.filter_item.proofs.seen.bit_if.Tie as tie

@@ -9,7 +9,7 @@ use borrow.Author.Tests.{eq-eqb, ne-eqb, eqb-true, eqb-false}
 use Rattle.access_set.specs.declared.Bits.{Bits}
 use Rattle.rules.specs.declared.Found.the-variants.{At, Nothing}
 use Rattle.access_set.specs.Member.{bit, Lowest, wordOf, member, each, meet, join, Least}
-use Rattle.access_set.specs.Bit.{bit-and, bit-or, bit-xor, bit-none, bit-pow}
+use Rattle.access_set.specs.Laws.Bit.{bit-and, bit-or, bit-xor, bit-none, bit-pow}
 
 pub member-empty : (j : ℕ) → member (record { a = 0; b = 0; c = 0; d = 0 }) j ≡ false
 unfolding member wordOf
