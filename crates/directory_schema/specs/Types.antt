@@ -14,7 +14,7 @@ use Rattle.rules.specs.Places.{schemaOf}
 use Rattle.sheet_line.specs.declared.Line.{Line}
 use Rattle.sheet_line.specs.declared.Taken.the-variants as Taken
 use Rattle.sheet_line.specs.Line.{takenAt}
-use Rattle.directory_schema.specs.Lines.{judgedFrom, columnsFit, Other}
+use Rattle.directory_schema.specs.Lines.{Passes, columnsFit, Other}
 use Rattle.directory_schema.specs.Schema.{Rising}
 use Rattle.directory_schema.specs.Zeros.{ZerosFrom}
 use Rattle.directory_schema.specs.declared.TypeLines.{TypeLines}
@@ -43,7 +43,7 @@ pub record TypesRead (f : Format) (s : Bytes) (schema : List ℕ) (n last i : �
   pub within : i ≤ length s
   pub rising : Rising 0 (take n schema)
   pub newest : last ≡ lastType (schemaOf (take n schema))
-  pub same : fold (step (f .top)) finish 2 nothing (lines (f .width) s) ≡ judgedFrom f s (typed (take n schema)) i
+  pub passed : Passes f s nothing 0 (typed (take n schema)) i
 
 -- the K 1 lines that were read, up to another line
 pub record TypesEnded (f : Format) (s : Bytes) (r : TypeLines) : Type 0 where
@@ -52,7 +52,21 @@ pub record TypesEnded (f : Format) (s : Bytes) (r : TypeLines) : Type 0 where
   pub stands : r .taken ≡ takenAt (f .width) s (r .at)
   pub other : Other 1 (r .taken)
 
--- the K 1 lines of a sheet, up to another line or to a refusal, which is the sheet's
+-- the K 1 lines that were read, up to one that is refused, and the sheet with it
+pub record TypesStopped (f : Format) (s : Bytes) (r : TypeLines) : Type 0 where
+  pub schema : List ℕ
+  pub count : ℕ
+  pub last : ℕ
+  pub at : ℕ
+  pub line : Line
+  pub read : TypesRead f s schema count last at
+  pub stands : takenAt (f .width) s at ≡ Taken.Line line
+  pub kind : line .kind ≡ 1
+  pub number : r .refusal ≡ typeRefusal (f .top) line last count
+  pub sheet : fold (step (f .top)) finish 2 nothing (lines (f .width) s) ≡ refuse (r .refusal)
+  pub only : r ≡ typesRefused (r .refusal)
+
+-- the K 1 lines of a sheet
 pub record TypesJudged (f : Format) (s : Bytes) (r : TypeLines) : Type 0 where
   pub ended : r .refusal ≡ 0 → TypesEnded f s r
-  pub refused : (r .refusal ≡ 0 → ⊥) → (r ≡ typesRefused (r .refusal)) × (fold (step (f .top)) finish 2 nothing (lines (f .width) s) ≡ refuse (r .refusal))
+  pub refused : (r .refusal ≡ 0 → ⊥) → TypesStopped f s r

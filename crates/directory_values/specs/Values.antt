@@ -9,17 +9,19 @@ use Rattle.rules.specs.Lists.{any, lastOr}
 use Rattle.rules.specs.Sheet.{Bytes, Usable}
 use Rattle.rules.specs.declared.Format.{Format}
 use Rattle.rules.specs.Name.{Part, part, allowed, samePart}
-use Rattle.rules.specs.Judge.{Verdict, refuse}
-use Rattle.rules.specs.Directory.{Stored, Directory, withValues}
+use Rattle.rules.specs.Judge.{refuse}
+use Rattle.rules.specs.Directory.{Stored, Reading, withValues}
 use Rattle.rules.specs.Places.{linesAt, valuesOf, schemaOf}
+use Rattle.sheet_line.specs.declared.Line.{Line}
 use Rattle.sheet_line.specs.declared.Taken.the-variants as Taken
 use Rattle.sheet_line.specs.Line.{takenAt, bytesOf}
-use Rattle.directory_schema.specs.Lines.{judgedFrom, Other}
+use Rattle.directory_schema.specs.Lines.{judgedFrom, Passes, Other}
 use Rattle.directory_schema.specs.Schema.{rankOf}
 use Rattle.tables.specs.Held.{HELD}
 use Rattle.directory_ruling.specs.Mark.{Mark}
 use Rattle.directory_ruling.specs.Twins.{ownerOf, Named, Valued}
 use Rattle.directory_ruling.specs.Rulings.{Ready, reading}
+use Rattle.directory_values.specs.ValueLine.{valueRuling}
 use Rattle.directory_values.specs.Rows.{RowsWritten}
 use Rattle.directory_values.specs.declared.Current.{Current}
 use Rattle.directory_values.specs.declared.ValueLines.{ValueLines}
@@ -49,9 +51,9 @@ pub record ValuesAsked (f : Format) (s : Bytes) (ks table held : List ℕ) (n : 
   pub all : List Mark
   pub begun : Begun f s ks table held n e complete entry all
 
--- the entry with the values `vs`, and the rest of the sheet from position `i` on
-abbrev pub judgedWith : Format → Bytes → List ℕ → List Stored → Stored → List Part → ℕ → Verdict Directory
-judgedWith f s ks complete d vs i = judgedFrom f s (reading ks complete (some (withValues d vs))) i
+-- what was read, the last entry with the values `vs`
+abbrev pub readingWith : List ℕ → List Stored → Stored → List Part → Reading
+readingWith ks complete d vs = reading ks complete (some (withValues d vs))
 
 -- the values `vs` have been read, up to position `i`, and written to the rows up to `to`
 pub record ValuesRead (f : Format) (s : Bytes) (ks table before held : List ℕ) (n : ℕ) (found : Bool) (last from i to : ℕ) (e : Current) (complete : List Stored) (d : Stored) (vs : List Part) (ms : List Mark) : Type 0 where
@@ -66,7 +68,7 @@ pub record ValuesRead (f : Format) (s : Bytes) (ks table before held : List ℕ)
   pub named : Named s ks (complete ++ (d ∷ [])) ms
   pub valued : Valued s ks (ownerOf (e .number)) vs ms
   pub sofar : valuesOf (linesAt (f .width) s (e .line .next)) ≡ vs ++ valuesOf (linesAt (f .width) s i)
-  pub judged : judgedWith f s ks complete d [] (e .line .next) ≡ judgedWith f s ks complete d vs i
+  pub passed : Passes f s (readingWith ks complete d []) (e .line .next) (readingWith ks complete d vs) i
   pub rows : RowsWritten ks s vs before held (e .first) to
   pub fewer : to ≤ n
 
@@ -84,7 +86,7 @@ pub record ValuesEnded (f : Format) (s : Bytes) (ks table before held : List ℕ
   pub stands : r .taken ≡ takenAt (f .width) s (r .at)
   pub other : Other 3 (r .taken)
 
--- the values that were read, up to a line for which the entry is refused
+-- the values that were read, up to one that is refused, and the sheet with it
 pub record ValuesStopped (f : Format) (s : Bytes) (ks table before held : List ℕ) (e : Current) (complete : List Stored) (d : Stored) (r : ValueLines) : Type 0 where
   pub values : List Part
   pub all : List Mark
@@ -94,8 +96,12 @@ pub record ValuesStopped (f : Format) (s : Bytes) (ks table before held : List �
   pub from : ℕ
   pub at : ℕ
   pub to : ℕ
+  pub line : Line
   pub read : ValuesRead f s ks table before held marks found last from at to e complete d values all
-  pub number : judgedWith f s ks complete d [] (e .line .next) ≡ refuse (r .refusal)
+  pub stands : takenAt (f .width) s at ≡ Taken.Line line
+  pub kind : line .kind ≡ 3
+  pub number : r .refusal ≡ valueRuling (f .top) (e .number) last line s ks table all .refusal
+  pub sheet : judgedFrom f s (readingWith ks complete d []) (e .line .next) ≡ refuse (r .refusal)
   pub only : r ≡ valuesRefused (r .refusal)
 
 -- the values of an entry

@@ -8,8 +8,7 @@ use Rattle.rules.specs.Sheet.{Bytes}
 use Rattle.rules.specs.Columns.{Form}
 use Rattle.rules.specs.Judge.{Grammar}
 use Rattle.sheet_form.specs.Columns.{columnsIn}
-use Rattle.sheet_line.specs.Line.{takenAt}
-use Rattle.sheet_line.specs.Laws.{lineOf}
+use Rattle.sheet_line.specs.Line.{takenAt, lineOf}
 use Rattle.sheet_line.specs.declared.Line.{Line}
 use Rattle.sheet_line.specs.declared.Taken.{Taken}
 use Rattle.sheet_line.specs.declared.Taken.the-variants as Taken

@@ -12,7 +12,7 @@ ghost use lib.ListN as ListN;
 ghost use Rattle.rules.specs.Permission.{soundItem};
 ghost use Rattle.rules.specs.Places.{schemaOf};
 ghost use Rattle.sheet_form.specs.Columns.{columnsIn};
-ghost use Rattle.sheet_line.specs.Laws.{lineOf};
+ghost use Rattle.sheet_line.specs.Line.{lineOf};
 ghost use Rattle.sheet_due.specs.Grammars.{formsOf, soundOf, refusalsOf};
 
 // Which sheet a line stands in.

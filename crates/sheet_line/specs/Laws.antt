@@ -4,8 +4,7 @@ use mathlib.Core.Path.{_≡_, refl, sym, ap, _∙_}
 use native.Mathlib.Omega.{arith}
 use lib.ListN.{length, take, drop, length-drop}
 use lib.Seq.{drop-drop, length-take-le}
-use Rattle.rules.specs.Sheet.{Bytes, line, Sheet, end, broken, row, frontOf, valueOf}
-use Rattle.rules.specs.Sheet as Rules
+use Rattle.rules.specs.Sheet.{Bytes, Sheet, end, broken, row, frontOf, valueOf}
 use Rattle.rules.specs.Places.{linesAt}
 use Rattle.rules.specs.Laws.Sheet.{lines-taken, lines-broken, lines-end, taken-fits}
 use Rattle.rules.specs.declared.Front.{Front}
@@ -13,11 +12,7 @@ use Rattle.rules.specs.declared.Front.the-variants as Front
 use Rattle.sheet_line.specs.declared.Line.{Line}
 use Rattle.sheet_line.specs.declared.Taken.{Taken}
 use Rattle.sheet_line.specs.declared.Taken.the-variants as Taken
-use Rattle.sheet_line.specs.Line.{takenBy, takenAt, bytesOf}
-
--- a line of the sheet `s` with its bytes
-abbrev pub lineOf : Bytes → Line → Rules.Line
-lineOf s x = line (x .kind) (x .a) (x .b) (x .c) (bytesOf s x)
+use Rattle.sheet_line.specs.Line.{takenBy, takenAt, bytesOf, lineOf}
 
 -- the lines from a position on, by what was taken there
 abbrev pub linesBy : ℕ → Bytes → Taken → Sheet

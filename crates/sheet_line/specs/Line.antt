@@ -1,7 +1,8 @@
 -- A line taken from a sheet, by numbers: its columns, where its bytes begin, how many they are, and where the next line begins.
 use Prim.Native.Nat.{ℕ, _+_, _*_}
 use lib.ListN.{take, drop}
-use Rattle.rules.specs.Sheet.{Bytes, frontOf}
+use Rattle.rules.specs.Sheet.{Bytes, line, frontOf}
+use Rattle.rules.specs.Sheet as Rules
 use Rattle.rules.specs.declared.Front.{Front}
 use Rattle.rules.specs.declared.Front.the-variants as Front
 use Rattle.sheet_line.specs.declared.Line.{Line}
@@ -21,3 +22,7 @@ takenAt w s at = takenBy w at (frontOf w (drop at s))
 -- the bytes of a line of the sheet `s`
 abbrev pub bytesOf : Bytes → Line → Bytes
 bytesOf s x = take (x .length) (drop (x .place) s)
+
+-- a line of the sheet `s` with its bytes
+abbrev pub lineOf : Bytes → Line → Rules.Line
+lineOf s x = line (x .kind) (x .a) (x .b) (x .c) (bytesOf s x)

@@ -18,8 +18,7 @@ use Rattle.rules.specs.Judge.{Verdict, accept, refuse, refuseIf}
 use Rattle.rules.specs.Directory.{Stored, Reading, entriesOf, nameAt, newEntry, lacksNaming, clashes, typeLine, entryLine, valueLine, step}
 use Rattle.rules.specs.Places.{schemaOf}
 use Rattle.sheet_line.specs.declared.Line.{Line}
-use Rattle.sheet_line.specs.Line.{bytesOf}
-use Rattle.sheet_line.specs.Laws.{lineOf}
+use Rattle.sheet_line.specs.Line.{bytesOf, lineOf}
 use Rattle.directory_schema.specs.Lines.{columnsFit}
 use Rattle.directory_schema.specs.Laws.Lines.{step-form, step-type, step-entry, step-value, other-columns}
 use Rattle.directory_ruling.specs.Mark.{Mark}

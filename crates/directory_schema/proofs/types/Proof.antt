@@ -1,14 +1,13 @@
 -- The types before the position are noted.
 use Rattle.directory_schema.proofs.Lines.{not-line}
 use Rattle.directory_schema.specs.Types.{TypesRead}
-use Rattle.directory_schema.specs.Laws.Types.{types-start, types-refused, types-room, types-on, types-stopped}
+use Rattle.directory_schema.specs.Laws.Types.{types-start, types-stopped, types-room, types-on}
 use Rattle.directory_schema.specs.Laws.Lines.{other-line}
 use Rattle.sheet_kind.specs.Laws.Kinds.{is-kind, not-kind}
 use Rattle.sheet_line.specs.Laws.{taken-fits-line}
 use borrow.Author.Tests.{not-true, not-false}
-use Rattle.rules.specs.Judge.{refuse}
 use lib.ListN.{length}
-use mathlib.Core.Path.{refl, sym, ap, _∙_}
+use mathlib.Core.Path.{refl, sym, _∙_}
 use native.Mathlib.Omega.{arith}
 use Prim.Native.Nat.{_-_, _≤_, _<_}
 use denote.Ref.{now}
@@ -35,7 +34,7 @@ returns-2 : tie.Need-returns-2 Inv-loop μ-loop
 returns-2 c = record { ended = λ z. record { last = c .before .before .before .before .before .before .loop .last; read = c .before .before .before .before .before .before .loop .inv; stands = sym (c .before .before .before .taken .given .1) ∙ c .before .before .before .before .before .take .ensures; other = other-line 1 _ (not-kind (c .before .is .ensures) (not-true _ (c .if1 .taken))) }; refused = λ z. absurd (z refl) }
 
 returns-3 : tie.Need-returns-3 Inv-loop μ-loop
-returns-3 c = types-stopped _ _ _ _ (c .refused .ensures) (c .before .if2 .taken) (types-refused (c .before .before .before .before .before .before .before .before .before .loop .inv) (sym (c .before .before .before .before .before .before .before .before .take .ensures) ∙ c .before .before .before .before .before .before .taken .given .1) (is-kind (c .before .before .before .before .is .ensures) (not-false _ (c .before .before .before .if1 .left))) (λ q. c .before .if2 .taken (c .before .before .type-line .ensures ∙ q)) ∙ ap refuse (sym (c .before .before .type-line .ensures)))
+returns-3 c = types-stopped (c .before .before .before .before .before .before .before .before .before .loop .inv) (sym (c .before .before .before .before .before .before .before .before .take .ensures) ∙ c .before .before .before .before .before .before .taken .given .1) (is-kind (c .before .before .before .before .is .ensures) (not-false _ (c .before .before .before .if1 .left))) _ (c .before .before .type-line .ensures) (c .before .if2 .taken) _ (c .refused .ensures)
 
 -- the line is taken: its type can be noted
 room : (c : tie.After-struct-known Inv-loop μ-loop) → let L = c .before .before .before .before .before .before .before .before .before .loop in let x = c .before .before .before .before .before .before .taken .given .0 .0 in (L .n < 64) × (x .a < 4294967296) × (x .b ≤ 2)

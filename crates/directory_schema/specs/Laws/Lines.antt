@@ -19,9 +19,9 @@ use Rattle.sheet_form.specs.Laws.Columns.{columns-in-form}
 use Rattle.sheet_line.specs.declared.Line.{Line}
 use Rattle.sheet_line.specs.declared.Taken.{Taken}
 use Rattle.sheet_line.specs.declared.Taken.the-variants as Taken
-use Rattle.sheet_line.specs.Line.{takenAt, bytesOf}
-use Rattle.sheet_line.specs.Laws.{lineOf, taken-lines}
-use Rattle.directory_schema.specs.Lines.{judgedFrom, columnsFit, Other}
+use Rattle.sheet_line.specs.Line.{takenAt, bytesOf, lineOf}
+use Rattle.sheet_line.specs.Laws.{taken-lines}
+use Rattle.directory_schema.specs.Lines.{judgedFrom, Passes, none, one, columnsFit, Other}
 
 pub other-line : (k : ℕ) (x : Line) → (x .kind ≡ k → ⊥) → Other k (Taken.Line x)
 other-line k x h y e q = h (let same : x .kind ≡ y .kind = cc in same ∙ q)
@@ -62,6 +62,11 @@ module _ (f : Format) (s : Bytes) (i : ℕ) where
   values-none (Taken.Line x) e h = rw (taken-lines (f .width) s i, ← e, ne-eqb (x .kind) 3 (h x refl))
   values-none Taken.NotInForm e h = rw (taken-lines (f .width) s i, ← e)
   values-none Taken.End e h = rw (taken-lines (f .width) s i, ← e)
+
+-- the lines that the judge takes
+pub passes-judged : {f : Format} {s : Bytes} {st next : Reading} {i j : ℕ} → Passes f s st i next j → judgedFrom f s st i ≡ judgedFrom f s next j
+passes-judged none = refl
+passes-judged {f = f} {s = s} (one {next = m} {more = n} {j = k} p e h) = passes-judged p ∙ judged-on f s k e m n h
 
 -- ---- one line by its kind
 

@@ -19,10 +19,10 @@ use Rattle.rules.specs.Directory.{Reading, lastType, typeLine, entriesOf, step,
 use Rattle.rules.specs.Places.{attributeOf, schemaOf}
 use Rattle.sheet_line.specs.declared.Line.{Line}
 use Rattle.sheet_line.specs.declared.Taken.the-variants as Taken
-use Rattle.sheet_line.specs.Line.{takenAt}
-use Rattle.sheet_line.specs.Laws.{lineOf, taken-fits-line}
-use Rattle.directory_schema.specs.Lines.{columnsFit}
-use Rattle.directory_schema.specs.Laws.Lines.{formed, judged-refused, judged-on, step-form, step-type, type-columns}
+use Rattle.sheet_line.specs.Line.{takenAt, lineOf}
+use Rattle.sheet_line.specs.Laws.{taken-fits-line}
+use Rattle.directory_schema.specs.Lines.{judgedFrom, none, one, columnsFit}
+use Rattle.directory_schema.specs.Laws.Lines.{formed, judged-refused, passes-judged, step-form, step-type, type-columns}
 use Rattle.directory_schema.specs.Laws.Schema.{rising-more, last-more, schema-more, attribute-of}
 use Rattle.directory_schema.specs.Laws.Zeros.{zeros, zeros-more}
 use Rattle.directory_schema.specs.Types.{typed, typeNumber, typeRefusal, typesRefused, TypesRead, TypesJudged}
@@ -30,7 +30,12 @@ use Rattle.directory_schema.specs.declared.TypeLines.{TypeLines}
 
 pub types-start : (f : Format) (s : Bytes) → TypesRead f s (replicate 64 0) 0 0 0
 unfolding schemaOf
-types-start f s = record { room = length-replicate {A = ℕ} 64 0; most = omega arith; rest = zeros 64 0; within = omega arith; rising = tt; newest = refl; same = refl }
+types-start f s = record { room = length-replicate {A = ℕ} 64 0; most = omega arith; rest = zeros 64 0; within = omega arith; rising = tt; newest = refl; passed = none }
+
+-- the sheet is judged as its rest is
+pub types-same : {f : Format} {s : Bytes} {schema : List ℕ} {n last i : ℕ} → TypesRead f s schema n last i
+    → fold (step (f .top)) finish 2 nothing (lines (f .width) s) ≡ judgedFrom f s (typed (take n schema)) i
+types-same t = passes-judged (t .passed)
 
 module _ {f : Format} {s : Bytes} {schema : List ℕ} {n last i : ℕ} (t : TypesRead f s schema n last i)
     {x : Line} (e : takenAt (f .width) s i ≡ Taken.Line x) (kind : x .kind ≡ 1) where
@@ -48,10 +53,10 @@ module _ {f : Format} {s : Bytes} {schema : List ℕ} {n last i : ℕ} (t : Type
   type-line form = step-type (f .top) (typed (take n schema)) (lineOf s x) form kind ∙ rw (← t .newest, count-is)
 
   refused-here : (m : ℕ) → step (f .top) (typed (take n schema)) (lineOf s x) ≡ refuse m → fold (step (f .top)) finish 2 nothing (lines (f .width) s) ≡ refuse m
-  refused-here m h = t .same ∙ judged-refused f s i e (typed (take n schema)) m h
+  refused-here m h = types-same t ∙ judged-refused f s i e (typed (take n schema)) m h
 
   -- a line that is refused
-  pub types-refused : (typeRefusal (f .top) x last n ≡ 0 → ⊥) → fold (step (f .top)) finish 2 nothing (lines (f .width) s) ≡ refuse (typeRefusal (f .top) x last n)
+  types-refused : (typeRefusal (f .top) x last n ≡ 0 → ⊥) → fold (step (f .top)) finish 2 nothing (lines (f .width) s) ≡ refuse (typeRefusal (f .top) x last n)
   unfolding typeRefusal
   types-refused = go (columnsFit (f .top) x) (leb (x .a) last) (leb 64 n) refl refl refl
     where
@@ -61,6 +66,28 @@ module _ {f : Format} {s : Bytes} {schema : List ℕ} {n last i : ℕ} (t : Type
       go true true full p q r z = refused-here 3 (type-line (sym (formed f s i e) ∙ p) ∙ rw q)
       go true false true p q r z = refused-here 3 (type-line (sym (formed f s i e) ∙ p) ∙ rw (q, r))
       go true false false p q r z = absurd (z refl)
+
+  -- the answer of a refusal
+  pub types-stopped : (m : ℕ) → m ≡ typeRefusal (f .top) x last n → (m ≡ 0 → ⊥) → (r : TypeLines) → r ≡ typesRefused m → TypesJudged f s r
+  types-stopped m e′ z r only = record {
+    ended = λ q. absurd (z (sym number ∙ q));
+    refused = λ q. record {
+      schema = schema;
+      count = n;
+      last = last;
+      at = i;
+      line = x;
+      read = t;
+      stands = e;
+      kind = kind;
+      number = number ∙ e′;
+      sheet = types-refused (λ w. z (e′ ∙ w)) ∙ ap refuse (sym (number ∙ e′));
+      only = only ∙ ap typesRefused (sym number);
+    };
+  }
+    where
+      number : r .refusal ≡ m
+      number = ap (λ (y : TypeLines). y .refusal) only
 
   -- a line that is taken
   record Taking : Type 0 where
@@ -96,16 +123,6 @@ module _ {f : Format} {s : Bytes} {schema : List ℕ} {n last i : ℕ} (t : Type
         within = taken-fits-line (f .width) s i e .within;
         rising = rw is (rising-more (record { number = 0; syntax = 0 }) (take n schema) (x .a * 4 + x .b) (t .rising) (rw (← t .newest, number) (g .above)));
         newest = sym (ap (λ (ks : List ℕ). lastType (schemaOf ks)) is ∙ ap (λ (k : AttributeType). k .number) (last-more (record { number = 0; syntax = 0 }) (take n schema) (x .a * 4 + x .b) ∙ type));
-        same =
-            t .same
-            ∙ judged-on f s i e (typed (take n schema)) more (type-line (sym (formed f s i e) ∙ g .form) ∙ rw (lt-leb (x .a) last (g .above), lt-leb 64 n (g .room)))
-            ∙ rw (is, schema-more (take n schema) (x .a * 4 + x .b), type);
+        passed = rw (is, schema-more (take n schema) (x .a * 4 + x .b), type)
+            (one {more = more} (t .passed) e (type-line (sym (formed f s i e) ∙ g .form) ∙ rw (lt-leb (x .a) last (g .above), lt-leb 64 n (g .room))));
       }
-
--- the answer of a refusal
-pub types-stopped : (f : Format) (s : Bytes) (r : TypeLines) (n : ℕ) → r ≡ typesRefused n → (n ≡ 0 → ⊥)
-    → fold (step (f .top)) finish 2 nothing (lines (f .width) s) ≡ refuse n → TypesJudged f s r
-types-stopped f s r n is z h = record { ended = λ q. absurd (z (sym number ∙ q)); refused = λ q. (is ∙ ap typesRefused (sym number), h ∙ ap refuse (sym number)) }
-  where
-    number : r .refusal ≡ n
-    number = ap (λ (t : TypeLines). t .refusal) is

@@ -11,7 +11,7 @@ returns : tie.Need-returns
 returns c = answer-long _ _ _ _ (c .blank .ensures, c .before .before .before .pre .1) (c .before .if1 .taken)
 
 returns-2 : tie.Need-returns-2
-returns-2 c = answer-refused _ _ (c .before .before .before .before .if1 .left) _ _ _ (c .blank2 .ensures, c .before .before .before .before .before .before .pre .1) (c .before .before .before .types .ensures .refused (c .before .if2 .taken) .1)
+returns-2 c = answer-refused _ _ (c .before .before .before .before .if1 .left) _ _ _ (c .blank2 .ensures, c .before .before .before .before .before .before .pre .1) (c .before .before .before .types .ensures .refused (c .before .if2 .taken) .sheet)
 
 part-entries-end : tie.Need-part-entries-end
 part-entries-end c = let t = c .before .before .before .before .before .types .ensures .ended (c .before .before .before .if2 .left) in omega (arith, t .read .most, t .read .room)

@@ -24,11 +24,12 @@ use Rattle.rules.specs.declared.Front.the-variants as Front
 use Rattle.sheet_line.specs.declared.Line.{Line}
 use Rattle.sheet_line.specs.declared.Taken.{Taken}
 use Rattle.sheet_line.specs.declared.Taken.the-variants as Taken
-use Rattle.sheet_line.specs.Line.{takenBy, takenAt, bytesOf}
-use Rattle.sheet_line.specs.Laws.{lineOf, Fits, taken-fits-line}
+use Rattle.sheet_line.specs.Line.{takenBy, takenAt, bytesOf, lineOf}
+use Rattle.sheet_line.specs.Laws.{Fits, taken-fits-line}
 use Rattle.directory_schema.specs.Lines.{judgedFrom}
-use Rattle.directory_schema.specs.Laws.Lines.{formed, judged-refused, judged-on, judged-broken, judged-end, entry-columns}
+use Rattle.directory_schema.specs.Laws.Lines.{formed, judged-refused, judged-on, judged-broken, judged-end, passes-judged, entry-columns}
 use Rattle.directory_schema.specs.Types.{TypesEnded}
+use Rattle.directory_schema.specs.Laws.Types.{types-same}
 use Rattle.directory_schema.specs.Laws.Zeros.{zeros, zeros-more}
 use Rattle.tables.specs.Book.{FIRST-ROWS}
 use Rattle.tables.specs.Held.{noneHeld}
@@ -238,7 +239,7 @@ module _ {f : Format} {s : Bytes} {ks : List ℕ} {notes : Notes} {depths table 
 
     pub standing-lost : {table′ held′ : List ℕ} {run : ValueLines} → ValuesJudged f s ks table′ held held′ e es d run → (run .refusal ≡ 0 → ⊥)
         → fold (step (f .top)) finish 2 nothing (lines (f .width) s) ≡ refuse (run .refusal)
-    standing-lost v q = st .judged ∙ judged-on f s i here (reading ks complete current) (reading ks es (some d)) (taking .1) ∙ v .refused q .number
+    standing-lost v q = st .judged ∙ judged-on f s i here (reading ks complete current) (reading ks es (some d)) (taking .1) ∙ v .refused q .sheet
 
     module _ {table′ held′ : List ℕ} {run : ValueLines} (v : ValuesEnded f s ks table′ held held′ e es d run) where
       abbrev vs : List Part
@@ -329,7 +330,7 @@ module _ {f : Format} {s : Bytes} {ks : List ℕ} {notes : Notes} {depths table 
         noted = next-noted;
         rows = held-more (st .rows) (withValues d vs) (v .read .rows) (st .counted .number) next-room;
         fewer = rw (getD-set-same (notes .first) (notes .count + 1) (run .to) 0 next-room) (v .read .fewer);
-        judged = st .judged ∙ judged-on f s i here (reading ks complete current) (reading ks es (some d)) (taking .1) ∙ v .read .judged;
+        judged = st .judged ∙ judged-on f s i here (reading ks complete current) (reading ks es (some d)) (taking .1) ∙ passes-judged (v .read .passed);
       }
 
 -- ---- no line stands there
@@ -447,5 +448,5 @@ opened f s held r b fits asked is t = rw is (record {
   within = t .read .within;
   stands = t .stands;
   other = t .other;
-  judged = t .read .same;
+  judged = types-same (t .read);
 })

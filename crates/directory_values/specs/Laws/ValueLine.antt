@@ -16,8 +16,7 @@ use Rattle.rules.specs.Judge.{accept, refuseIf}
 use Rattle.rules.specs.Directory.{Stored, valueLine, step, withValues}
 use Rattle.rules.specs.Places.{schemaOf}
 use Rattle.sheet_line.specs.declared.Line.{Line}
-use Rattle.sheet_line.specs.Line.{bytesOf}
-use Rattle.sheet_line.specs.Laws.{lineOf}
+use Rattle.sheet_line.specs.Line.{bytesOf, lineOf}
 use Rattle.directory_schema.specs.Lines.{columnsFit}
 use Rattle.directory_schema.specs.Laws.Lines.{step-form, step-value}
 use Rattle.directory_ruling.specs.Mark.{Mark}

@@ -17,9 +17,10 @@ use Rattle.rules.specs.Directory.{Stored, step, withValues}
 use Rattle.rules.specs.Places.{linesAt, valuesOf, schemaOf}
 use Rattle.sheet_line.specs.declared.Line.{Line}
 use Rattle.sheet_line.specs.declared.Taken.the-variants as Taken
-use Rattle.sheet_line.specs.Line.{takenAt, bytesOf}
-use Rattle.sheet_line.specs.Laws.{lineOf, taken-fits-line}
-use Rattle.directory_schema.specs.Laws.Lines.{formed, judged-refused, judged-on, values-on, values-none}
+use Rattle.sheet_line.specs.Line.{takenAt, bytesOf, lineOf}
+use Rattle.sheet_line.specs.Laws.{taken-fits-line}
+use Rattle.directory_schema.specs.Laws.Lines.{formed, judged-refused, passes-judged, values-on, values-none}
+use Rattle.directory_schema.specs.Lines.{judgedFrom, none, one}
 use Rattle.directory_schema.specs.Schema.{rankOf}
 use Rattle.directory_schema.specs.Laws.Schema.{allowed-known}
 use Rattle.tables.specs.Held.{ROWS, HELD}
@@ -35,7 +36,7 @@ use Rattle.directory_values.specs.Rows.{written}
 use Rattle.directory_values.specs.Laws.Rows.{rows-start, rows-more}
 use Rattle.directory_values.specs.declared.Current.{Current}
 use Rattle.directory_values.specs.declared.ValueLines.{ValueLines}
-use Rattle.directory_values.specs.Values.{Begun, judgedWith, valuesRefused, ValuesRead, ValuesEnded, ValuesJudged}
+use Rattle.directory_values.specs.Values.{Begun, readingWith, valuesRefused, ValuesRead, ValuesEnded, ValuesJudged}
 
 pub going-start : {f : Format} {s : Bytes} {ks table held : List ℕ} {n : ℕ} {e : Current} {complete : List Stored} {d : Stored} {ms : List Mark}
     → Begun f s ks table held n e complete d ms → ValuesRead f s ks table held held n false 0 0 (e .line .next) (e .first) e complete d [] ms
@@ -51,7 +52,7 @@ going-start {s = s} {ks = ks} {held = held} {e = e} b = record {
   named = b .named;
   valued = b .valued;
   sofar = refl;
-  judged = refl;
+  passed = none;
   rows = rows-start ks s held (e .first) (b .rows) (omega (arith, b .fewer, b .count, b .ready .room));
   fewer = b .fewer;
 }
@@ -71,15 +72,15 @@ module _ {f : Format} {s : Bytes} {ks table₀ before table held : List ℕ} {n�
   pub going-refused : (r .refusal ≡ 0 → ⊥) → (v : ValueLines) → v ≡ valuesRefused (r .refusal) → ValuesJudged f s ks table before held e complete d v
   going-refused z v only = record {
     ended = λ q. absurd (z (sym number ∙ q));
-    refused = λ q. record { values = vs; all = ms; marks = n; found = found; last = last; from = from; at = i; to = to; read = g; number = go outcome ∙ ap refuse (sym number); only = only ∙ ap valuesRefused (sym number) };
+    refused = λ q. record { values = vs; all = ms; marks = n; found = found; last = last; from = from; at = i; to = to; line = x; read = g; stands = took; kind = kind; number = number ∙ ap (λ (y : Ruling). y .refusal) is; sheet = go outcome ∙ ap refuse (sym number); only = only ∙ ap valuesRefused (sym number) };
   }
     where
       number : v .refusal ≡ r .refusal
       number = ap (λ (y : ValueLines). y .refusal) only
 
       go : ValueOutcome (f .top) s ks table (e .number) last complete d vs x (valueRuling (f .top) (e .number) last x s ks table ms)
-          → judgedWith f s ks complete d [] (e .line .next) ≡ refuse (r .refusal)
-      go (inl q) = g .judged ∙ judged-refused f s i took _ _ (q .is) ∙ ap (λ (y : Ruling). refuse (y .refusal)) (sym is)
+          → judgedFrom f s (readingWith ks complete d []) (e .line .next) ≡ refuse (r .refusal)
+      go (inl q) = passes-judged (g .passed) ∙ judged-refused f s i took _ _ (q .is) ∙ ap (λ (y : Ruling). refuse (y .refusal)) (sym is)
       go (inr q) = absurd (z (ap (λ (y : Ruling). y .refusal) (is ∙ q .0 .ruling)))
 
   -- a line that was taken
@@ -140,7 +141,7 @@ module _ {f : Format} {s : Bytes} {ks table₀ before table held : List ℕ} {n�
           named = named-value ks (ready .rising) (ready .few) s (markOf ks owner (x .a) (x .place) (x .length)) owner (x .a) here refl refl (t .fit) (g .named) (g .valued) (ap ownerOf (b .number));
           valued = valued-more ks (ready .rising) (ready .few) s (markOf ks owner (x .a) (x .place) (x .length)) owner (x .a) here refl refl (t .fit) (g .named) (g .valued) (ap ownerOf (b .number));
           sofar = g .sofar ∙ ap (λ (y : List Part). vs ++ y) (values-on f s i took kind) ∙ sym (append-assoc vs (broughtBy s x ∷ []) _);
-          judged = g .judged ∙ judged-on f s i took _ _ (taking z .1);
+          passed = one (g .passed) took (taking z .1);
           rows = rw row (rows-more (g .rows) (broughtBy s x) (r .rank) (x .place) (x .length) (room .4) (room .1) (rw rank (allowed-known 0 ks (ready .rising) (x .a) here (t .fit) .number)) (room .2) refl);
           fewer = omega (arith, g .fewer);
         }

@@ -12,8 +12,7 @@ use Rattle.rules.specs.Request.{filters, filterOf, filter}
 use Rattle.rules.specs.Places.{linesAt}
 use Rattle.request_piece.specs.Pieces.{piecesAt}
 use Rattle.request_piece.specs.Laws.Pieces.{Follows, follows-by, follows-map, follows-then, filter-line-at, piecesReader, pieces-follow}
-use Rattle.sheet_line.specs.Line.{bytesOf}
-use Rattle.sheet_line.specs.Laws.{lineOf}
+use Rattle.sheet_line.specs.Line.{bytesOf, lineOf}
 use Rattle.sheet_line.specs.declared.Line.{Line}
 use Rattle.sheet_due.specs.Lines.{seenAt, misplacedBy}
 use Rattle.sheet_due.specs.Laws.Lines.{onSeen, misplaced-some, misplaced-at}

@@ -12,7 +12,7 @@ use Rattle.rules.specs.Value.{Piece}
 use Rattle.rules.specs.Judge.{Verdict, refuse, refuseIf, Grammar, misplaced}
 use Rattle.rules.specs.Request.{filterLine, pieces}
 use Rattle.rules.specs.Places.{linesAt}
-use Rattle.sheet_line.specs.Laws.{lineOf}
+use Rattle.sheet_line.specs.Line.{lineOf}
 use Rattle.sheet_line.specs.declared.Line as Sheets
 use Rattle.sheet_due.specs.Lines.{seenAt}
 use Rattle.sheet_due.specs.Laws.Lines.{onSeen, by-seen}

@@ -12,8 +12,7 @@ use Rattle.rules.specs.Filter.{Filter, and, none}
 use Rattle.rules.specs.Judge.{Verdict, accept, refuse, Grammar, due}
 use Rattle.rules.specs.Request.{Selection, Search, Operation, read, compare, list, search, selection, operation, filter}
 use Rattle.rules.specs.Places.{linesAt}
-use Rattle.sheet_line.specs.Line.{bytesOf}
-use Rattle.sheet_line.specs.Laws.{lineOf}
+use Rattle.sheet_line.specs.Line.{bytesOf, lineOf}
 use Rattle.sheet_line.specs.declared.Line.{Line}
 use Rattle.sheet_due.specs.Lines.{reachedAt, afterDue, afterGroup}
 use Rattle.sheet_due.specs.Laws.Lines.{after, due-is, group-is, took, took-columns, took-group, followers, first-types}

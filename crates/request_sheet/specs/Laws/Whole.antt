@@ -12,7 +12,7 @@ use Rattle.rules.specs.Judge.{Verdict, accept, refuse, refusalOf, refuseIf, Gra
 use Rattle.rules.specs.Laws.Judge.{refused-not, accepted-is}
 use Rattle.rules.specs.Request.{Operation, Request, requestGrammar, operation, request, requestOf}
 use Rattle.rules.specs.Places.{linesAt}
-use Rattle.sheet_line.specs.Laws.{lineOf}
+use Rattle.sheet_line.specs.Line.{lineOf}
 use Rattle.sheet_line.specs.declared.Line.{Line}
 use Rattle.sheet_due.specs.Lines.{seenAt, reachedAt, afterGroup}
 use Rattle.sheet_due.specs.Laws.Lines.{onSeen, by-seen, after, group-is, followers, first-parts, name-length, took-columns, TookGroup, took-group}

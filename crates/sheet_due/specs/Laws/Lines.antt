@@ -16,8 +16,8 @@ use Rattle.rules.specs.Judge.{Verdict, refuse, refuseIf, Grammar, misplaced, du
 use Rattle.rules.specs.Places.{linesAt, partsOf, typesOf}
 use Rattle.sheet_form.specs.Columns.{inFormOf, columnsIn}
 use Rattle.sheet_form.specs.Laws.Columns.{columns-in-form}
-use Rattle.sheet_line.specs.Line.{takenAt}
-use Rattle.sheet_line.specs.Laws.{lineOf, linesBy, Fits, taken-lines, taken-fits-line}
+use Rattle.sheet_line.specs.Line.{takenAt, lineOf}
+use Rattle.sheet_line.specs.Laws.{linesBy, Fits, taken-lines, taken-fits-line}
 use Rattle.sheet_line.specs.declared.Line.{Line}
 use Rattle.sheet_line.specs.declared.Taken.{Taken}
 use Rattle.sheet_line.specs.declared.Taken.the-variants as Taken

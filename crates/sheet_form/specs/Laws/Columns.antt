@@ -11,8 +11,8 @@ use Rattle.rules.specs.Sheet.{Bytes, line}
 use Rattle.rules.specs.Columns.{Range, unnamed, exactly, between, free, inRange, Form, form, takes, inForm}
 use Rattle.sheet_line.specs.declared.Line.{Line}
 use Rattle.sheet_line.specs.declared.Taken.the-variants as Taken
-use Rattle.sheet_line.specs.Line.{takenAt, bytesOf}
-use Rattle.sheet_line.specs.Laws.{lineOf, taken-fits-line, bytes-length}
+use Rattle.sheet_line.specs.Line.{takenAt, bytesOf, lineOf}
+use Rattle.sheet_line.specs.Laws.{taken-fits-line, bytes-length}
 use Rattle.sheet_form.specs.Columns.{fits, inFormOf, columnsIn}
 
 pub in-form : (forms : List Form) (k a b c : ℕ) (bytes : Bytes) {l : ℕ} → length bytes ≡ l → inFormOf forms k a b c l ≡ inForm forms (line k a b c bytes)
