@@ -1,5 +1,5 @@
 pub mod Row
 pub mod Enter
 pub mod Noted
-pub mod Reached
+pub mod Sources
 pub mod Laws

@@ -10,8 +10,8 @@ use Rattle.name.specs.Schema.{equalBy}
 use Rattle.tables.specs.Sets.{inRow, firstSlot, secondSlot}
 
 -- the items' values are parts of the permission sheet
-abbrev pub Within : List ℕ → Bytes → Type 0
-Within sets p = (j : ℕ) → j < 256 → getD sets (1848 + j) 0 + getD sets (2104 + j) 0 ≤ length p
+abbrev pub ValuesWithin : List ℕ → Bytes → Type 0
+ValuesWithin sets p = (j : ℕ) → j < 256 → getD sets (1848 + j) 0 + getD sets (2104 + j) 0 ≤ length p
 
 -- the value of the item at place `j`
 abbrev pub valueAt : List ℕ → Bytes → ℕ → Bytes

@@ -16,11 +16,11 @@ ghost use mathlib.Core.Bool.{_&&_, _||_};
 ghost use Prim.Native.Nat.{_+_, _≤_, _<_};
 ghost use Rattle.access_set.specs.Member.{member};
 ghost use Rattle.access_may.specs.Decided.{Decided, First};
-ghost use Rattle.access_may.specs.Single.{Within, agreesAt, sameAt};
+ghost use Rattle.access_may.specs.Single.{ValuesWithin, agreesAt, sameAt};
 
 // Is the value of the item at place `i` the value `v`, by digest and bytes?
 fn agrees(sets: &[u64; SETS], p: &[u8], syntax: u64, digest: u64, v: &[u8], i: usize) -> bool
-    requires { ⌜ (i < 256) × Within (now sets) (now p) ⌝ }
+    requires { ⌜ (i < 256) × ValuesWithin (now sets) (now p) ⌝ }
     ensures { λ r. ⌜ r ≡ agreesAt (now (sets .entry)) (now (p .entry)) syntax digest (now (v .entry)) i ⌝ }
 {
     if sets[DIGEST + i] != digest {
@@ -51,7 +51,7 @@ fn first_same(
     digest: u64,
     v: &[u8],
 ) -> usize
-    requires { ⌜ (end ≤ 256) × Within (now sets) (now p) ⌝ }
+    requires { ⌜ (end ≤ 256) × ValuesWithin (now sets) (now p) ⌝ }
     ensures { λ r. ⌜ First (λ j. member single j && agreesAt (now (sets .entry)) (now (p .entry)) syntax digest (now (v .entry)) j) end r ⌝ }
 {
     let mut rest = single;
@@ -75,7 +75,7 @@ pub(crate) fn decided_value(
     syntax: u64,
     v: &[u8],
 ) -> bool
-    requires { ⌜ Within (now sets) (now p) ⌝ }
+    requires { ⌜ ValuesWithin (now sets) (now p) ⌝ }
     ensures { λ r. ⌜ Decided (now (sets .entry)) (λ j. member all j || member single j && sameAt (now (sets .entry)) (now (p .entry)) syntax (now (v .entry)) j) r ⌝ }
 {
     let end = place(all);

@@ -13,7 +13,7 @@ ghost use Rattle.rules.specs.Lists.{any};
 ghost use Rattle.rules.specs.Places.{linesAt, typesOf};
 ghost use Rattle.rules.specs.Request.{Selection};
 ghost use Rattle.access_set.specs.Member.{bit};
-ghost use Rattle.tables.specs.Book.{Fits, width, schema};
+ghost use Rattle.tables.specs.Book.{BookFits, width, schema};
 ghost use Rattle.tables.specs.Held.{typeAt, Distinct};
 ghost use Rattle.answer_plan.specs.Choice.{Chooses};
 ghost use Rattle.answer_choice.specs.Selected.{Selects};
@@ -35,7 +35,7 @@ fn with_type(types: &[u64], ranks: u64, t: u64) -> u64
 
 // The ranks of the types of the `n` K 13 lines at position `i` of the request.
 fn ranks_listed(book: &[u64; BOOK], q: &[u8], i: usize, n: usize) -> u64
-    requires { ⌜ Fits (now book) × Distinct (schema (now book)) ⌝ }
+    requires { ⌜ BookFits (now book) × Distinct (schema (now book)) ⌝ }
     ensures { λ r. ⌜ ((k : ℕ) → k < length (schema (now (book .entry))) → bit r k ≡ any (eqb (typeAt (schema (now (book .entry))) k)) (typesOf n (linesAt (width (now (book .entry))) (now (q .entry)) i))) ⌝ }
 {
     let types = tables::book::schema(book);
@@ -63,7 +63,7 @@ fn ranks_listed(book: &[u64; BOOK], q: &[u8], i: usize, n: usize) -> u64
 
 // What the request selects.
 pub fn choice_of(book: &[u64; BOOK], q: &[u8], asked: Asked) -> Choice
-    requires { ⌜ Fits (now book) × Distinct (schema (now book)) ⌝ }
+    requires { ⌜ BookFits (now book) × Distinct (schema (now book)) ⌝ }
     ensures { λ r. ⌜ ((s : Selection) → Selects (width (now (book .entry))) (now (q .entry)) s asked → Chooses (schema (now (book .entry))) s r) ⌝ }
 {
     if asked.listed {

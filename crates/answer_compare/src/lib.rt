@@ -42,7 +42,7 @@ ghost use Rattle.tables.specs.Book.{types, entries, schema, firstAt};
 ghost use Rattle.tables.specs.Held.{rankAt, bytesAt, typeAt};
 ghost use Rattle.tables.specs.World.{World, Known};
 ghost use Rattle.answer_plan.specs.Plan.{planned};
-ghost use Rattle.answer_plan.specs.Sound.{Base, Numbered, Sound};
+ghost use Rattle.answer_plan.specs.Sound.{Base, Numbered, SoundPlan};
 ghost use Rattle.answer_compare.specs.Compare.{counts, compareOutcome, comparePlan};
 
 // The first row of the type `t` among the values of the entry of index `k`; the row after the last if it does not hold the type.
@@ -167,7 +167,7 @@ fn compare_open(
     v: &[u8],
 ) -> Plan
     requires { ⌜ Known (now d) (now p) (now book) (now held) (now sets) × (k < entries (now book)) ⌝ }
-    ensures { λ r. ⌜ ((hits : List ℕ) → Sound (entries (now (book .entry))) r hits) × ((σ : Setting) (es : List Stored) (s : Selection) (hits : List ℕ) → World σ es (now (d .entry)) (now (p .entry)) (now (book .entry)) (now (held .entry)) (now (sets .entry)) → planned σ es s r hits ≡ Answer.compareEntry σ t (now (v .entry)) (entryOf (getD es k blank))) ⌝ }
+    ensures { λ r. ⌜ ((hits : List ℕ) → SoundPlan (entries (now (book .entry))) r hits) × ((σ : Setting) (es : List Stored) (s : Selection) (hits : List ℕ) → World σ es (now (d .entry)) (now (p .entry)) (now (book .entry)) (now (held .entry)) (now (sets .entry)) → planned σ es s r hits ≡ Answer.compareEntry σ t (now (v .entry)) (entryOf (getD es k blank))) ⌝ }
 {
     let i = row_of(book, held, k, t);
     if book[FIRST + 1 + k] as usize <= i {
@@ -194,7 +194,7 @@ fn compare_entry(
     missing: usize,
 ) -> Plan
     requires { ⌜ Known (now d) (now p) (now book) (now held) (now sets) × (b ≤ entries (now book)) × (missing ≤ entries (now book)) ⌝ }
-    ensures { λ r. ⌜ ((hits : List ℕ) → Sound (entries (now (book .entry))) r hits) × ((σ : Setting) (es : List Stored) (n : Name) (base : Found) (s : Selection) (hits : List ℕ) → World σ es (now (d .entry)) (now (p .entry)) (now (book .entry)) (now (held .entry)) (now (sets .entry)) → Base σ es n base missing → base ≡ At b → planned σ es s r hits ≡ Answer.answer σ (map entryOf es) n (Request.compare t (now (v .entry)))) ⌝ }
+    ensures { λ r. ⌜ ((hits : List ℕ) → SoundPlan (entries (now (book .entry))) r hits) × ((σ : Setting) (es : List Stored) (n : Name) (base : Found) (s : Selection) (hits : List ℕ) → World σ es (now (d .entry)) (now (p .entry)) (now (book .entry)) (now (held .entry)) (now (sets .entry)) → Base σ es n base missing → base ≡ At b → planned σ es s r hits ≡ Answer.answer σ (map entryOf es) n (Request.compare t (now (v .entry)))) ⌝ }
 {
     let opened = opening(sets, b, READ);
     if !is_result(opened) {
@@ -218,7 +218,7 @@ pub fn compare(
     target: Target,
 ) -> Plan
     requires { ⌜ Known (now d) (now p) (now book) (now held) (now sets) × Numbered (entries (now book)) (target .base) (target .missing) ⌝ }
-    ensures { λ r. ⌜ ((hits : List ℕ) → Sound (entries (now (book .entry))) r hits) × ((σ : Setting) (es : List Stored) (n : Name) (s : Selection) (hits : List ℕ) → World σ es (now (d .entry)) (now (p .entry)) (now (book .entry)) (now (held .entry)) (now (sets .entry)) → Base σ es n (target .base) (target .missing) → planned σ es s r hits ≡ Answer.answer σ (map entryOf es) n (Request.compare t (now (v .entry)))) ⌝ }
+    ensures { λ r. ⌜ ((hits : List ℕ) → SoundPlan (entries (now (book .entry))) r hits) × ((σ : Setting) (es : List Stored) (n : Name) (s : Selection) (hits : List ℕ) → World σ es (now (d .entry)) (now (p .entry)) (now (book .entry)) (now (held .entry)) (now (sets .entry)) → Base σ es n (target .base) (target .missing) → planned σ es s r hits ≡ Answer.answer σ (map entryOf es) n (Request.compare t (now (v .entry)))) ⌝ }
 {
     let base = target.base;
     match base {

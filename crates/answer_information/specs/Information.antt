@@ -21,14 +21,14 @@ use Rattle.answer_information.specs.declared.values.Written.{Written}
 -- ---- rows
 
 -- `r` is a row after those from row `i` on that have one rank, none of them beyond `end`
-pub record Alike (held : List ℕ) (i end r : ℕ) : Type 0 where
+pub record OneRank (held : List ℕ) (i end r : ℕ) : Type 0 where
   pub after : i < r
   pub within : r ≤ end
   pub same : (j : ℕ) → i ≤ j → j < r → rankAt held j ≡ rankAt held i
 
 -- .. and it is the first with another rank, or the end
 pub record EndsAt (held : List ℕ) (i end r : ℕ) : Type 0 where
-  pub alike : Alike held i end r
+  pub alike : OneRank held i end r
   pub ends : r < end → rankAt held r ≡ rankAt held i → ⊥
 
 -- the rows of a run are rows of entry number `e`, and its rank is that of a type

@@ -1,6 +1,6 @@
 // The matched name of a request: the longest proper beginning that names an entry on which DiscloseOnError is granted.
 use access_may::may_entry;
-use directory_lookup::find::Step;
+use directory_lookup::find::Descent;
 use directory_lookup::find::down;
 use tables::book::BOOK;
 use tables::sets::DISCLOSE_ON_ERROR;
@@ -51,16 +51,16 @@ pub fn matched(
     let mut j = place;
     while 0 < left {
         match down(book, d, from, q, j) {
-            Step::To { number, next } => {
+            Descent::To { number, next } => {
                 last = disclosed(sets, number, last);
                 from = number;
                 j = next;
                 left -= 1;
             }
-            Step::Lost => {
+            Descent::Lost => {
                 return last;
             }
-            Step::Ended => {
+            Descent::Ended => {
                 return last;
             }
         }

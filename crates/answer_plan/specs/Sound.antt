@@ -23,7 +23,7 @@ pub record Numbered (count : ℕ) (base : Found) (missing : ℕ) : Type 0 where
   pub matched : missing ≤ count
 
 -- the numbers of a plan are numbers of the `count` entries
-pub record Sound (count : ℕ) (r : Plan) (hs : List ℕ) : Type 0 where
+pub record SoundPlan (count : ℕ) (r : Plan) (hs : List ℕ) : Type 0 where
   pub name : r .name ≤ count
   pub entry : r .entry ≤ count
   pub shown : r .shown ≤ length hs

@@ -7,7 +7,7 @@ use answer_plan::Plan;
 use answer_plan::absent;
 use directory_lookup::climb::climbs;
 use filter_item::mask::mask;
-use filter_lines::lines::ROWS;
+use filter_lines::lines::FILTER;
 use filter_lines::lines::note;
 use filter_tree::tree::matches;
 use rules::Found;
@@ -41,9 +41,9 @@ ghost use Rattle.tables.specs.Book.{width, entries};
 ghost use Rattle.tables.specs.Book as Book;
 ghost use Rattle.tables.specs.World.{World, Entries, Known};
 ghost use Rattle.answer_plan.specs.Plan.{planned};
-ghost use Rattle.answer_plan.specs.Sound.{Base, Numbered, Sound};
+ghost use Rattle.answer_plan.specs.Sound.{Base, Numbered, SoundPlan};
 ghost use Rattle.answer_entry.specs.Passing.{Indices, passing, over};
-ghost use Rattle.filter_lines.specs.Lines.{LINES, Lines, Typed, positionAt};
+ghost use Rattle.filter_lines.specs.Lines.{LINES, LinesNoted, Typed, positionAt};
 ghost use Rattle.filter_item.specs.Mask.{Masks};
 ghost use Rattle.answer_search.specs.Hits.{foundAt, searchFound};
 ghost use Rattle.answer_search.specs.Query.{Seeks};
@@ -56,7 +56,7 @@ pub struct Query {
 }
 
 // Where it is sought: the base's number, the subset, and of the filter how many lines it has and the ranks of its types.
-pub struct Scope {
+pub struct Extent {
     pub base: usize,
     pub subset: u64,
     pub lines: usize,
@@ -85,11 +85,11 @@ fn found_at(
     d: &[u8],
     p: &[u8],
     q: &[u8],
-    rows: &[u64; ROWS],
-    scope: Scope,
+    rows: &[u64; FILTER],
+    scope: Extent,
     k: usize,
 ) -> bool
-    requires { ⌜ Known (now d) (now p) (now book) (now held) (now sets) × (k < entries (now book)) × Lines (width (now book)) (now q) (now rows) (scope .lines) × Typed (Book.schema (now book)) (now rows) (scope .lines) × Masks (now rows) (scope .lines) (scope .ranks) ⌝ }
+    requires { ⌜ Known (now d) (now p) (now book) (now held) (now sets) × (k < entries (now book)) × LinesNoted (width (now book)) (now q) (now rows) (scope .lines) × Typed (Book.schema (now book)) (now rows) (scope .lines) × Masks (now rows) (scope .lines) (scope .ranks) ⌝ }
     ensures { λ r. ⌜ ((σ : Setting) (es : List Stored) (g : Grammar) (f : Filter) → World σ es (now (d .entry)) (now (p .entry)) (now (book .entry)) (now (held .entry)) (now (sets .entry)) → Request.filter g 16 128 (linesAt (width (now (book .entry))) (now (q .entry)) (positionAt (now (rows .entry)) 0)) (λ f left rest. accept f) ≡ accept f → r ≡ foundAt σ es (scope .base) (scope .subset) f k) ⌝ }
 {
     if !within(book, scope.base, scope.subset, k) {
@@ -109,11 +109,11 @@ fn found(
     d: &[u8],
     p: &[u8],
     q: &[u8],
-    rows: &[u64; ROWS],
-    scope: Scope,
+    rows: &[u64; FILTER],
+    scope: Extent,
     hits: &mut [usize; 256],
 ) -> usize
-    requires { ⌜ Known (now d) (now p) (now book) (now held) (now sets) × (length (now hits) ≡ 256) × Lines (width (now book)) (now q) (now rows) (scope .lines) × Typed (Book.schema (now book)) (now rows) (scope .lines) × Masks (now rows) (scope .lines) (scope .ranks) ⌝ }
+    requires { ⌜ Known (now d) (now p) (now book) (now held) (now sets) × (length (now hits) ≡ 256) × LinesNoted (width (now book)) (now q) (now rows) (scope .lines) × Typed (Book.schema (now book)) (now rows) (scope .lines) × Masks (now rows) (scope .lines) (scope .ranks) ⌝ }
     ensures { λ n. ⌜ Indices (entries (now (book .entry))) n (now (hits .entry)) (now (hits .exit)) × ((σ : Setting) (es : List Stored) (g : Grammar) (f : Filter) → World σ es (now (d .entry)) (now (p .entry)) (now (book .entry)) (now (held .entry)) (now (sets .entry)) → Request.filter g 16 128 (linesAt (width (now (book .entry))) (now (q .entry)) (positionAt (now (rows .entry)) 0)) (λ f left rest. accept f) ≡ accept f → take n (now (hits .exit)) ≡ passing (foundAt σ es (scope .base) (scope .subset) f) (length es)) ⌝ }
 {
     let count = book[ENTRIES] as usize;
@@ -142,13 +142,13 @@ pub fn search(
     hits: &mut [usize; 256],
 ) -> Plan
     requires { ⌜ Known (now d) (now p) (now book) (now held) (now sets) × Numbered (entries (now book)) (target .base) (target .missing) × (length (now hits) ≡ 256) × (length (now q) ≤ (5 * width (now book) + 1) * LINES) ⌝ }
-    ensures { λ r. ⌜ Sound (entries (now (book .entry))) r (now (hits .exit)) × ((σ : Setting) (es : List Stored) (g : Grammar) (n : Name) (s : Search) → World σ es (now (d .entry)) (now (p .entry)) (now (book .entry)) (now (held .entry)) (now (sets .entry)) → Base σ es n (target .base) (target .missing) → Seeks g (width (now (book .entry))) (now (q .entry)) s query → planned σ es (s .selection) r (now (hits .exit)) ≡ answer σ (map entryOf es) n (Request.search s)) × ((σ : Setting) (es : List Stored) (g : Grammar) (s : Search) → World σ es (now (d .entry)) (now (p .entry)) (now (book .entry)) (now (held .entry)) (now (sets .entry)) → Seeks g (width (now (book .entry))) (now (q .entry)) s query → now (hits .exit) ≡ over (searchFound σ es (s .subset) (s .filter) (target .base)) (now (hits .entry))) ⌝ }
+    ensures { λ r. ⌜ SoundPlan (entries (now (book .entry))) r (now (hits .exit)) × ((σ : Setting) (es : List Stored) (g : Grammar) (n : Name) (s : Search) → World σ es (now (d .entry)) (now (p .entry)) (now (book .entry)) (now (held .entry)) (now (sets .entry)) → Base σ es n (target .base) (target .missing) → Seeks g (width (now (book .entry))) (now (q .entry)) s query → planned σ es (s .selection) r (now (hits .exit)) ≡ answer σ (map entryOf es) n (Request.search s)) × ((σ : Setting) (es : List Stored) (g : Grammar) (s : Search) → World σ es (now (d .entry)) (now (p .entry)) (now (book .entry)) (now (held .entry)) (now (sets .entry)) → Seeks g (width (now (book .entry))) (now (q .entry)) s query → now (hits .exit) ≡ over (searchFound σ es (s .subset) (s .filter) (target .base)) (now (hits .entry))) ⌝ }
 {
     let base = target.base;
     let Found::At(b) = base else {
         return absent(operation::SEARCH, target.missing);
     };
-    let mut rows: [u64; ROWS] = [0; ROWS];
+    let mut rows: [u64; FILTER] = [0; FILTER];
     let lines = note(
         schema(book),
         book[WIDTH] as usize,
@@ -156,7 +156,7 @@ pub fn search(
         query.filter,
         &mut rows,
     );
-    let scope = Scope {
+    let scope = Extent {
         base: b,
         subset: query.subset,
         lines,

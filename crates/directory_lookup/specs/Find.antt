@@ -12,8 +12,8 @@ use Rattle.sheet_line.specs.Line.{bytesOf}
 use Rattle.sheet_line.specs.declared.Taken.{Taken}
 use Rattle.sheet_line.specs.declared.Taken.the-variants as Taken
 use Rattle.tables.specs.Book.{parentAt, namingAt, namingOf}
-use Rattle.directory_lookup.specs.declared.find.Step.{Step}
-use Rattle.directory_lookup.specs.declared.find.Step.the-variants.{To, Lost, Ended}
+use Rattle.directory_lookup.specs.declared.find.Descent.{Descent}
+use Rattle.directory_lookup.specs.declared.find.Descent.the-variants.{To, Lost, Ended}
 use Rattle.rules.specs.declared.Found.{Found}
 use Rattle.rules.specs.declared.Found.the-variants.{At, Nothing}
 
@@ -31,18 +31,18 @@ isChild book d k parent t s v = eqb (parentAt book k) parent && (eqb t (namingAt
 -- ---- one part down
 
 -- a step leads to a number of at most `n`
-abbrev pub Within : ℕ → Step → Type 0
-Within n (To k next) = k ≤ n
-Within n Lost = Unit {0}
-Within n Ended = Unit {0}
+abbrev pub LeadsWithin : ℕ → Descent → Type 0
+LeadsWithin n (To k next) = k ≤ n
+LeadsWithin n Lost = Unit {0}
+LeadsWithin n Ended = Unit {0}
 
 -- to the child found
-abbrev pub stepFound : Found → ℕ → Step
+abbrev pub stepFound : Found → ℕ → Descent
 stepFound (At k) next = To k next
 stepFound Nothing next = Lost
 
 -- from entry `from` by what was taken from the sheet `s`
-unfoldable pub stepOf : Schema → List Stored → ℕ → Bytes → Taken → Step
+unfoldable pub stepOf : Schema → List Stored → ℕ → Bytes → Taken → Descent
 stepOf S es from s (Taken.Line x) = stepFound (childFrom S from (part (x .a) (bytesOf s x)) es 0) (x .next)
 stepOf S es from s Taken.NotInForm = Ended
 stepOf S es from s Taken.End = Ended

@@ -25,10 +25,10 @@ ghost use Rattle.name.specs.Schema.{syntaxIn};
 ghost use Rattle.tables.specs.Book as Book;
 ghost use Rattle.tables.specs.Book.{entries, width};
 ghost use Rattle.tables.specs.World.{Entries, Listed};
-ghost use Rattle.directory_lookup.specs.Find.{UpTo, Within, isChild, stepOf};
+ghost use Rattle.directory_lookup.specs.Find.{UpTo, LeadsWithin, isChild, stepOf};
 
 // One part of a name down from an entry: the child's number and the position of the next part; no such child; or no part.
-pub enum Step {
+pub enum Descent {
     To { number: usize, next: usize },
     Lost,
     Ended,
@@ -80,20 +80,20 @@ pub fn child(book: &[u64; BOOK], d: &[u8], parent: usize, t: u64, v: &[u8]) -> F
 }
 
 // One part down from entry `from`, by the K 9 line at position `j` of the sheet `s`.
-pub fn down(book: &[u64; BOOK], d: &[u8], from: usize, s: &[u8], j: usize) -> Step
+pub fn down(book: &[u64; BOOK], d: &[u8], from: usize, s: &[u8], j: usize) -> Descent
     requires { ⌜ Listed (now d) (now book) ⌝ }
-    ensures { λ r. ⌜ Within (entries (now (book .entry))) r × ((σ : Setting) (es : List Stored) (held : List ℕ) → Entries σ es (now (d .entry)) (now (book .entry)) held → r ≡ stepOf (σ .schema) es from (now (s .entry)) (takenAt (width (now (book .entry))) (now (s .entry)) j)) ⌝ }
+    ensures { λ r. ⌜ LeadsWithin (entries (now (book .entry))) r × ((σ : Setting) (es : List Stored) (held : List ℕ) → Entries σ es (now (d .entry)) (now (book .entry)) held → r ≡ stepOf (σ .schema) es from (now (s .entry)) (takenAt (width (now (book .entry))) (now (s .entry)) j)) ⌝ }
 {
     match sheet_line::take(s, j, book[WIDTH] as usize) {
         Taken::Line(x) => match child(book, d, from, x.a, sheet_line::bytes(s, x)) {
-            Found::At(number) => Step::To {
+            Found::At(number) => Descent::To {
                 number: number,
                 next: x.next,
             },
-            Found::Nothing => Step::Lost,
+            Found::Nothing => Descent::Lost,
         },
-        Taken::NotInForm => Step::Ended,
-        Taken::End => Step::Ended,
+        Taken::NotInForm => Descent::Ended,
+        Taken::End => Descent::Ended,
     }
 }
 
@@ -107,15 +107,15 @@ pub fn resolve(book: &[u64; BOOK], d: &[u8], s: &[u8], i: usize, n: usize) -> Fo
     let mut left = n;
     while 0 < left {
         match down(book, d, from, s, j) {
-            Step::To { number, next } => {
+            Descent::To { number, next } => {
                 from = number;
                 j = next;
                 left -= 1;
             }
-            Step::Lost => {
+            Descent::Lost => {
                 return Found::Nothing;
             }
-            Step::Ended => {
+            Descent::Ended => {
                 return Found::At(from);
             }
         }

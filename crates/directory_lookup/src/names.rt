@@ -8,7 +8,7 @@ ghost use Rattle.rules.specs.Name.{part, samePart};
 ghost use Rattle.rules.specs.Name as Name;
 ghost use Rattle.rules.specs.Places.{schemaOf, linesAt, partsOf};
 ghost use Rattle.tables.specs.Book as Book;
-ghost use Rattle.tables.specs.Book.{Fits, width};
+ghost use Rattle.tables.specs.Book.{BookFits, width};
 
 // Are the part `a`, `v` and the part `b`, `u` the same?
 fn same_part(types: &[u64], a: u64, v: &[u8], b: u64, u: &[u8]) -> bool
@@ -30,7 +30,7 @@ pub fn covers(
     j: usize,
     m: usize,
 ) -> bool
-    requires { ⌜ Fits (now book) ⌝ }
+    requires { ⌜ BookFits (now book) ⌝ }
     ensures { λ r. ⌜ r ≡ Name.covers (schemaOf (Book.schema (now (book .entry)))) (partsOf n (linesAt (width (now (book .entry))) (now (s .entry)) i)) (partsOf m (linesAt (width (now (book .entry))) (now (t .entry)) j)) ⌝ }
 {
     let types = schema(book);

@@ -1,5 +1,5 @@
 pub mod Bits
-pub mod Seen
+pub mod Matchable
 pub mod Mask
 pub mod Rows
 pub mod Items

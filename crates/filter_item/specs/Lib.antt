@@ -1,4 +1,4 @@
-pub mod Seen
+pub mod Matchable
 pub mod Mask
 pub mod Rows
 pub mod Items

@@ -8,7 +8,7 @@ use Rattle.rules.specs.Sheet.{Bytes}
 use Rattle.rules.specs.Value.{order}
 use Rattle.rules.specs.FilterItem.{isLess}
 use Rattle.tables.specs.Held.{rankAt, placeAt, sizeAt, bytesAt}
-use Rattle.filter_item.specs.Seen.{bitAt}
+use Rattle.filter_item.specs.Matchable.{bitAt}
 
 -- one of the `n` numbers from `i` on passes
 unfoldable pub someFrom : (ℕ → Bool) → ℕ → ℕ → Bool
@@ -16,8 +16,8 @@ someFrom p i zero = false
 someFrom p i (suc n) = p i || someFrom p (suc i) n
 
 -- row `i` is of this rank, and its bit is set
-unfoldable pub seenAt : List ℕ → List ℕ → ℕ → ℕ → ℕ → Bool
-seenAt held values first rank i = eqb (rankAt held i) rank && bitAt values (i - first)
+unfoldable pub matchableAt : List ℕ → List ℕ → ℕ → ℕ → ℕ → Bool
+matchableAt held values first rank i = eqb (rankAt held i) rank && bitAt values (i - first)
 
 -- some row from `first` to `end` is of this rank
 unfoldable pub heldRow : List ℕ → ℕ → ℕ → ℕ → Bool
@@ -25,13 +25,13 @@ heldRow held first end rank = someFrom (λ i. eqb (rankAt held i) rank) first (e
 
 -- some row from `first` to `end` is of this rank, with its bit set, and has a value that passes the test
 unfoldable pub someRow : Bytes → List ℕ → List ℕ → ℕ → ℕ → ℕ → (Bytes → Bool) → Bool
-someRow d held values first end rank test = someFrom (λ i. seenAt held values first rank i && test (bytesAt d held i)) first (end - first)
+someRow d held values first end rank test = someFrom (λ i. matchableAt held values first rank i && test (bytesAt d held i)) first (end - first)
 
 -- `u` is not below `v`, or not above it
 abbrev pub besideBy : ℕ → Bool → Bytes → Bytes → Bool
 besideBy s least v u = cond least (not (isLess (order s u v))) (not (isLess (order s v u)))
 
 -- the bytes of the rows from `first` to `end` are parts of the directory
-pub record Within (d : Bytes) (held : List ℕ) (first end : ℕ) : Type 0 where
+pub record RowsWithin (d : Bytes) (held : List ℕ) (first end : ℕ) : Type 0 where
   pub room : end ≤ 2115
   pub part : (i : ℕ) → first ≤ i → i < end → placeAt held i + sizeAt held i ≤ length d

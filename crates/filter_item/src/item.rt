@@ -1,14 +1,14 @@
 // The truth of one item for an entry. Undefined goes before all else; what is not held is false.
-use super::rows::Sought;
+use super::matchable::END;
+use super::matchable::in_word;
+use super::rows::RowsSought;
 use super::rows::holds;
 use super::rows::some_containing;
 use super::rows::some_equal;
 use super::rows::some_ordered;
-use super::seen::END;
-use super::seen::in_word;
+use filter_lines::lines::FILTER;
 use filter_lines::lines::LINE;
 use filter_lines::lines::RANK;
-use filter_lines::lines::ROWS;
 use filter_lines::lines::SECOND;
 use filter_lines::lines::value_of;
 use filter_lines::pieces::pieces_fit;
@@ -33,14 +33,14 @@ ghost use Rattle.access_set.specs.Member.{bit};
 ghost use Rattle.tables.specs.Book as Book;
 ghost use Rattle.tables.specs.Book.{entries, schema};
 ghost use Rattle.tables.specs.World.{Entries};
-ghost use Rattle.filter_lines.specs.Lines.{Placed, Typed, kindAt, firstAt, typeRank, valueAt, piecesAt};
+ghost use Rattle.filter_lines.specs.Lines.{RowsPlaced, Typed, kindAt, firstAt, typeRank, valueAt, piecesAt};
 ghost use Rattle.filter_item.specs.Items.{assertionBy, definedBy, satisfiedIn};
-ghost use Rattle.filter_item.specs.Rows.{Within};
-ghost use Rattle.filter_item.specs.Seen.{SeenAt};
+ghost use Rattle.filter_item.specs.Rows.{RowsWithin};
+ghost use Rattle.filter_item.specs.Matchable.{MatchableAt};
 
 // Do the value or the pieces of the item in line `k` fit the syntax `s`, and has the syntax the item's rule?
-fn defined(s: u64, q: &[u8], rows: &[u64; ROWS], lines: usize, k: usize) -> bool
-    requires { ⌜ Placed (now q) (now rows) lines × (k < lines) ⌝ }
+fn defined(s: u64, q: &[u8], rows: &[u64; FILTER], lines: usize, k: usize) -> bool
+    requires { ⌜ RowsPlaced (now q) (now rows) lines × (k < lines) ⌝ }
     ensures { λ r. ⌜ r ≡ definedBy s (kindAt (now (rows .entry)) k) (piecesAt (now (q .entry)) (now (rows .entry)) lines k) (valueAt (now (q .entry)) (now (rows .entry)) k) ⌝ }
 {
     let kind = rows[k * LINE];
@@ -66,11 +66,11 @@ fn decidable(
     rank: usize,
     s: u64,
     q: &[u8],
-    rows: &[u64; ROWS],
+    rows: &[u64; FILTER],
     lines: usize,
     k: usize,
 ) -> bool
-    requires { ⌜ (rank < 64) × Placed (now q) (now rows) lines × (k < lines) ⌝ }
+    requires { ⌜ (rank < 64) × RowsPlaced (now q) (now rows) lines × (k < lines) ⌝ }
     ensures { λ r. ⌜ r ≡ (bit types rank && definedBy s (kindAt (now (rows .entry)) k) (piecesAt (now (q .entry)) (now (rows .entry)) lines k) (valueAt (now (q .entry)) (now (rows .entry)) k)) ⌝ }
 {
     if in_word(types, rank) {
@@ -84,14 +84,14 @@ fn satisfied(
     held: &[u64; HELD],
     values: &[u64; 34],
     d: &[u8],
-    sought: Sought,
+    sought: RowsSought,
     s: u64,
     q: &[u8],
-    rows: &[u64; ROWS],
+    rows: &[u64; FILTER],
     lines: usize,
     k: usize,
 ) -> bool
-    requires { ⌜ Within (now d) (now held) (sought .first) (sought .end) × Placed (now q) (now rows) lines × (k < lines) ⌝ }
+    requires { ⌜ RowsWithin (now d) (now held) (sought .first) (sought .end) × RowsPlaced (now q) (now rows) lines × (k < lines) ⌝ }
     ensures { λ r. ⌜ r ≡ satisfiedIn (now (d .entry)) (now (held .entry)) (now (values .entry)) (sought .first) (sought .end) (sought .rank) s (kindAt (now (rows .entry)) k) (piecesAt (now (q .entry)) (now (rows .entry)) lines k) (valueAt (now (q .entry)) (now (rows .entry)) k) ⌝ }
 {
     let kind = rows[k * LINE];
@@ -111,7 +111,7 @@ fn satisfied(
     some_containing(held, values, d, sought, q, rows, lines, k)
 }
 
-// The truth of the item in line `line` for the entry of index `k`. `types` and `values` are what was seen of the entry.
+// The truth of the item in line `line` for the entry of index `k`. `types` and `values` are which of its types and values FilterMatch is granted on.
 pub fn item(
     book: &[u64; BOOK],
     held: &[u64; HELD],
@@ -120,12 +120,12 @@ pub fn item(
     values: &[u64; 34],
     k: usize,
     q: &[u8],
-    rows: &[u64; ROWS],
+    rows: &[u64; FILTER],
     lines: usize,
     line: usize,
 ) -> Truth
-    requires { ⌜ ((σ : Setting) × (es : List Stored) × Entries σ es (now d) (now book) (now held)) × (k < entries (now book)) × Placed (now q) (now rows) lines × Typed (schema (now book)) (now rows) lines × (line < lines) ⌝ }
-    ensures { λ r. ⌜ ((σ : Setting) (es : List Stored) (asked : ℕ) → Entries σ es (now (d .entry)) (now (book .entry)) (now (held .entry)) → SeenAt σ es (now (d .entry)) (now (book .entry)) (now (held .entry)) k asked types (now (values .entry)) → (typeRank (now (rows .entry)) line < Book.types (now (book .entry)) → bit asked (typeRank (now (rows .entry)) line) ≡ true) → r ≡ itemTruth σ (entryOf (getD es k blank)) (assertionBy (kindAt (now (rows .entry)) line) (firstAt (now (rows .entry)) line) (valueAt (now (q .entry)) (now (rows .entry)) line) (piecesAt (now (q .entry)) (now (rows .entry)) lines line))) ⌝ }
+    requires { ⌜ ((σ : Setting) × (es : List Stored) × Entries σ es (now d) (now book) (now held)) × (k < entries (now book)) × RowsPlaced (now q) (now rows) lines × Typed (schema (now book)) (now rows) lines × (line < lines) ⌝ }
+    ensures { λ r. ⌜ ((σ : Setting) (es : List Stored) (asked : ℕ) → Entries σ es (now (d .entry)) (now (book .entry)) (now (held .entry)) → MatchableAt σ es (now (d .entry)) (now (book .entry)) (now (held .entry)) k asked types (now (values .entry)) → (typeRank (now (rows .entry)) line < Book.types (now (book .entry)) → bit asked (typeRank (now (rows .entry)) line) ≡ true) → r ≡ itemTruth σ (entryOf (getD es k blank)) (assertionBy (kindAt (now (rows .entry)) line) (firstAt (now (rows .entry)) line) (valueAt (now (q .entry)) (now (rows .entry)) line) (piecesAt (now (q .entry)) (now (rows .entry)) lines line))) ⌝ }
 {
     let rank = rows[line * LINE + RANK] as usize;
     if book[TYPES] as usize <= rank {
@@ -133,7 +133,7 @@ pub fn item(
     }
     let s = book[SCHEMA + rank] % 4;
     if decidable(types, rank, s, q, rows, lines, line) {
-        let sought = Sought {
+        let sought = RowsSought {
             first: book[FIRST + k] as usize,
             end: book[END + k] as usize,
             rank,

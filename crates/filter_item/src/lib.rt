@@ -2,5 +2,5 @@
 // then go through the rows of the entry's values.
 pub mod item;
 pub mod mask;
+pub mod matchable;
 mod rows;
-pub mod seen;

@@ -1,9 +1,9 @@
 // The ranks of the types that occur in a filter, as the bits of a word: made once for a search.
-use super::seen::bit_if;
+use super::matchable::bit_if;
 use filter_lines::joins;
+use filter_lines::lines::FILTER;
 use filter_lines::lines::LINE;
 use filter_lines::lines::RANK;
-use filter_lines::lines::ROWS;
 use sheet_kind::Kind;
 use sheet_kind::is;
 ghost use mathlib.Core.Path.{_≡_};
@@ -14,7 +14,7 @@ ghost use Rattle.filter_lines.specs.Lines.{typeRank};
 ghost use Rattle.filter_item.specs.Mask.{operatorAt, Masks};
 
 // Is line `k` an item, of a type with a bit?
-fn sought(rows: &[u64; ROWS], k: usize) -> bool
+fn sought(rows: &[u64; FILTER], k: usize) -> bool
     requires { ⌜ k < 265 ⌝ }
     ensures { λ r. ⌜ r ≡ (not (operatorAt (now (rows .entry)) k) && ltb (typeRank (now (rows .entry)) k) 64) ⌝ }
 {
@@ -29,7 +29,7 @@ fn sought(rows: &[u64; ROWS], k: usize) -> bool
 }
 
 // The mask of the ranks that occur in the filter.
-pub fn mask(rows: &[u64; ROWS], lines: usize) -> u64
+pub fn mask(rows: &[u64; FILTER], lines: usize) -> u64
     requires { ⌜ lines ≤ 265 ⌝ }
     ensures { λ r. ⌜ Masks (now (rows .entry)) lines r ⌝ }
 {

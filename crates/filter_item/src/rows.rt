@@ -1,7 +1,7 @@
 // The rows of an entry's values, gone through for one item: those of the item's rank on whose values FilterMatch is granted are tested, in their
 // order, up to the first that passes.
+use filter_lines::lines::FILTER;
 use filter_lines::lines::LINE;
-use filter_lines::lines::ROWS;
 use filter_lines::lines::SECOND;
 use filter_lines::pieces::substrings;
 use filter_lines::truth::not_below;
@@ -16,20 +16,20 @@ ghost use Rattle.rules.specs.FilterItem.{isLess};
 ghost use Rattle.rules.specs.Laws.Value.{reversed};
 ghost use Rattle.name.specs.Schema.{equalBy};
 ghost use Rattle.tables.specs.Held.{bytesAt};
-ghost use Rattle.filter_lines.specs.Lines.{Placed, piecesAt};
-ghost use Rattle.filter_item.specs.Rows.{seenAt, heldRow, someRow, Within, besideBy};
+ghost use Rattle.filter_lines.specs.Lines.{RowsPlaced, piecesAt};
+ghost use Rattle.filter_item.specs.Rows.{matchableAt, heldRow, someRow, RowsWithin, besideBy};
 
 // The rows of an entry, and the rank of an item's type.
-pub struct Sought {
+pub struct RowsSought {
     pub first: usize,
     pub end: usize,
     pub rank: usize,
 }
 
 // Is row `i` of the rank that is sought, and FilterMatch granted on its value?
-fn seen_row(held: &[u64; HELD], values: &[u64; 34], sought: Sought, i: usize) -> bool
+fn matchable_row(held: &[u64; HELD], values: &[u64; 34], sought: RowsSought, i: usize) -> bool
     requires { ⌜ (sought .first ≤ i) × (i < 2115) ⌝ }
-    ensures { λ r. ⌜ r ≡ seenAt (now (held .entry)) (now (values .entry)) (sought .first) (sought .rank) i ⌝ }
+    ensures { λ r. ⌜ r ≡ matchableAt (now (held .entry)) (now (values .entry)) (sought .first) (sought .rank) i ⌝ }
 {
     if held[i] as usize != sought.rank {
         return false;
@@ -39,7 +39,7 @@ fn seen_row(held: &[u64; HELD], values: &[u64; 34], sought: Sought, i: usize) ->
 }
 
 // Is the rank held?
-pub(crate) fn holds(held: &[u64; HELD], sought: Sought) -> bool
+pub(crate) fn holds(held: &[u64; HELD], sought: RowsSought) -> bool
     requires { ⌜ sought .end ≤ 2115 ⌝ }
     ensures { λ r. ⌜ r ≡ heldRow (now (held .entry)) (sought .first) (sought .end) (sought .rank) ⌝ }
 {
@@ -70,15 +70,15 @@ fn equal_row(
     held: &[u64; HELD],
     values: &[u64; 34],
     d: &[u8],
-    sought: Sought,
+    sought: RowsSought,
     s: u64,
     v: &[u8],
     i: usize,
 ) -> bool
-    requires { ⌜ Within (now d) (now held) (sought .first) (sought .end) × (sought .first ≤ i) × (i < sought .end) ⌝ }
-    ensures { λ r. ⌜ r ≡ (seenAt (now (held .entry)) (now (values .entry)) (sought .first) (sought .rank) i && equalBy s (now (v .entry)) (bytesAt (now (d .entry)) (now (held .entry)) i)) ⌝ }
+    requires { ⌜ RowsWithin (now d) (now held) (sought .first) (sought .end) × (sought .first ≤ i) × (i < sought .end) ⌝ }
+    ensures { λ r. ⌜ r ≡ (matchableAt (now (held .entry)) (now (values .entry)) (sought .first) (sought .rank) i && equalBy s (now (v .entry)) (bytesAt (now (d .entry)) (now (held .entry)) i)) ⌝ }
 {
-    if seen_row(held, values, sought, i) {
+    if matchable_row(held, values, sought, i) {
         return equal(s, v, bytes(held, d, i));
     }
     false
@@ -89,11 +89,11 @@ pub(crate) fn some_equal(
     held: &[u64; HELD],
     values: &[u64; 34],
     d: &[u8],
-    sought: Sought,
+    sought: RowsSought,
     s: u64,
     v: &[u8],
 ) -> bool
-    requires { ⌜ Within (now d) (now held) (sought .first) (sought .end) ⌝ }
+    requires { ⌜ RowsWithin (now d) (now held) (sought .first) (sought .end) ⌝ }
     ensures { λ r. ⌜ r ≡ someRow (now (d .entry)) (now (held .entry)) (now (values .entry)) (sought .first) (sought .end) (sought .rank) (equalBy s (now (v .entry))) ⌝ }
 {
     let end = sought.end;
@@ -134,16 +134,16 @@ fn ordered_row(
     held: &[u64; HELD],
     values: &[u64; 34],
     d: &[u8],
-    sought: Sought,
+    sought: RowsSought,
     s: u64,
     least: bool,
     v: &[u8],
     i: usize,
 ) -> bool
-    requires { ⌜ Within (now d) (now held) (sought .first) (sought .end) × (sought .first ≤ i) × (i < sought .end) ⌝ }
-    ensures { λ r. ⌜ r ≡ (seenAt (now (held .entry)) (now (values .entry)) (sought .first) (sought .rank) i && besideBy s least (now (v .entry)) (bytesAt (now (d .entry)) (now (held .entry)) i)) ⌝ }
+    requires { ⌜ RowsWithin (now d) (now held) (sought .first) (sought .end) × (sought .first ≤ i) × (i < sought .end) ⌝ }
+    ensures { λ r. ⌜ r ≡ (matchableAt (now (held .entry)) (now (values .entry)) (sought .first) (sought .rank) i && besideBy s least (now (v .entry)) (bytesAt (now (d .entry)) (now (held .entry)) i)) ⌝ }
 {
-    if seen_row(held, values, sought, i) {
+    if matchable_row(held, values, sought, i) {
         return beside(s, least, v, bytes(held, d, i));
     }
     false
@@ -154,12 +154,12 @@ pub(crate) fn some_ordered(
     held: &[u64; HELD],
     values: &[u64; 34],
     d: &[u8],
-    sought: Sought,
+    sought: RowsSought,
     s: u64,
     least: bool,
     v: &[u8],
 ) -> bool
-    requires { ⌜ Within (now d) (now held) (sought .first) (sought .end) ⌝ }
+    requires { ⌜ RowsWithin (now d) (now held) (sought .first) (sought .end) ⌝ }
     ensures { λ r. ⌜ r ≡ someRow (now (d .entry)) (now (held .entry)) (now (values .entry)) (sought .first) (sought .end) (sought .rank) (besideBy s least (now (v .entry))) ⌝ }
 {
     let end = sought.end;
@@ -178,17 +178,17 @@ fn containing_row(
     held: &[u64; HELD],
     values: &[u64; 34],
     d: &[u8],
-    sought: Sought,
+    sought: RowsSought,
     q: &[u8],
-    rows: &[u64; ROWS],
+    rows: &[u64; FILTER],
     lines: usize,
     k: usize,
     i: usize,
 ) -> bool
-    requires { ⌜ Within (now d) (now held) (sought .first) (sought .end) × (sought .first ≤ i) × (i < sought .end) × Placed (now q) (now rows) lines × (k < lines) ⌝ }
-    ensures { λ r. ⌜ r ≡ (seenAt (now (held .entry)) (now (values .entry)) (sought .first) (sought .rank) i && Value.contains Value.text (piecesAt (now (q .entry)) (now (rows .entry)) lines k) (bytesAt (now (d .entry)) (now (held .entry)) i)) ⌝ }
+    requires { ⌜ RowsWithin (now d) (now held) (sought .first) (sought .end) × (sought .first ≤ i) × (i < sought .end) × RowsPlaced (now q) (now rows) lines × (k < lines) ⌝ }
+    ensures { λ r. ⌜ r ≡ (matchableAt (now (held .entry)) (now (values .entry)) (sought .first) (sought .rank) i && Value.contains Value.text (piecesAt (now (q .entry)) (now (rows .entry)) lines k) (bytesAt (now (d .entry)) (now (held .entry)) i)) ⌝ }
 {
-    if seen_row(held, values, sought, i) {
+    if matchable_row(held, values, sought, i) {
         return substrings(
             q,
             rows,
@@ -206,13 +206,13 @@ pub(crate) fn some_containing(
     held: &[u64; HELD],
     values: &[u64; 34],
     d: &[u8],
-    sought: Sought,
+    sought: RowsSought,
     q: &[u8],
-    rows: &[u64; ROWS],
+    rows: &[u64; FILTER],
     lines: usize,
     k: usize,
 ) -> bool
-    requires { ⌜ Within (now d) (now held) (sought .first) (sought .end) × Placed (now q) (now rows) lines × (k < lines) ⌝ }
+    requires { ⌜ RowsWithin (now d) (now held) (sought .first) (sought .end) × RowsPlaced (now q) (now rows) lines × (k < lines) ⌝ }
     ensures { λ r. ⌜ r ≡ someRow (now (d .entry)) (now (held .entry)) (now (values .entry)) (sought .first) (sought .end) (sought .rank) (Value.contains Value.text (piecesAt (now (q .entry)) (now (rows .entry)) lines k)) ⌝ }
 {
     let end = sought.end;

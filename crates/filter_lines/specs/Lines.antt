@@ -17,8 +17,8 @@ abbrev pub LINES : ℕ
 LINES = 8192 / 31 + 1
 
 -- how many numbers are noted: a row for each line, and one for the position after the last
-abbrev pub ROWS : ℕ
-ROWS = (LINES + 1) * 6
+abbrev pub FILTER : ℕ
+FILTER = (LINES + 1) * 6
 
 -- the numbers of line `k`, and where the next line begins
 abbrev pub kindAt : List ℕ → ℕ → ℕ
@@ -62,7 +62,7 @@ abbrev pub piecesAt : Bytes → List ℕ → ℕ → ℕ → List Piece
 piecesAt q rows lines k = piecesIn q rows (k + 1) (lesser (secondAt rows k) (lines - (k + 1)))
 
 -- the bytes of the first `count` lines lie on the sheet
-pub record Placed (q : Bytes) (rows : List ℕ) (count : ℕ) : Type 0 where
+pub record RowsPlaced (q : Bytes) (rows : List ℕ) (count : ℕ) : Type 0 where
   pub room : count * 6 + 6 ≤ length rows
   pub few : count ≤ LINES
   pub begins : (k : ℕ) → k < count → placeAt rows k < nextAt rows k
@@ -73,15 +73,15 @@ abbrev pub lineAt : List ℕ → ℕ → ℕ → ℕ → Line
 lineAt rows k third size = record { kind = kindAt rows k; a = firstAt rows k; b = secondAt rows k; c = third; place = placeAt rows k; length = size; next = nextAt rows k }
 
 -- row `k` is the line at its position
-pub record Row (w : ℕ) (q : Bytes) (rows : List ℕ) (k : ℕ) : Type 0 where
+pub record LineRow (w : ℕ) (q : Bytes) (rows : List ℕ) (k : ℕ) : Type 0 where
   pub third : ℕ
   pub size : ℕ
   pub taken : takenAt w q (positionAt rows k) ≡ Taken.Line (lineAt rows k third size)
 
 -- the first `count` rows are lines, and no line follows
-pub record Lines (w : ℕ) (q : Bytes) (rows : List ℕ) (count : ℕ) : Type 0 where
-  pub placed : Placed q rows count
-  pub line : (k : ℕ) → k < count → Row w q rows k
+pub record LinesNoted (w : ℕ) (q : Bytes) (rows : List ℕ) (count : ℕ) : Type 0 where
+  pub placed : RowsPlaced q rows count
+  pub line : (k : ℕ) → k < count → LineRow w q rows k
   pub unread : Bool
   pub ends : linesAt w q (positionAt rows count) ≡ cond unread broken end
 

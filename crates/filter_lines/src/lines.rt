@@ -5,7 +5,7 @@ ghost use mathlib.Core.Path.{_≡_};
 ghost use Prim.Native.Nat.{_+_, _*_, _≤_, _<_};
 ghost use lib.ListN.{length};
 ghost use Rattle.filter_lines.specs.Lines as Lines;
-ghost use Rattle.filter_lines.specs.Lines.{Lines, Typed, Beyond, positionAt, placeAt, nextAt, valueAt, noted};
+ghost use Rattle.filter_lines.specs.Lines.{LinesNoted, Typed, Beyond, positionAt, placeAt, nextAt, valueAt, noted};
 
 // The numbers of a line: kind, A, B, where the line begins, where its bytes begin, and the rank of type A in the schema. The bytes end before the last
 // byte of the line, and the next line follows it.
@@ -24,7 +24,7 @@ pub const RANK: usize = 5;
 // How many lines there can be, and how many numbers are noted of them.
 pub const LINES: usize = 265;
 
-pub const ROWS: usize = 1596;
+pub const FILTER: usize = 1596;
 
 // Notes a line in the row that begins at `at`, but for its position, and the position of the next.
 fn note_line(rows: &mut [u64], at: usize, x: Line, rank: usize)
@@ -40,9 +40,9 @@ fn note_line(rows: &mut [u64], at: usize, x: Line, rank: usize)
 }
 
 // Notes the lines of `q` from position `at` on; how many they are. There is room for one row more.
-pub fn note(schema: &[u64], w: usize, q: &[u8], at: usize, rows: &mut [u64; ROWS]) -> usize
-    requires { ⌜ (w ≤ 18) × (length (now q) ≤ (5 * w + 1) * Lines.LINES) × (length (now rows) ≡ Lines.ROWS) ⌝ }
-    ensures { λ n. ⌜ Lines w (now (q .entry)) (now (rows .exit)) n × Typed (now (schema .entry)) (now (rows .exit)) n × (positionAt (now (rows .exit)) 0 ≡ at) × Beyond n (now (rows .entry)) (now (rows .exit)) ⌝ }
+pub fn note(schema: &[u64], w: usize, q: &[u8], at: usize, rows: &mut [u64; FILTER]) -> usize
+    requires { ⌜ (w ≤ 18) × (length (now q) ≤ (5 * w + 1) * Lines.LINES) × (length (now rows) ≡ Lines.FILTER) ⌝ }
+    ensures { λ n. ⌜ LinesNoted w (now (q .entry)) (now (rows .exit)) n × Typed (now (schema .entry)) (now (rows .exit)) n × (positionAt (now (rows .exit)) 0 ≡ at) × Beyond n (now (rows .entry)) (now (rows .exit)) ⌝ }
 {
     rows[POSITION] = at as u64;
     let mut n: usize = 0;

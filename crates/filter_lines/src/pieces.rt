@@ -7,11 +7,11 @@ ghost use mathlib.Core.Path.{_≡_};
 ghost use Prim.Native.Nat.{_-_, _≤_};
 ghost use Rattle.rules.specs.Lists.{all};
 ghost use Rattle.rules.specs.Value as Value;
-ghost use Rattle.filter_lines.specs.Lines.{Placed, piecesIn, lesser};
+ghost use Rattle.filter_lines.specs.Lines.{RowsPlaced, piecesIn, lesser};
 
 // Do all of the `n` pieces from line `k` on, of `lines` lines, fit the syntax?
 pub fn pieces_fit(syntax: u64, q: &[u8], rows: &[u64], lines: usize, k: usize, n: u64) -> bool
-    requires { ⌜ Placed (now q) (now rows) lines × (k ≤ lines) ⌝ }
+    requires { ⌜ RowsPlaced (now q) (now rows) lines × (k ≤ lines) ⌝ }
     ensures { λ r. ⌜ r ≡ all (λ p. Value.fits syntax (p .bytes)) (piecesIn (now (q .entry)) (now (rows .entry)) k (lesser n (lines - k))) ⌝ }
 {
     let mut j = k;
@@ -31,7 +31,7 @@ pub fn pieces_fit(syntax: u64, q: &[u8], rows: &[u64], lines: usize, k: usize, n
 
 // Do the `n` pieces from line `k` on, of `lines` lines, stand in the text `v`, in order and without overlap?
 pub fn substrings(q: &[u8], rows: &[u64], lines: usize, k: usize, n: u64, v: &[u8]) -> bool
-    requires { ⌜ Placed (now q) (now rows) lines × (k ≤ lines) ⌝ }
+    requires { ⌜ RowsPlaced (now q) (now rows) lines × (k ≤ lines) ⌝ }
     ensures { λ r. ⌜ r ≡ Value.contains Value.text (piecesIn (now (q .entry)) (now (rows .entry)) k (lesser n (lines - k))) (now (v .entry)) ⌝ }
 {
     let mut from: usize = 0;

@@ -1,9 +1,9 @@
 // The truths of a filter's items for an entry, found one after the other and noted by a number for each line, before the filter is evaluated.
 use filter_item::item::item;
 use filter_lines::joins;
+use filter_lines::lines::FILTER;
 use filter_lines::lines::LINE;
 use filter_lines::lines::LINES;
-use filter_lines::lines::ROWS;
 use rules::Truth;
 use sheet_kind::Kind;
 use sheet_kind::is;
@@ -18,9 +18,9 @@ ghost use Rattle.rules.specs.Decision.{Setting};
 ghost use Rattle.rules.specs.FilterItem.{itemTruth};
 ghost use Rattle.tables.specs.Book.{entries, schema};
 ghost use Rattle.tables.specs.World.{Entries};
-ghost use Rattle.filter_lines.specs.Lines.{Placed, Typed};
+ghost use Rattle.filter_lines.specs.Lines.{RowsPlaced, Typed};
 ghost use Rattle.filter_item.specs.Mask.{Masks};
-ghost use Rattle.filter_item.specs.Seen.{SeenAt};
+ghost use Rattle.filter_item.specs.Matchable.{MatchableAt};
 ghost use Rattle.filter_tree.specs.Truths.{truthNumber, truthOf, TruthAt, Truths};
 
 // A truth as a number.
@@ -59,12 +59,12 @@ fn line_truth(
     values: &[u64; 34],
     k: usize,
     q: &[u8],
-    rows: &[u64; ROWS],
+    rows: &[u64; FILTER],
     lines: usize,
     line: usize,
 ) -> u8
-    requires { ⌜ ((σ : Setting) × (es : List Stored) × Entries σ es (now d) (now book) (now held)) × (k < entries (now book)) × Placed (now q) (now rows) lines × Typed (schema (now book)) (now rows) lines × (line < lines) ⌝ }
-    ensures { λ r. ⌜ ((σ : Setting) (es : List Stored) (asked : ℕ) → Entries σ es (now (d .entry)) (now (book .entry)) (now (held .entry)) → SeenAt σ es (now (d .entry)) (now (book .entry)) (now (held .entry)) k asked types (now (values .entry)) → Masks (now (rows .entry)) lines asked → TruthAt (itemTruth σ (entryOf (getD es k blank))) (now (q .entry)) (now (rows .entry)) lines line r) ⌝ }
+    requires { ⌜ ((σ : Setting) × (es : List Stored) × Entries σ es (now d) (now book) (now held)) × (k < entries (now book)) × RowsPlaced (now q) (now rows) lines × Typed (schema (now book)) (now rows) lines × (line < lines) ⌝ }
+    ensures { λ r. ⌜ ((σ : Setting) (es : List Stored) (asked : ℕ) → Entries σ es (now (d .entry)) (now (book .entry)) (now (held .entry)) → MatchableAt σ es (now (d .entry)) (now (book .entry)) (now (held .entry)) k asked types (now (values .entry)) → Masks (now (rows .entry)) lines asked → TruthAt (itemTruth σ (entryOf (getD es k blank))) (now (q .entry)) (now (rows .entry)) lines line r) ⌝ }
 {
     let kind = rows[line * LINE];
     if joins(kind) {
@@ -85,11 +85,11 @@ pub(crate) fn note_truths(
     values: &[u64; 34],
     k: usize,
     q: &[u8],
-    rows: &[u64; ROWS],
+    rows: &[u64; FILTER],
     lines: usize,
 ) -> [u8; LINES]
-    requires { ⌜ ((σ : Setting) × (es : List Stored) × Entries σ es (now d) (now book) (now held)) × (k < entries (now book)) × Placed (now q) (now rows) lines × Typed (schema (now book)) (now rows) lines ⌝ }
-    ensures { λ r. ⌜ ((σ : Setting) (es : List Stored) (asked : ℕ) → Entries σ es (now (d .entry)) (now (book .entry)) (now (held .entry)) → SeenAt σ es (now (d .entry)) (now (book .entry)) (now (held .entry)) k asked types (now (values .entry)) → Masks (now (rows .entry)) lines asked → Truths (itemTruth σ (entryOf (getD es k blank))) (now (q .entry)) (now (rows .entry)) lines lines r) ⌝ }
+    requires { ⌜ ((σ : Setting) × (es : List Stored) × Entries σ es (now d) (now book) (now held)) × (k < entries (now book)) × RowsPlaced (now q) (now rows) lines × Typed (schema (now book)) (now rows) lines ⌝ }
+    ensures { λ r. ⌜ ((σ : Setting) (es : List Stored) (asked : ℕ) → Entries σ es (now (d .entry)) (now (book .entry)) (now (held .entry)) → MatchableAt σ es (now (d .entry)) (now (book .entry)) (now (held .entry)) k asked types (now (values .entry)) → Masks (now (rows .entry)) lines asked → Truths (itemTruth σ (entryOf (getD es k blank))) (now (q .entry)) (now (rows .entry)) lines lines r) ⌝ }
 {
     let mut truths: [u8; LINES] = [0; LINES];
     let mut line: usize = 0;

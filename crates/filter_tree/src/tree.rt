@@ -4,11 +4,11 @@ use super::items::truth_at;
 use super::truth::is_true;
 use super::truth::joined;
 use super::truth::negated;
-use filter_item::seen::ask;
+use filter_item::matchable::ask;
 use filter_lines::joins;
+use filter_lines::lines::FILTER;
 use filter_lines::lines::FIRST;
 use filter_lines::lines::LINE;
-use filter_lines::lines::ROWS;
 use filter_lines::lines::SECOND;
 use filter_lines::truth::truth_of;
 use rules::Truth;
@@ -32,7 +32,7 @@ ghost use Rattle.rules.specs.FilterLines.{evaluated, evaluateLines};
 ghost use Rattle.rules.specs.declared.Truth.{Truth};
 ghost use Rattle.tables.specs.Book.{width, entries, schema};
 ghost use Rattle.tables.specs.World.{World, Known};
-ghost use Rattle.filter_lines.specs.Lines.{Lines, Typed, kindAt, secondAt, positionAt};
+ghost use Rattle.filter_lines.specs.Lines.{LinesNoted, Typed, kindAt, secondAt, positionAt};
 ghost use Rattle.filter_item.specs.Mask.{Masks};
 ghost use Rattle.filter_tree.specs.Tree.{afterBy, matchesAt};
 ghost use Rattle.filter_tree.specs.Truths.{Truths};
@@ -40,7 +40,7 @@ ghost use Rattle.filter_tree.specs.Truths.{Truths};
 // The line after the item in line `k`: a substrings item has those of its pieces.
 fn after_item(rows: &[u64], lines: usize, k: usize) -> usize
     requires { ⌜ (lines * 6 + 6 ≤ length (now rows)) × (k < lines) ⌝ }
-    ensures { λ r. ⌜ (r ≤ lines) × ((w : ℕ) (q : Bytes) → Lines w q (now (rows .entry)) lines → linesAt w q (positionAt (now (rows .entry)) r) ≡ afterBy (kindAt (now (rows .entry)) k) (secondAt (now (rows .entry)) k) (linesAt w q (positionAt (now (rows .entry)) (k + 1)))) ⌝ }
+    ensures { λ r. ⌜ (r ≤ lines) × ((w : ℕ) (q : Bytes) → LinesNoted w q (now (rows .entry)) lines → linesAt w q (positionAt (now (rows .entry)) r) ≡ afterBy (kindAt (now (rows .entry)) k) (secondAt (now (rows .entry)) k) (linesAt w q (positionAt (now (rows .entry)) (k + 1)))) ⌝ }
 {
     let kind = rows[k * LINE];
     let next = k + 1;
@@ -64,25 +64,25 @@ fn after_item(rows: &[u64], lines: usize, k: usize) -> usize
 }
 
 // The truth of a filter, and the line after it.
-pub struct Step {
+pub struct Evaluation {
     pub truth: Truth,
     pub next: usize,
 }
 
 // The truth of the filter in line `k`, at most `depth` levels deep, by the truths of the items. Every part of "and" and "or" is evaluated: its lines
 // are passed over in any case.
-pub fn evaluate(rows: &[u64], truths: &[u8], lines: usize, k: usize, depth: usize) -> Step
+pub fn evaluate(rows: &[u64], truths: &[u8], lines: usize, k: usize, depth: usize) -> Evaluation
     requires { ⌜ (lines * 6 + 6 ≤ length (now rows)) × (k ≤ lines) ⌝ }
-    ensures { λ r. ⌜ (r .next ≤ lines) × ((w : ℕ) (q : Bytes) (m : Assertion → Truth) → Lines w q (now (rows .entry)) lines → Truths m q (now (rows .entry)) lines lines (now (truths .entry)) → evaluated (r .truth) (linesAt w q (positionAt (now (rows .entry)) (r .next))) ≡ evaluateLines m depth (linesAt w q (positionAt (now (rows .entry)) k))) ⌝ }
+    ensures { λ r. ⌜ (r .next ≤ lines) × ((w : ℕ) (q : Bytes) (m : Assertion → Truth) → LinesNoted w q (now (rows .entry)) lines → Truths m q (now (rows .entry)) lines lines (now (truths .entry)) → evaluated (r .truth) (linesAt w q (positionAt (now (rows .entry)) (r .next))) ≡ evaluateLines m depth (linesAt w q (positionAt (now (rows .entry)) k))) ⌝ }
 {
     if depth == 0 {
-        return Step {
+        return Evaluation {
             truth: Truth::Undefined,
             next: k,
         };
     }
     if lines <= k {
-        return Step {
+        return Evaluation {
             truth: Truth::Undefined,
             next: k,
         };
@@ -91,7 +91,7 @@ pub fn evaluate(rows: &[u64], truths: &[u8], lines: usize, k: usize, depth: usiz
     if is(kind, Kind::Not) {
         let part = evaluate(rows, truths, lines, k + 1, depth - 1);
         let truth = part.truth;
-        return Step {
+        return Evaluation {
             truth: negated(truth),
             next: part.next,
         };
@@ -108,9 +108,9 @@ pub fn evaluate(rows: &[u64], truths: &[u8], lines: usize, k: usize, depth: usiz
             next = part.next;
             left -= 1;
         }
-        return Step { truth, next };
+        return Evaluation { truth, next };
     }
-    Step {
+    Evaluation {
         truth: truth_at(truths, k),
         next: after_item(rows, lines, k),
     }
@@ -124,12 +124,12 @@ pub fn matches(
     d: &[u8],
     p: &[u8],
     q: &[u8],
-    rows: &[u64; ROWS],
+    rows: &[u64; FILTER],
     lines: usize,
     asked: u64,
     k: usize,
 ) -> bool
-    requires { ⌜ Known (now d) (now p) (now book) (now held) (now sets) × Lines (width (now book)) (now q) (now rows) lines × Typed (schema (now book)) (now rows) lines × (k < entries (now book)) × Masks (now rows) lines asked ⌝ }
+    requires { ⌜ Known (now d) (now p) (now book) (now held) (now sets) × LinesNoted (width (now book)) (now q) (now rows) lines × Typed (schema (now book)) (now rows) lines × (k < entries (now book)) × Masks (now rows) lines asked ⌝ }
     ensures { λ r. ⌜ ((σ : Setting) (es : List Stored) (g : Grammar) (f : Filter) → World σ es (now (d .entry)) (now (p .entry)) (now (book .entry)) (now (held .entry)) (now (sets .entry)) → Request.filter g 16 128 (linesAt (width (now (book .entry))) (now (q .entry)) (positionAt (now (rows .entry)) 0)) (λ f left rest. accept f) ≡ accept f → r ≡ matchesAt σ es f k) ⌝ }
 {
     let seen = ask(book, held, sets, d, p, k, asked);

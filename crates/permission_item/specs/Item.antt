@@ -12,7 +12,7 @@ use Rattle.rules.specs.declared.Format.{Format}
 use Rattle.sheet_due.specs.Lines.{reachedAt, afterDue, afterGroup, dueAt, groupAt}
 use Rattle.sheet_due.specs.declared.Due.{Due}
 use Rattle.sheet_due.specs.declared.Group.{Group}
-use Rattle.permission_item.specs.declared.Lines.{Lines}
+use Rattle.permission_item.specs.declared.ItemLines.{ItemLines}
 
 module _ (f : Format) (p : Bytes) (S : Schema) (at : ℕ) where
   abbrev G : Grammar
@@ -34,11 +34,11 @@ module _ (f : Format) (p : Bytes) (S : Schema) (at : ℕ) where
   maskAt = dueAt G (f .width) p (afterDue targetAt) 8
 
   -- the lines of the item at `at`
-  unfoldable pub itemLines : Lines
+  unfoldable pub itemLines : ItemLines
   itemLines = record { refusal = maskAt .refusal; head = headAt .line; base = baseAt .line; user = userAt .line; target = targetAt .line; mask = maskAt .line }
 
 -- the item of these lines
-unfoldable pub itemOf : ℕ → Bytes → Lines → Item
+unfoldable pub itemOf : ℕ → Bytes → ItemLines → Item
 itemOf w p i = record {
   precedence = i .head .a;
   level = i .head .b;

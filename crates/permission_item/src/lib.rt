@@ -10,7 +10,7 @@ ghost use Rattle.rules.specs.Places.{schemaOf};
 ghost use Rattle.permission_item.specs.Item.{itemLines};
 
 // The lines of an item, K 4 to 8, or the refusal (0: none). Each name follows its line; the item ends with its mask.
-pub struct Lines {
+pub struct ItemLines {
     pub refusal: u64,
     pub head: Line,
     pub base: Line,
@@ -20,7 +20,7 @@ pub struct Lines {
 }
 
 // The item at `at`: "K 4 to 8, in that order, once each", the parts of a name following as K 9. One reader goes through its lines.
-pub fn item_at(p: &[u8], f: Format, schema: &[u64], at: usize) -> Lines
+pub fn item_at(p: &[u8], f: Format, schema: &[u64], at: usize) -> ItemLines
     requires { ⌜ Usable f ⌝ }
     ensures { λ r. ⌜ r ≡ itemLines f (now (p .entry)) (schemaOf (now (schema .entry))) at ⌝ }
 {
@@ -34,7 +34,7 @@ pub fn item_at(p: &[u8], f: Format, schema: &[u64], at: usize) -> Lines
     let mask = target
         .rest
         .due(f, g, schema, target.refusal, Kind::Permissions);
-    Lines {
+    ItemLines {
         refusal: mask.refusal,
         head: head.line,
         base: base.line,

@@ -1,4 +1,4 @@
 pub mod End
 pub mod Rows
 pub mod ItemRows
-pub mod Reading
+pub mod ItemsRead

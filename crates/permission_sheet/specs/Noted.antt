@@ -93,7 +93,7 @@ bit true = 1
 bit false = 0
 
 -- the rows of the item `i` on the sheet `p`, in columns of `w` bytes: VALUE is where the bytes of its K 7 line begin, BASE and USER where the K 9 lines of each name begin
-pub record Row (w : ℕ) (p : Bytes) (i : Item) (right scope : ℕ → ℕ) : Type 0 where
+pub record ItemRow (w : ℕ) (p : Bytes) (i : Item) (right scope : ℕ → ℕ) : Type 0 where
   pub bounded : Bounded i
   pub score : right SCORE ≡ score i
   pub digest : right DIGEST ≡ digest 0 (i .value)
@@ -121,7 +121,7 @@ blank = record { precedence = 0; level = 0; grants = false; below = false; base 
 -- the rows of the accepted items `is`, in their order, and zeros after the last
 pub record Table (w : ℕ) (p : Bytes) (is : List Item) (rights scopes : List ℕ) : Type 0 where
   pub few : length is ≤ 256
-  pub rows : (k : ℕ) → k < length is → Row w p (getD is k blank) (λ j. getD rights (k * RIGHTS + j) 0) (λ j. getD scopes (k * SCOPES + j) 0)
+  pub rows : (k : ℕ) → k < length is → ItemRow w p (getD is k blank) (λ j. getD rights (k * RIGHTS + j) 0) (λ j. getD scopes (k * SCOPES + j) 0)
   pub rights-length : length rights ≡ 256 * RIGHTS
   pub scopes-length : length scopes ≡ 256 * SCOPES
   pub rights-rest : drop (length is * RIGHTS) rights ≡ replicate (256 * RIGHTS - length is * RIGHTS) 0

@@ -6,10 +6,10 @@ use lib.ListN.{length, take, drop}
 use Rattle.rules.specs.Sheet.{Bytes}
 use Rattle.value_syntax.specs.Digest.{digest}
 use Rattle.sheet_line.specs.Line.{bytesOf}
-use Rattle.permission_item.specs.declared.Lines.{Lines}
+use Rattle.permission_item.specs.declared.ItemLines.{ItemLines}
 use Rattle.permission_weight.specs.Weight.{weightOf, scoreOf}
 
-unfoldable pub rightsRow : Bytes → Lines → List ℕ
+unfoldable pub rightsRow : Bytes → ItemLines → List ℕ
 rightsRow p i =
     scoreOf (weightOf (i .head .a) (i .user .a) (i .target .a)) (i .head .c)
     ∷ digest 0 (bytesOf p (i .target))
@@ -21,7 +21,7 @@ rightsRow p i =
     ∷ i .target .length
     ∷ []
 
-unfoldable pub scopesRow : Lines → List ℕ
+unfoldable pub scopesRow : ItemLines → List ℕ
 scopesRow i =
     i .base .a
     ∷ i .base .next

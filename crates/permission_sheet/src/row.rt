@@ -1,5 +1,5 @@
 // The rows of an item's numbers, and their places in the arrays of all rows.
-use permission_item::Lines;
+use permission_item::ItemLines;
 use permission_weight::score;
 use permission_weight::weight;
 ghost use mathlib.Core.Path.{_≡_};
@@ -8,7 +8,7 @@ ghost use lib.ListN.{length};
 ghost use Rattle.permission_sheet.specs.Rows.{rightsRow, scopesRow, putAt};
 
 // What a question about a permission touches. The digest of the value spares a look at its bytes.
-fn rights_row(p: &[u8], lines: Lines) -> [u64; 8]
+fn rights_row(p: &[u8], lines: ItemLines) -> [u64; 8]
     requires { ⌜ (lines .head .a ≤ 255) × (lines .target .place + lines .target .length ≤ length (now p)) ⌝ }
     ensures { λ r. ⌜ r ≡ rightsRow (now (p .entry)) lines ⌝ }
 {
@@ -26,7 +26,7 @@ fn rights_row(p: &[u8], lines: Lines) -> [u64; 8]
 }
 
 // Which entries and which users it is for, by name and level.
-fn scopes_row(lines: Lines) -> [u64; 7]
+fn scopes_row(lines: ItemLines) -> [u64; 7]
     ensures { λ r. ⌜ r ≡ scopesRow lines ⌝ }
 {
     let mut row: [u64; 7] = [0; 7];
@@ -53,7 +53,7 @@ fn put(rows: &mut [u64], at: usize, row: &[u64])
 }
 
 // The rows of item number `k` (from 0) into the arrays.
-pub fn note(p: &[u8], rights: &mut [u64], scopes: &mut [u64], k: usize, lines: Lines)
+pub fn note(p: &[u8], rights: &mut [u64], scopes: &mut [u64], k: usize, lines: ItemLines)
     requires { ⌜ (k < 256) × (length (now rights) ≡ 2048) × (length (now scopes) ≡ 1792) × (lines .head .a ≤ 255) × (lines .target .place + lines .target .length ≤ length (now p)) ⌝ }
     ensures { λ _. ⌜ (now (rights .exit) ≡ putAt (now (rights .entry)) (k * 8) (rightsRow (now (p .entry)) lines)) × (now (scopes .exit) ≡ putAt (now (scopes .entry)) (k * 7) (scopesRow lines)) ⌝ }
 {

@@ -9,28 +9,28 @@ use Rattle.sheet_line.specs.declared.Line.{Line}
 use Rattle.sheet_due.specs.Lines.{seenAt, misplacedBy}
 use Rattle.sheet_due.specs.declared.Seen.{Seen}
 use Rattle.sheet_due.specs.declared.Seen.the-variants as Seen
-use Rattle.request_piece.specs.declared.Step.{Step}
-use Rattle.request_piece.specs.declared.Step.the-variants as Step
-use Rattle.request_piece.specs.declared.Step.the-variants.{Read}
+use Rattle.request_piece.specs.declared.Progress.{Progress}
+use Rattle.request_piece.specs.declared.Progress.the-variants as Progress
+use Rattle.request_piece.specs.declared.Progress.the-variants.{Read}
 use Rattle.request_filter.specs.declared.Node.{Node}
 use Rattle.request_filter.specs.declared.Node.the-variants as Node
 use Rattle.request_filter.specs.declared.Node.the-variants.{Operator, Item}
 
 -- pieces that were read make an item
-abbrev pub itemOf : Step → Node
+abbrev pub itemOf : Progress → Node
 itemOf (Read next left) = Item next left
-itemOf (Step.Refused n) = Node.Refused n
+itemOf (Progress.Refused n) = Node.Refused n
 
 -- `n` filters, each read by `one`
-unfoldable pub partsAt : (ℕ → ℕ → Step) → ℕ → ℕ → ℕ → Step
+unfoldable pub partsAt : (ℕ → ℕ → Progress) → ℕ → ℕ → ℕ → Progress
 partsAt one zero at left = Read at left
 partsAt one (suc n) at left = onStep (one at left) (partsAt one n)
 
 -- the parts of an operator are read by `one`
-abbrev pub byNode : (ℕ → ℕ → Step) → Node → Step
+abbrev pub byNode : (ℕ → ℕ → Progress) → Node → Progress
 byNode one (Operator n next left) = partsAt one n next left
 byNode one (Item next left) = Read next left
-byNode one (Node.Refused n) = Step.Refused n
+byNode one (Node.Refused n) = Progress.Refused n
 
 module _ (G : Grammar) (w : ℕ) (q : Bytes) where
   -- by the kind of a filter's line; "not" is an operator of one part
@@ -57,6 +57,6 @@ module _ (G : Grammar) (w : ℕ) (q : Bytes) where
   nodeAt at left = nodeBy left (seenAt (G .forms) w q at)
 
   -- the filter at `at`, where `depth` more levels and `left` more lines are allowed
-  unfoldable pub filterAt : ℕ → ℕ → ℕ → Step
-  filterAt zero at left = Step.Refused (misplacedBy (G .refusals) (seenAt (G .forms) w q at))
+  unfoldable pub filterAt : ℕ → ℕ → ℕ → Progress
+  filterAt zero at left = Progress.Refused (misplacedBy (G .refusals) (seenAt (G .forms) w q at))
   filterAt (suc depth) at left = byNode (filterAt depth) (nodeAt at left)

@@ -1,6 +1,6 @@
 // A filter of a request, an operator before its parts: read line by line, each line once, with the depth and the lines that
 // are still allowed counted down.
-use request_piece::Step;
+use request_piece::Progress;
 use request_piece::pieces_at;
 use rules::Format;
 use rules::refusal;
@@ -16,7 +16,7 @@ ghost use Rattle.rules.specs.Sheet.{Usable};
 ghost use Rattle.rules.specs.Columns.{requestForms};
 ghost use Rattle.rules.specs.Request.{requestGrammar};
 ghost use Rattle.sheet_due.specs.Lines.{seenAt, misplacedBy};
-ghost use Rattle.request_piece.specs.declared.Step.the-variants as Step;
+ghost use Rattle.request_piece.specs.declared.Progress.the-variants as Progress;
 ghost use Rattle.request_filter.specs.Filters.{itemOf, nodeOf, nodeBy, nodeAt, filterAt};
 
 // What a line of a filter begins: an operator with its number of parts, "not" having one, or an item.
@@ -27,12 +27,12 @@ pub enum Node {
 }
 
 // Pieces that were read make an item.
-fn item_of(step: Step) -> Node
+fn item_of(step: Progress) -> Node
     ensures { λ r. ⌜ r ≡ itemOf step ⌝ }
 {
     match step {
-        Step::Read { next, left } => Node::Item { next, left },
-        Step::Refused(number) => Node::Refused(number),
+        Progress::Read { next, left } => Node::Item { next, left },
+        Progress::Refused(number) => Node::Refused(number),
     }
 }
 
@@ -94,16 +94,16 @@ fn node_at(q: &[u8], at: usize, f: Format, left: u64) -> Node
 }
 
 // No filter may stand at a position.
-fn too_deep(q: &[u8], at: usize, f: Format) -> Step
+fn too_deep(q: &[u8], at: usize, f: Format) -> Progress
     requires { ⌜ Usable f ⌝ }
-    ensures { λ r. ⌜ r ≡ Step.Refused (misplacedBy 20 (seenAt (requestForms (f .top)) (f .width) (now (q .entry)) at)) ⌝ }
+    ensures { λ r. ⌜ r ≡ Progress.Refused (misplacedBy 20 (seenAt (requestForms (f .top)) (f .width) (now (q .entry)) at)) ⌝ }
 {
     let g = Grammar::Request;
-    Step::Refused(misplaced_by(g, seen_at(q, f, g, at)))
+    Progress::Refused(misplaced_by(g, seen_at(q, f, g, at)))
 }
 
 // The filter at a position, with `depth` more levels and `left` more lines allowed.
-pub fn filter_at(q: &[u8], at: usize, f: Format, depth: u64, left: u64) -> Step
+pub fn filter_at(q: &[u8], at: usize, f: Format, depth: u64, left: u64) -> Progress
     requires { ⌜ Usable f ⌝ }
     ensures { λ r. ⌜ r ≡ filterAt (requestGrammar (f .top)) (f .width) (now (q .entry)) depth at left ⌝ }
 {
@@ -111,25 +111,25 @@ pub fn filter_at(q: &[u8], at: usize, f: Format, depth: u64, left: u64) -> Step
         return too_deep(q, at, f);
     }
     match node_at(q, at, f, left) {
-        Node::Refused(number) => Step::Refused(number),
-        Node::Item { next, left } => Step::Read { next, left },
+        Node::Refused(number) => Progress::Refused(number),
+        Node::Item { next, left } => Progress::Read { next, left },
         Node::Operator { count, next, left } => {
             let mut pos = next;
             let mut room = left;
             let mut n = count;
             while 0 < n {
                 match filter_at(q, pos, f, depth - 1, room) {
-                    Step::Read { next, left } => {
+                    Progress::Read { next, left } => {
                         pos = next;
                         room = left;
                     }
-                    Step::Refused(number) => {
-                        return Step::Refused(number);
+                    Progress::Refused(number) => {
+                        return Progress::Refused(number);
                     }
                 }
                 n -= 1;
             }
-            Step::Read {
+            Progress::Read {
                 next: pos,
                 left: room,
             }

@@ -10,8 +10,8 @@ use Rattle.sheet_due.specs.declared.Due.{Due}
 use Rattle.sheet_due.specs.declared.Reached.{Reached}
 use Rattle.sheet_due.specs.declared.Group.{Group}
 use Rattle.request_filter.specs.Filters.{filterAt}
-use Rattle.request_piece.specs.declared.Step.{Step}
-use Rattle.request_piece.specs.declared.Step.the-variants.{Read, Refused}
+use Rattle.request_piece.specs.declared.Progress.{Progress}
+use Rattle.request_piece.specs.declared.Progress.the-variants.{Read, Refused}
 use Rattle.request_operation.specs.declared.Body.{Body}
 
 -- K 12, K 14 and K 15, up to `e`
@@ -19,7 +19,7 @@ abbrev pub bodyOf : Reached → Line → Line → Line → Body
 bodyOf e selection assertion subset = record { refusal = e .refusal; selection = selection; assertion = assertion; subset = subset; next = e .next }
 
 -- the position after a filter, or its refusal
-abbrev pub reachedBy : Step → Reached
+abbrev pub reachedBy : Progress → Reached
 reachedBy (Read next left) = reachedAt next
 reachedBy (Refused n) = record { refusal = n; next = 0 }
 

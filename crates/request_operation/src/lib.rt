@@ -1,6 +1,6 @@
 // The lines of a request after its base, by its operation: what is selected, compared, or searched for.
 use request_filter::filter_at;
-use request_piece::Step;
+use request_piece::Progress;
 use rules::Format;
 use rules::operation;
 use sheet_due::Reached;
@@ -44,12 +44,12 @@ fn body_of(end: Reached, selection: Line, assertion: Line, subset: Line) -> Body
 }
 
 // The position after a filter, or its refusal.
-fn reached_by(step: Step) -> Reached
+fn reached_by(step: Progress) -> Reached
     ensures { λ r. ⌜ r ≡ reachedBy step ⌝ }
 {
     match step {
-        Step::Read { next, .. } => reached_at(next),
-        Step::Refused(number) => Reached {
+        Progress::Read { next, .. } => reached_at(next),
+        Progress::Refused(number) => Reached {
             refusal: number,
             next: 0,
         },

@@ -14,7 +14,7 @@ ghost use Rattle.rules.specs.Request.{requestGrammar};
 ghost use Rattle.request_piece.specs.Pieces.{inPlace, pieceOf, pieceBy, pieceAt, piecesAt};
 
 // A part of a filter that was read, up to `next`, with `left` more lines allowed; or the refusal.
-pub enum Step {
+pub enum Progress {
     Read { next: usize, left: u64 },
     Refused(u64),
 }
@@ -31,41 +31,41 @@ fn in_place(a: u64, first: bool, after: u64) -> bool
 }
 
 // An allowed line where a piece is due.
-fn piece_of(first: bool, after: u64, left: u64, line: Line) -> Step
+fn piece_of(first: bool, after: u64, left: u64, line: Line) -> Progress
     ensures { λ r. ⌜ r ≡ pieceOf 20 first after left line ⌝ }
 {
     if !is(line.kind, Kind::Piece) {
-        return Step::Refused(refusal::REQUEST_OUT_OF_ORDER);
+        return Progress::Refused(refusal::REQUEST_OUT_OF_ORDER);
     }
     if in_place(line.a, first, after) {
-        Step::Read {
+        Progress::Read {
             next: line.next,
             left,
         }
     } else {
-        Step::Refused(refusal::REQUEST_OUT_OF_ORDER)
+        Progress::Refused(refusal::REQUEST_OUT_OF_ORDER)
     }
 }
 
 // What was seen where a piece is due.
-fn piece_by(first: bool, after: u64, left: u64, seen: Seen) -> Step
+fn piece_by(first: bool, after: u64, left: u64, seen: Seen) -> Progress
     ensures { λ r. ⌜ r ≡ pieceBy 20 first after left seen ⌝ }
 {
     match seen {
         Seen::Line(line) => {
             if left == 0 {
-                Step::Refused(refusal::REQUEST_OUT_OF_ORDER)
+                Progress::Refused(refusal::REQUEST_OUT_OF_ORDER)
             } else {
                 piece_of(first, after, left - 1, line)
             }
         }
-        Seen::NotAllowed => Step::Refused(refusal::REQUEST_NOT_ALLOWED),
-        Seen::Missing => Step::Refused(refusal::REQUEST_OUT_OF_ORDER),
+        Seen::NotAllowed => Progress::Refused(refusal::REQUEST_NOT_ALLOWED),
+        Seen::Missing => Progress::Refused(refusal::REQUEST_OUT_OF_ORDER),
     }
 }
 
 // A piece at a position, with `after` pieces after it.
-fn piece_at(q: &[u8], at: usize, f: Format, first: bool, after: u64, left: u64) -> Step
+fn piece_at(q: &[u8], at: usize, f: Format, first: bool, after: u64, left: u64) -> Progress
     requires { ⌜ Usable f ⌝ }
     ensures { λ r. ⌜ r ≡ pieceAt (requestGrammar (f .top)) (f .width) (now (q .entry)) first after at left ⌝ }
 {
@@ -73,7 +73,7 @@ fn piece_at(q: &[u8], at: usize, f: Format, first: bool, after: u64, left: u64) 
 }
 
 // `count` pieces from a position on.
-pub fn pieces_at(q: &[u8], at: usize, f: Format, count: u64, left: u64) -> Step
+pub fn pieces_at(q: &[u8], at: usize, f: Format, count: u64, left: u64) -> Progress
     requires { ⌜ Usable f ⌝ }
     ensures { λ r. ⌜ r ≡ piecesAt (requestGrammar (f .top)) (f .width) (now (q .entry)) true count at left ⌝ }
 {
@@ -83,18 +83,18 @@ pub fn pieces_at(q: &[u8], at: usize, f: Format, count: u64, left: u64) -> Step
     let mut n = count;
     while 0 < n {
         match piece_at(q, pos, f, first, n - 1, room) {
-            Step::Read { next, left } => {
+            Progress::Read { next, left } => {
                 pos = next;
                 room = left;
             }
-            Step::Refused(number) => {
-                return Step::Refused(number);
+            Progress::Refused(number) => {
+                return Progress::Refused(number);
             }
         }
         first = false;
         n -= 1;
     }
-    Step::Read {
+    Progress::Read {
         next: pos,
         left: room,
     }

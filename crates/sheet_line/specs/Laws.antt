@@ -21,7 +21,7 @@ linesBy w s Taken.NotInForm = broken
 linesBy w s Taken.End = end
 
 -- a line of `l` bytes at the position `at`, where it fits the sheet
-pub record Fits (w : ℕ) (s : Bytes) (at : ℕ) (x : Line) : Type 0 where
+pub record LineFits (w : ℕ) (s : Bytes) (at : ℕ) (x : Line) : Type 0 where
   pub place : x .place ≡ at + 5 * w
   pub next : x .next ≡ x .place + x .length + 1
   pub short : x .length ≤ 64
@@ -39,7 +39,7 @@ module _ (w : ℕ) (s : Bytes) (at : ℕ) where
   unfolding takenAt
   taken-lines = by-front (frontOf w (drop at s)) refl
 
-  fits-front : (f : Front) → frontOf w (drop at s) ≡ f → {x : Line} → takenBy w at f ≡ Taken.Line x → Fits w s at x
+  fits-front : (f : Front) → frontOf w (drop at s) ≡ f → {x : Line} → takenBy w at f ≡ Taken.Line x → LineFits w s at x
   fits-front (Front.Taken k a b c l) e {x} p =
       let h = taken-fits w s at e in
       let m : l ≡ x .length = cc in
@@ -49,9 +49,9 @@ module _ (w : ℕ) (s : Bytes) (at : ℕ) where
   fits-front Front.NotInForm e p = absurd (let z : _≡_ {A = ℕ} 0 1 = cc in omega arith)
   fits-front Front.End e p = absurd (let z : _≡_ {A = ℕ} 0 1 = cc in omega arith)
 
-  pub taken-fits-line : {x : Line} → takenAt w s at ≡ Taken.Line x → Fits w s at x
+  pub taken-fits-line : {x : Line} → takenAt w s at ≡ Taken.Line x → LineFits w s at x
   unfolding takenAt
   taken-fits-line e = fits-front (frontOf w (drop at s)) refl e
 
-pub bytes-length : (w : ℕ) (s : Bytes) (at : ℕ) {x : Line} → Fits w s at x → length (bytesOf s x) ≡ x .length
+pub bytes-length : (w : ℕ) (s : Bytes) (at : ℕ) {x : Line} → LineFits w s at x → length (bytesOf s x) ≡ x .length
 bytes-length w s at {x} f = length-take-le (x .length) (drop (x .place) s) (rw length-drop (omega (arith, f .place, f .next, f .within)))

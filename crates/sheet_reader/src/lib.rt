@@ -12,7 +12,7 @@ ghost use Rattle.rules.specs.Sheet.{Usable};
 ghost use Rattle.rules.specs.Places.{schemaOf};
 ghost use Rattle.sheet_kind.specs.Kinds.{numberOf};
 ghost use Rattle.sheet_due.specs.Grammars.{grammarOf};
-ghost use Rattle.sheet_reader.specs.Readings.{readerAt, dueReading, groupReading};
+ghost use Rattle.sheet_reader.specs.Advances.{readerAt, dueAdvance, groupAdvance};
 
 // A sheet, and the position of the line that is read next.
 pub struct Reader<'a> {
@@ -21,7 +21,7 @@ pub struct Reader<'a> {
 }
 
 // A line that was due, or the refusal (0: none), and the reader moved past the line and the lines that it counts.
-pub struct Reading<'a> {
+pub struct Advance<'a> {
     pub refusal: u64,
     pub line: Line,
     pub rest: Reader<'a>,
@@ -36,9 +36,9 @@ impl<'a> Reader<'a> {
     }
 
     // The line of a kind that is due at the reader's position, unless there is a refusal already.
-    pub fn due(self, f: Format, g: Grammar, schema: &[u64], refusal: u64, kind: Kind) -> Reading<'a>
+    pub fn due(self, f: Format, g: Grammar, schema: &[u64], refusal: u64, kind: Kind) -> Advance<'a>
         requires { ⌜ Usable f ⌝ }
-        ensures { λ r. ⌜ r ≡ dueReading (grammarOf (f .top) (schemaOf (now (schema .entry))) g) (f .width) (self .entry) refusal (numberOf kind) ⌝ }
+        ensures { λ r. ⌜ r ≡ dueAdvance (grammarOf (f .top) (schemaOf (now (schema .entry))) g) (f .width) (self .entry) refusal (numberOf kind) ⌝ }
     {
         let from = Reached {
             refusal,
@@ -47,7 +47,7 @@ impl<'a> Reader<'a> {
         let due = due_at(self.sheet, f, g, schema, from, kind);
         let line = due.line;
         let at = line.next;
-        Reading {
+        Advance {
             refusal: due.refusal,
             line,
             rest: Reader {
@@ -66,9 +66,9 @@ impl<'a> Reader<'a> {
         refusal: u64,
         kind: Kind,
         part: Kind,
-    ) -> Reading<'a>
+    ) -> Advance<'a>
         requires { ⌜ Usable f ⌝ }
-        ensures { λ r. ⌜ r ≡ groupReading (grammarOf (f .top) (schemaOf (now (schema .entry))) g) (f .width) (self .entry) refusal (numberOf kind) (numberOf part) ⌝ }
+        ensures { λ r. ⌜ r ≡ groupAdvance (grammarOf (f .top) (schemaOf (now (schema .entry))) g) (f .width) (self .entry) refusal (numberOf kind) (numberOf part) ⌝ }
     {
         let from = Reached {
             refusal,
@@ -77,7 +77,7 @@ impl<'a> Reader<'a> {
         let group = group_at(self.sheet, f, g, schema, from, kind, part);
         let line = group.line;
         let at = group.next;
-        Reading {
+        Advance {
             refusal: group.refusal,
             line,
             rest: Reader {

@@ -53,7 +53,7 @@ abbrev pub firstAt : List ℕ → ℕ → ℕ
 firstAt b k = getD b (1096 + k) 0
 
 -- a table of the book's size, with counts that its columns have room for
-pub record Fits (b : List ℕ) : Type 0 where
+pub record BookFits (b : List ℕ) : Type 0 where
   pub size : length b ≡ BOOK
   pub narrow : 6 ≤ width b
   pub wide : width b ≤ 18

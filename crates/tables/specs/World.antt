@@ -8,7 +8,7 @@ use Rattle.rules.specs.Directory.{Stored, blank}
 use Rattle.rules.specs.Decision.{Setting}
 use Rattle.rules.specs.Places.{linesAt, valuesOf, schemaOf}
 use Rattle.rules.specs.Laws.Directory.{Accepted}
-use Rattle.tables.specs.Book.{Fits, width, entries, schema, placeAt, parentAt, namingAt, lengthAt, namingOf, firstAt}
+use Rattle.tables.specs.Book.{BookFits, width, entries, schema, placeAt, parentAt, namingAt, lengthAt, namingOf, firstAt}
 use Rattle.tables.specs.Held.{HELD, Distinct, HeldAt}
 use Rattle.tables.specs.Sets.{SETS, Rights}
 
@@ -22,7 +22,7 @@ pub record EntryAt (d : Bytes) (e : Stored) (book : List ℕ) (k : ℕ) : Type 0
 
 -- the setting and the accepted entries `es` of the directory `d`, by the book and the rows of the values held
 pub record Entries (σ : Setting) (es : List Stored) (d : Bytes) (book held : List ℕ) : Type 0 where
-  pub fits : Fits book
+  pub fits : BookFits book
   pub rows : length held ≡ HELD
   pub small : length d ≤ 65536
   pub schema-is : σ .schema ≡ schemaOf (schema book)

@@ -3,7 +3,7 @@ ghost use mathlib.Core.Path.{_≡_};
 ghost use Rattle.tables.specs.Book as Book;
 ghost use Prim.Native.Nat.{_+_, _≤_, _<_};
 ghost use lib.ListN.{length};
-ghost use Rattle.tables.specs.Book.{Fits, placeAt, lengthAt, namingOf};
+ghost use Rattle.tables.specs.Book.{BookFits, placeAt, lengthAt, namingOf};
 
 // One number each: the bytes of a column on the sheets; how many types and entries there are.
 pub const WIDTH: usize = 0;
@@ -33,7 +33,7 @@ pub const FIRST_ROWS: usize = 257;
 pub const BOOK: usize = 1353;
 
 pub fn schema(book: &[u64]) -> &[u64]
-    requires { ⌜ Fits (now book) ⌝ }
+    requires { ⌜ BookFits (now book) ⌝ }
     ensures { λ r. ⌜ now r ≡ Book.schema (now (book .entry)) ⌝ }
 {
     let n = book[TYPES] as usize;
@@ -41,7 +41,7 @@ pub fn schema(book: &[u64]) -> &[u64]
 }
 
 pub fn parents(book: &[u64]) -> &[u64]
-    requires { ⌜ Fits (now book) ⌝ }
+    requires { ⌜ BookFits (now book) ⌝ }
     ensures { λ r. ⌜ now r ≡ Book.parents (now (book .entry)) ⌝ }
 {
     let n = book[ENTRIES] as usize;

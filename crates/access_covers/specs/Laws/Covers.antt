@@ -26,9 +26,9 @@ use Rattle.access_items.specs.Laws.Rows.{same-row, zeros}
 use Rattle.access_items.specs.Laws.Items.{items-length, items-front, items-noted}
 use Rattle.access_covers.specs.Enter.{aloneEntered, downEntered, reachAt, allEntered}
 use Rattle.access_covers.specs.Noted.{downTo, coversTo, coversNoted, rightsNoted}
-use Rattle.access_covers.specs.Reached.{Reached}
+use Rattle.access_covers.specs.Sources.{Sources}
 use Rattle.access_covers.specs.Laws.Row.{Inherits}
-use Rattle.access_covers.specs.Laws.Enter.{aloneBy, ownBy, alone-entered, down-entered, Clear, Owned, owned-all}
+use Rattle.access_covers.specs.Laws.Enter.{aloneBy, ownBy, alone-entered, down-entered, RowsClear, Owned, owned-all}
 use Rattle.access_covers.specs.Laws.Inherit.{Kept, kept, inherits-next, Inherited, inherited-none, inherited-more}
 
 getD-map : (f : Item → ℕ) (is : List Item) (k : ℕ) → k < length is → getD (map f is) k 0 ≡ f (getD is k blank)
@@ -89,7 +89,7 @@ rights-whole rights schema order reach parents sets s t h e = e ∙ ap (coversNo
 
 -- ---- what they stand for
 
-module _ (σ : Setting) (es : List Stored) (reach order parents : List ℕ) (given : Reached σ es reach order parents) where
+module _ (σ : Setting) (es : List Stored) (reach order parents : List ℕ) (given : Sources σ es reach order parents) where
   -- an item of the order has a reach
   pub within-reach : (p : ℕ) → p < length order → getD order p 0 < length reach
   within-reach p l =
@@ -122,7 +122,7 @@ module _ (σ : Setting) (es : List Stored) (reach order parents : List ℕ) (giv
           ∙ reach-concerns σ es (given .accepted) k l (itemAt (σ .items) order j)
 
   -- of a table without members in the rows of the entries
-  module _ (sets : List ℕ) (size : length sets ≡ SETS) (clear : Clear sets) where
+  module _ (sets : List ℕ) (size : length sets ≡ SETS) (clear : RowsClear sets) where
     few : length order ≤ 256
     few = omega (arith, given .count, given .few-items)
 
@@ -170,7 +170,7 @@ items-kept is order schema p s t e h = record {
 
 -- what the requester may
 pub rights-noted : (σ : Setting) (es : List Stored) (w : ℕ) (p : Bytes) (rights scopes schema order reach parents : List ℕ) → Rising 0 schema → length schema ≤ 64
-    → Sorted w p (σ .items) rights scopes order → Reached σ es reach order parents → Rights σ es schema p (rightsNoted rights schema order reach parents (replicate SETS 0))
+    → Sorted w p (σ .items) rights scopes order → Sources σ es reach order parents → Rights σ es schema p (rightsNoted rights schema order reach parents (replicate SETS 0))
 unfolding rightsNoted
 rights-noted σ es w p rights scopes schema order reach parents rising few S R = record {
   order = order;

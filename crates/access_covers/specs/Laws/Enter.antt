@@ -101,8 +101,8 @@ module _ (t : List ℕ) (room : 1028 ≤ length t) (p : ℕ) (small : p < 256) w
 -- ---- all items
 
 -- the rows of the entries have no member
-abbrev pub Clear : List ℕ → Type 0
-Clear t = (i : ℕ) → i < 1028 → getD t i 0 ≡ 0
+abbrev pub RowsClear : List ℕ → Type 0
+RowsClear t = (i : ℕ) → i < 1028 → getD t i 0 ≡ 0
 
 -- one item more
 pub entered-more : (entered : ℕ → ℕ → List ℕ → List ℕ) (reach order s t u : List ℕ) (n : ℕ) → t ≡ allEntered entered reach order n s → u ≡ entered (reachAt reach order n) n t
@@ -116,7 +116,7 @@ module _ (entered : ℕ → ℕ → List ℕ → List ℕ) (by : ℕ → ℕ →
     -- the items at the places below `n`, in the rows of the entries that they name
     pub record Owned (n : ℕ) (u : List ℕ) : Type 0 where
       pub size : length u ≡ length t
-      pub rows : Clear t → (e j : ℕ) → e ≤ 256 → inRow u e j ≡ (ltb j n && by (reachAt reach order j) e)
+      pub rows : RowsClear t → (e j : ℕ) → e ≤ 256 → inRow u e j ≡ (ltb j n && by (reachAt reach order j) e)
       pub after : (i : ℕ) → 1028 ≤ i → getD u i 0 ≡ getD t i 0
 
     pub owned-all : (n : ℕ) → n ≤ 256 → Owned n (allEntered entered reach order n t)

@@ -17,7 +17,7 @@ use Rattle.value_syntax.specs.Laws.Digest.{digest-bound}
 use Rattle.name.specs.Schema.{rankIn}
 use Rattle.directory_schema.specs.Schema.{Rising}
 use Rattle.permission_sheet.specs.Noted as Noted
-use Rattle.permission_sheet.specs.Noted.{Row, DIGEST, TYPE, VALUE, LENGTH, RIGHTS}
+use Rattle.permission_sheet.specs.Noted.{ItemRow, DIGEST, TYPE, VALUE, LENGTH, RIGHTS}
 use Rattle.tables.specs.Held.{typeAt}
 use Rattle.tables.specs.Sets.{SETS, inRow, slotted, Items}
 use Rattle.access_items.specs.Note.{Small, Rows, permitted, valueNoted, aboutNoted, typeNoted, grantsNoted, itemNoted, itemsNoted}
@@ -25,7 +25,7 @@ use Rattle.access_items.specs.Sorted.{Sorted}
 use Rattle.access_items.specs.Laws.Rows.{same-row, clear-row, zeros, more-in}
 use Rattle.access_items.specs.Mark.{marked}
 use Rattle.access_items.specs.Laws.Mark.{marked-length}
-use Rattle.access_items.specs.Laws.Note.{Entered, belongs, entered-item, belongs-grants, belongs-permission, belongs-what, belongs-type, belongs-slot}
+use Rattle.access_items.specs.Laws.Note.{ItemEntered, belongs, entered-item, belongs-grants, belongs-permission, belongs-what, belongs-type, belongs-slot}
 
 -- one item more
 pub items-more : (rights schema order s t u : List ℕ) (j : ℕ) → t ≡ itemsNoted rights schema order j s → u ≡ itemNoted rights (getD order j 0 * RIGHTS) schema j t → u ≡ itemsNoted rights schema order (j + 1) s
@@ -171,7 +171,7 @@ module _ (rights schema order : List ℕ) where
       v : List ℕ
       v = valueNoted rights (rowStart order n) n u
 
-      E : Entered n (belongs rights (rowStart order n) schema) t u
+      E : ItemEntered n (belongs rights (rowStart order n) schema) t u
       E = entered-item rights (rowStart order n) schema small rising few n t (h .size) l
 
       len : length u ≡ SETS
@@ -190,7 +190,7 @@ module _ (rights schema order : List ℕ) where
 
 module _ (w : ℕ) (p : Bytes) (is : List Item) (rights scopes order : List ℕ) (S : Sorted w p is rights scopes order) where
   row-of : (j : ℕ) → j < length is
-      → Row w p (itemAt is order j) (λ c. getD rights (rowStart order j + c) 0) (λ c. getD scopes (getD order j 0 * Noted.SCOPES + c) 0)
+      → ItemRow w p (itemAt is order j) (λ c. getD rights (rowStart order j + c) 0) (λ c. getD scopes (getD order j 0 * Noted.SCOPES + c) 0)
   row-of j l = S .table .rows (getD order j 0) (S .ranked .within j l)
 
   pub small-rows : Rows rights order

@@ -21,20 +21,20 @@ use Rattle.access_items.specs.Laws.Mark.{marked-length, marked-other, ma
 -- ---- rows that the item at place `j` enters
 
 -- those that `hit` names, and no word before the rows of items or after them changes
-pub record Entered (j : ℕ) (hit : ℕ → Bool) (s t : List ℕ) : Type 0 where
+pub record ItemEntered (j : ℕ) (hit : ℕ → Bool) (s t : List ℕ) : Type 0 where
   pub size : length t ≡ length s
   pub front : (i : ℕ) → i < 1028 → getD t i 0 ≡ getD s i 0
   pub after : (i : ℕ) → 1592 ≤ i → getD t i 0 ≡ getD s i 0
   pub rows : (f i : ℕ) → inRow t f i ≡ ((eqb i j && hit f) || inRow s f i)
 
-entered-none : (j : ℕ) (t : List ℕ) → Entered j (λ f. false) t t
+entered-none : (j : ℕ) (t : List ℕ) → ItemEntered j (λ f. false) t t
 entered-none j t = record { size = refl; front = λ i l. refl; after = λ i l. refl; rows = λ f i. go (eqb i j) (inRow t f i) }
   where
     go : (x m : Bool) → m ≡ ((x && false) || m)
     go true m = refl
     go false m = refl
 
-entered-then : (j : ℕ) (g h : ℕ → Bool) (s t u : List ℕ) → Entered j h s t → Entered j g t u → Entered j (λ f. g f || h f) s u
+entered-then : (j : ℕ) (g h : ℕ → Bool) (s t u : List ℕ) → ItemEntered j h s t → ItemEntered j g t u → ItemEntered j (λ f. g f || h f) s u
 entered-then j g h s t u p q = record {
   size = q .size ∙ p .size;
   front = λ i l. q .front i l ∙ p .front i l;
@@ -47,7 +47,7 @@ entered-then j g h s t u p q = record {
     go true false b m = refl
     go false a b m = refl
 
-entered-row : (t : List ℕ) (r j b : ℕ) → length t ≡ SETS → 257 ≤ r → r < 398 → j < 256 → b < 2 → Entered j (λ f. eqb f r && eqb b 1) t (marked t r j b)
+entered-row : (t : List ℕ) (r j b : ℕ) → length t ≡ SETS → 257 ≤ r → r < 398 → j < 256 → b < 2 → ItemEntered j (λ f. eqb f r && eqb b 1) t (marked t r j b)
 entered-row t r j b len low high small two = record {
   size = marked-length t r j b;
   front = λ i l. marked-other t r j b i (λ e. omega arith);
@@ -62,7 +62,7 @@ unfoldable pub permits : ℕ → ℕ → ℕ → Bool
 permits zero mask f = false
 permits (suc b) mask f = (eqb f (258 + b) && eqb (mask / 2 ^ b % 2) 1) || permits b mask f
 
-entered-permissions : (n mask j : ℕ) (t : List ℕ) → n ≤ 6 → length t ≡ SETS → j < 256 → Entered j (permits n mask) t (permitted n mask j t)
+entered-permissions : (n mask j : ℕ) (t : List ℕ) → n ≤ 6 → length t ≡ SETS → j < 256 → ItemEntered j (permits n mask) t (permitted n mask j t)
 unfolding permits permitted
 entered-permissions zero mask j t h len small = entered-none j t
 entered-permissions (suc b) mask j t h len small =
@@ -139,12 +139,12 @@ module _ (schema : List ℕ) (a : ℕ) where
     pub type-none : Rising 0 schema → a ≡ 0 → typeNoted schema a j t ≡ t
     type-none h e = type-unknown (omega (arith, rank-none 0 schema h, ap (rankIn schema) e))
 
-    entered-type : length schema ≤ 64 → length t ≡ SETS → j < 256 → Entered j typeRow t (typeNoted schema a j t)
+    entered-type : length schema ≤ 64 → length t ≡ SETS → j < 256 → ItemEntered j typeRow t (typeNoted schema a j t)
     unfolding typeRow typeNoted
     entered-type few len small = go (ltb (rankIn schema a) (length schema)) refl
       where
         go : (b : Bool) → ltb (rankIn schema a) (length schema) ≡ b
-            → Entered j (λ f. b && (eqb f (270 + rankIn schema a) && eqb 1 1)) t (cond b (marked t (270 + rankIn schema a) j 1) t)
+            → ItemEntered j (λ f. b && (eqb f (270 + rankIn schema a) && eqb 1 1)) t (cond b (marked t (270 + rankIn schema a) j 1) t)
         go true e =
             let l : rankIn schema a < length schema = ltb-true (rankIn schema a) (length schema) e in
             entered-row t (270 + rankIn schema a) j 1 len (omega arith) (omega arith) small (omega arith)
@@ -187,7 +187,7 @@ module _ (rights : List ℕ) (at : ℕ) (schema : List ℕ) where
 
   module _ (small : Small rights at) (rising : Rising 0 schema) (few : length schema ≤ 64) where
     entered-grants : (j : ℕ) (t : List ℕ) → length t ≡ SETS → j < 256
-        → Entered j (λ f. permits 6 (getD rights (at + PERMISSIONS) 0) f || (eqb f 257 && eqb (getD rights (at + GRANTS) 0) 1)) t (grantsNoted rights at j t)
+        → ItemEntered j (λ f. permits 6 (getD rights (at + PERMISSIONS) 0) f || (eqb f 257 && eqb (getD rights (at + GRANTS) 0) 1)) t (grantsNoted rights at j t)
     unfolding grantsNoted
     entered-grants j t len h =
         let t₁ = marked t 257 j (getD rights (at + GRANTS) 0) in
@@ -196,7 +196,7 @@ module _ (rights : List ℕ) (at : ℕ) (schema : List ℕ) where
         (entered-permissions 6 (getD rights (at + PERMISSIONS) 0) j t₁ (omega arith) (g .size ∙ len) h)
 
     entered-about : (j : ℕ) (t : List ℕ) → length t ≡ SETS → j < 256
-        → Entered j (λ f. (eqb f (secondSlot (getD rights (at + DIGEST) 0)) && eqb 1 1) || ((eqb f (firstSlot (getD rights (at + DIGEST) 0)) && eqb 1 1) || (eqb f (264 + getD rights (at + WHAT) 0) && eqb 1 1))) t
+        → ItemEntered j (λ f. (eqb f (secondSlot (getD rights (at + DIGEST) 0)) && eqb 1 1) || ((eqb f (firstSlot (getD rights (at + DIGEST) 0)) && eqb 1 1) || (eqb f (264 + getD rights (at + WHAT) 0) && eqb 1 1))) t
         (aboutNoted rights at j t)
     unfolding aboutNoted
     entered-about j t len h =
@@ -210,7 +210,7 @@ module _ (rights : List ℕ) (at : ℕ) (schema : List ℕ) where
         (entered-row t₂ (secondSlot d) j 1 (c .size ∙ len) (omega arith) (omega arith) h (omega arith))
 
     pub entered-item : (j : ℕ) (t : List ℕ) → length t ≡ SETS → j < 256
-        → Entered j belongs t (typeNoted schema (getD rights (at + TYPE) 0) j (aboutNoted rights at j (grantsNoted rights at j t)))
+        → ItemEntered j belongs t (typeNoted schema (getD rights (at + TYPE) 0) j (aboutNoted rights at j (grantsNoted rights at j t)))
     unfolding belongs
     entered-item j t len h =
         let t₁ = grantsNoted rights at j t in

@@ -17,7 +17,7 @@ use Rattle.rules.specs.Laws.First.{blank, score, itemAt, Ranked}
 use Rattle.permission_sheet.specs.Noted as Noted
 use Rattle.permission_sheet.specs.Noted.{Table, SCORE, RIGHTS}
 use Rattle.access_order.specs.Pass.{inOrder}
-use Rattle.access_order.specs.Order.{keyAt, Order}
+use Rattle.access_order.specs.Order.{keyAt, Sorting}
 use Rattle.access_order.specs.Laws.Order.{length-order, in-order}
 use Rattle.access_items.specs.Rank.{scoresOf, orderOf}
 
@@ -112,5 +112,5 @@ ranked-order w p is rights scopes table =
         let b : k < length is = subst (λ (m : ℕ). k < m) (length-scores rights (length is)) l in
         subst (λ (m : ℕ). m < 4096) (sym (key k b)) (score-small (getD is k blank) (table .rows k b .bounded .weight))
 
-    o : Order keys order (length is)
-    o = subst (λ (m : ℕ). Order keys order m) (length-scores rights (length is)) (in-order keys small)
+    o : Sorting keys order (length is)
+    o = subst (λ (m : ℕ). Sorting keys order m) (length-scores rights (length is)) (in-order keys small)

@@ -15,7 +15,7 @@ use Rattle.rules.specs.Decision.{Setting, levelFits}
 use Rattle.rules.specs.Places.{linesAt, partsOf}
 use Rattle.rules.specs.Laws.Tests.{bool-ext, eqb-same}
 use Rattle.rules.specs.Numbers.{climbs, walk, numberOr0, baseReach, baseReaches, ownReach, fitsAlways, reachFrom, reachOf}
-use Rattle.permission_sheet.specs.Noted.{Row, bit}
+use Rattle.permission_sheet.specs.Noted.{ItemRow, bit}
 use Rattle.access_scope.specs.Scopes.{Asker, scopeAt, levelBy, whoBy, askedBy, spreadBy, spreadFrom, itemBy}
 use Rattle.access_scope.specs.declared.Requester.{Requester}
 use Rattle.access_scope.specs.declared.Scope.{Scope}
@@ -142,7 +142,7 @@ bit-one false = refl
 
 module _ (σ : Setting) (es : List Stored) (w : ℕ) (p q : Bytes) (rights scopes : List ℕ) (k : ℕ) (who : Requester) (o : ℕ) (i : Item)
     (asker : Asker σ w q who)
-    (row : Row w p i (λ j. getD rights (k * 8 + j) 0) (λ j. getD scopes (k * 7 + j) 0))
+    (row : ItemRow w p i (λ j. getD rights (k * 8 + j) 0) (λ j. getD scopes (k * 7 + j) 0))
     (own : o ≡ numberOr0 (walk (σ .schema) es 0 (partsOf (who .parts) (linesAt w q (who .place)))))
   where
     x : Scope

@@ -7,7 +7,7 @@ use Rattle.rules.specs.Answer.{answer, compareEntry}
 use Rattle.tables.specs.Book.{entries}
 use Rattle.answer_plan.specs.declared.Plan.{Plan}
 use Rattle.answer_plan.specs.Plan.{planned}
-use Rattle.answer_plan.specs.Sound.{Sound}
+use Rattle.answer_plan.specs.Sound.{SoundPlan}
 use Rattle.answer_plan.specs.Laws.Outcome.{absent-sound}
 use Rattle.answer_entry.specs.Laws.Opening.{opened-none}
 use borrow.Author.Needs.{needs}
@@ -22,7 +22,7 @@ returns c = let A = c .before .before .before .before .before .before .before .a
 
 returns-2 : tie.Need-returns-2
 unfolding answer
-returns-2 c = let A = c .before .before .before .before .before .before .args in let E = entries (now (A .book)) in (λ hits. subst (λ (r : Plan). Sound E r hits) (sym (c .absent .ensures)) (absent-sound E hits 2 (A .target .missing) (c .before .before .before .before .before .before .pre .1 .matched)), λ σ es n s hits w q. ap (λ (r : Plan). planned σ es s r hits) (c .absent .ensures) ∙ opened-none σ es (w .entries .accepted) n (A .target .base) (A .target .missing) q 2 Read (compareEntry σ (A .t) (now (A .v))) s hits (c .before .enum-told .given .1))
+returns-2 c = let A = c .before .before .before .before .before .before .args in let E = entries (now (A .book)) in (λ hits. subst (λ (r : Plan). SoundPlan E r hits) (sym (c .absent .ensures)) (absent-sound E hits 2 (A .target .missing) (c .before .before .before .before .before .before .pre .1 .matched)), λ σ es n s hits w q. ap (λ (r : Plan). planned σ es s r hits) (c .absent .ensures) ∙ opened-none σ es (w .entries .accepted) n (A .target .base) (A .target .missing) q 2 Read (compareEntry σ (A .t) (now (A .v))) s hits (c .before .enum-told .given .1))
 
 pub compare-spec : {M : Type 1} → statement M
 compare-spec =

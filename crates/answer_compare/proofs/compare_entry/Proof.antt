@@ -9,7 +9,7 @@ use Rattle.tables.specs.Book.{entries}
 use Rattle.answer_plan.specs.declared.Plan.{Plan}
 use Rattle.answer_plan.specs.Outcome.{isResult}
 use Rattle.answer_plan.specs.Plan.{planned}
-use Rattle.answer_plan.specs.Sound.{Sound}
+use Rattle.answer_plan.specs.Sound.{SoundPlan}
 use Rattle.answer_plan.specs.Laws.Outcome.{absent-sound}
 use Rattle.answer_entry.specs.Laws.Opening.{opens-entry, withheld-sound, opened-open, opened-withheld}
 use borrow.Author.Tests.{not-true, not-false}
@@ -22,10 +22,10 @@ opening-requires c κs = let A = c .before .before .before .args in let E = entr
 
 returns : tie.Need-returns
 unfolding answer
-returns c = let A = c .before .before .before .before .before .before .before .args in let E = entries (now (A .book)) in (λ hits. subst (λ (r : Plan). Sound E r hits) (sym (c .withheld .ensures)) (withheld-sound 2 (c .before .before .before .opening .result) (A .missing) E hits (c .before .before .before .before .before .before .before .pre .2)), λ σ es n base s hits w q e. ap (λ (r : Plan). planned σ es s r hits) (c .withheld .ensures) ∙ opened-withheld σ es (w .entries .accepted) n base (A .missing) q 2 Read (compareEntry σ (A .t) (now (A .v))) (A .b) e s hits _ (c .before .before .before .opening .ensures σ es (now (A .d)) (now (A .p)) (now (A .book)) (now (A .held)) w (omega (arith, c .before .before .before .before .before .before .before .pre .1, w .entries .count))) (sym (c .before .before .is-result .ensures) ∙ not-true _ (c .before .if1 .taken)))
+returns c = let A = c .before .before .before .before .before .before .before .args in let E = entries (now (A .book)) in (λ hits. subst (λ (r : Plan). SoundPlan E r hits) (sym (c .withheld .ensures)) (withheld-sound 2 (c .before .before .before .opening .result) (A .missing) E hits (c .before .before .before .before .before .before .before .pre .2)), λ σ es n base s hits w q e. ap (λ (r : Plan). planned σ es s r hits) (c .withheld .ensures) ∙ opened-withheld σ es (w .entries .accepted) n base (A .missing) q 2 Read (compareEntry σ (A .t) (now (A .v))) (A .b) e s hits _ (c .before .before .before .opening .ensures σ es (now (A .d)) (now (A .p)) (now (A .book)) (now (A .held)) w (omega (arith, c .before .before .before .before .before .before .before .pre .1, w .entries .count))) (sym (c .before .before .is-result .ensures) ∙ not-true _ (c .before .if1 .taken)))
 
 returns-2 : tie.Need-returns-2
-returns-2 c = let A = c .before .before .before .before .before .before .before .before .args in let E = entries (now (A .book)) in (λ hits. subst (λ (r : Plan). Sound E r hits) (sym (c .absent .ensures)) (absent-sound E hits 2 (A .missing) (c .before .before .before .before .before .before .before .before .pre .2)), λ σ es n base s hits w q e. absurd (opens-entry σ es (A .b) Read (ap isResult (sym (c .before .before .before .before .opening .ensures σ es (now (A .d)) (now (A .p)) (now (A .book)) (now (A .held)) w (omega (arith, c .before .before .before .before .before .before .before .before .pre .1, w .entries .count)))) ∙ sym (c .before .before .before .is-result .ensures) ∙ not-false _ (c .before .before .if1 .left)) (c .before .if2 .taken)))
+returns-2 c = let A = c .before .before .before .before .before .before .before .before .args in let E = entries (now (A .book)) in (λ hits. subst (λ (r : Plan). SoundPlan E r hits) (sym (c .absent .ensures)) (absent-sound E hits 2 (A .missing) (c .before .before .before .before .before .before .before .before .pre .2)), λ σ es n base s hits w q e. absurd (opens-entry σ es (A .b) Read (ap isResult (sym (c .before .before .before .before .opening .ensures σ es (now (A .d)) (now (A .p)) (now (A .book)) (now (A .held)) w (omega (arith, c .before .before .before .before .before .before .before .before .pre .1, w .entries .count)))) ∙ sym (c .before .before .before .is-result .ensures) ∙ not-false _ (c .before .before .if1 .left)) (c .before .if2 .taken)))
 
 sub-compare-open : tie.Need-sub-compare-open
 sub-compare-open c = let A = c .before .before .before .before .before .before .before .args in let E = entries (now (A .book)) in omega (arith, c .if2 .left)

@@ -21,7 +21,7 @@ use Rattle.rules.specs.Laws.Held.{holds-flat, someValue-flat}
 use Rattle.rules.specs.declared.Outcome.{Outcome}
 use Rattle.rules.specs.declared.Outcome.the-variants.{Result, InsufficientAccessRights, NoSuchAttributeOrValue, InvalidAttributeSyntax}
 use Rattle.answer_plan.specs.Plan.{planned, successLines}
-use Rattle.answer_plan.specs.Sound.{Sound}
+use Rattle.answer_plan.specs.Sound.{SoundPlan}
 use Rattle.answer_plan.specs.Outcome.{isResult, refusedPlan}
 use Rattle.answer_plan.specs.Laws.Outcome.{refused-planned}
 use Rattle.rules.specs.declared.Found.the-variants.{At}
@@ -116,7 +116,7 @@ module _ {σ : Setting} {es : List Stored} {d : Bytes} {book held : List ℕ} (h
 
 -- ---- the plan
 
-pub compare-sound : (count : ℕ) (b : Bool) (hits : List ℕ) → Sound count (comparePlan b) hits
+pub compare-sound : (count : ℕ) (b : Bool) (hits : List ℕ) → SoundPlan count (comparePlan b) hits
 compare-sound count b hits = record { name = zero-le; entry = zero-le; shown = zero-le; hits = λ i m. absurd (omega (arith, m)) }
 
 -- of the entry of index `k`

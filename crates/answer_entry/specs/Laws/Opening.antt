@@ -20,7 +20,7 @@ use Rattle.rules.specs.declared.Found.{Found}
 use Rattle.rules.specs.declared.Found.the-variants.{At, Nothing}
 use Rattle.tables.specs.Sets.{grantedAt}
 use Rattle.answer_plan.specs.Plan.{planned}
-use Rattle.answer_plan.specs.Sound.{Base, Sound}
+use Rattle.answer_plan.specs.Sound.{Base, SoundPlan}
 use Rattle.answer_plan.specs.Outcome.{isResult, absentPlan, refusedPlan}
 use Rattle.answer_plan.specs.Laws.Outcome.{absent-planned, refused-planned, absent-sound, refused-sound}
 use Rattle.answer_entry.specs.Opening.{openingAt, withheldPlan}
@@ -55,7 +55,7 @@ module _ (op : ℕ) where
   withheld-refused NoSuchAttributeOrValue missing h = refl
   withheld-refused InvalidAttributeSyntax missing h = refl
 
-  pub withheld-sound : (o : Outcome) (missing count : ℕ) (hits : List ℕ) → missing ≤ count → Sound count (withheldPlan op o missing) hits
+  pub withheld-sound : (o : Outcome) (missing count : ℕ) (hits : List ℕ) → missing ≤ count → SoundPlan count (withheldPlan op o missing) hits
   withheld-sound Result missing count hits l = refused-sound count hits op Result
   withheld-sound NoSuchObject missing count hits l = absent-sound count hits op missing l
   withheld-sound InsufficientAccessRights missing count hits l = refused-sound count hits op InsufficientAccessRights

@@ -24,7 +24,7 @@ use Rattle.rules.specs.declared.Found.{Found}
 use Rattle.rules.specs.declared.Found.the-variants.{At}
 use Rattle.tables.specs.Sets.{grantedAt}
 use Rattle.answer_plan.specs.Plan.{successLines, planned}
-use Rattle.answer_plan.specs.Sound.{Base, Sound}
+use Rattle.answer_plan.specs.Sound.{Base, SoundPlan}
 use Rattle.answer_plan.specs.Outcome.{absentPlan}
 use Rattle.answer_plan.specs.Laws.Outcome.{absent-planned, absent-sound}
 use Rattle.answer_entry.specs.Returned.{browsableAt, returnableAt, successPlan, limitedPlan, returnedPlan}
@@ -71,10 +71,10 @@ module _ (f : ℕ → List Line) where
 
 module _ (σ : Setting) (es : List Stored) (s : Selection) (hits : List ℕ) (count : ℕ) (room : count ≤ length hits) where
   -- the lines of a success with this operation are those of its hits, by `f`
-  abbrev Lines : ℕ → (ℕ → List Line) → Type 0
-  Lines op f = (more shown : ℕ) → successLines σ es s (successPlan op more shown) hits ≡ gather f (take shown hits)
+  abbrev LinesOf : ℕ → (ℕ → List Line) → Type 0
+  LinesOf op f = (more shown : ℕ) → successLines σ es s (successPlan op more shown) hits ≡ gather f (take shown hits)
 
-  module _ (op : ℕ) (f : ℕ → List Line) (lines : Lines op f) where
+  module _ (op : ℕ) (f : ℕ → List Line) (lines : LinesOf op f) where
     counted : length (map f (take count hits)) ≡ count
     counted = length-map (take count hits) f ∙ length-take-le count hits room
 
@@ -125,23 +125,23 @@ disclosed-at σ es ok n b walked = disclosed-walk σ es ok n ∙ ap (λ (f : Fou
 -- ---- soundness
 
 module _ (total : ℕ) (hits : List ℕ) (count : ℕ) (room : count ≤ length hits) (below : (i : ℕ) → i < count → getD hits i 0 < total) (op limit : ℕ) where
-  limited-sound : Sound total (limitedPlan op limit count) hits
+  limited-sound : SoundPlan total (limitedPlan op limit count) hits
   unfolding limitedPlan
   limited-sound = go (eqb limit 0) (ltb limit count) refl
     where
-      few : (more shown : ℕ) → shown ≤ count → Sound total (successPlan op more shown) hits
+      few : (more shown : ℕ) → shown ≤ count → SoundPlan total (successPlan op more shown) hits
       few more shown l = record { name = zero-le; entry = zero-le; shown = omega arith; hits = λ i m. below i (omega arith) }
 
-      go : (a b : Bool) → ltb limit count ≡ b → Sound total (cond a (successPlan op 0 count) (cond b (successPlan op 1 limit) (successPlan op 0 count))) hits
+      go : (a b : Bool) → ltb limit count ≡ b → SoundPlan total (cond a (successPlan op 0 count) (cond b (successPlan op 1 limit) (successPlan op 0 count))) hits
       go true b e = few 0 count (omega arith)
       go false true e = let l : limit < count = ltb-true limit count e in few 1 limit (omega arith)
       go false false e = few 0 count (omega arith)
 
-  pub returned-sound : (missing : ℕ) → missing ≤ total → (d : Bool) → Sound total (returnedPlan op missing d limit count) hits
+  pub returned-sound : (missing : ℕ) → missing ≤ total → (d : Bool) → SoundPlan total (returnedPlan op missing d limit count) hits
   unfolding returnedPlan
   returned-sound missing l d = go (eqb count 0) d
     where
-      go : (a d : Bool) → Sound total (cond d (limitedPlan op limit count) (cond a (absentPlan op missing) (limitedPlan op limit count))) hits
+      go : (a d : Bool) → SoundPlan total (cond d (limitedPlan op limit count) (cond a (absentPlan op missing) (limitedPlan op limit count))) hits
       go a true = limited-sound
       go true false = absent-sound total hits op missing l
       go false false = limited-sound

@@ -21,7 +21,7 @@ use Rattle.rules.specs.declared.Found.{Found}
 use Rattle.rules.specs.declared.Found.the-variants.{At, Nothing}
 use Rattle.answer_plan.specs.declared.Plan.{Plan}
 use Rattle.answer_plan.specs.Plan.{planned}
-use Rattle.answer_plan.specs.Sound.{Base, Numbered, Sound}
+use Rattle.answer_plan.specs.Sound.{Base, Numbered, SoundPlan}
 use Rattle.answer_plan.specs.Outcome.{absentPlan}
 use Rattle.answer_plan.specs.Laws.Outcome.{absent-planned, absent-sound}
 use Rattle.tables.specs.Sets.{grantedAt}
@@ -68,8 +68,8 @@ module _ (σ : Setting) (es : List Stored) (ok : Accepted (σ .schema) es) (n : 
 
 -- the numbers of the plans are in range
 module _ (count : ℕ) (base : Found) (missing : ℕ) (h : Numbered count base missing) (plan : Plan) (hits : List ℕ) (op : ℕ) where
-  pub none-sound : plan ≡ absentPlan op missing → Sound count plan hits
-  none-sound e = subst (λ (r : Plan). Sound count r hits) (sym e) (absent-sound count hits op missing (h .matched))
+  pub none-sound : plan ≡ absentPlan op missing → SoundPlan count plan hits
+  none-sound e = subst (λ (r : Plan). SoundPlan count r hits) (sym e) (absent-sound count hits op missing (h .matched))
 
-  pub some-sound : (n : ℕ) (before : List ℕ) → Indices count n before hits → (d : Bool) (limit : ℕ) → plan ≡ returnedPlan op missing d limit n → Sound count plan hits
-  some-sound n before i d limit e = subst (λ (r : Plan). Sound count r hits) (sym e) (returned-sound count hits n (i .room) (i .below) op limit missing (h .matched) d)
+  pub some-sound : (n : ℕ) (before : List ℕ) → Indices count n before hits → (d : Bool) (limit : ℕ) → plan ≡ returnedPlan op missing d limit n → SoundPlan count plan hits
+  some-sound n before i d limit e = subst (λ (r : Plan). SoundPlan count r hits) (sym e) (returned-sound count hits n (i .room) (i .below) op limit missing (h .matched) d)

@@ -1,14 +1,14 @@
 use denote.Ref.{now}
 use native.Mathlib.Omega.{arith}
 use Prim.Native.Nat.{_-_}
-use Rattle.answer_information.specs.Information.{Alike}
+use Rattle.answer_information.specs.Information.{OneRank}
 use Rattle.answer_information.specs.Laws.Rows.{alike-start, alike-on}
 use borrow.Author.Needs.{needs}
 use Rattle.answer_information.proofs.run_end.Statement.{statement}
 use Rattle.answer_information.proofs.run_end.Tie as tie
 
 abbrev Inv-loop : tie.InvT-loop
-Inv-loop held i end j₀ j = Alike held i end j
+Inv-loop held i end j₀ j = OneRank held i end j
 
 abbrev μ-loop : tie.MeasureT-loop
 μ-loop held i end j₀ j = end - j

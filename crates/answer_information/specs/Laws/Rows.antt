@@ -14,7 +14,7 @@ use Rattle.tables.specs.Held.{rankAt, placeAt, sizeAt, typeAt, HeldAt}
 use Rattle.tables.specs.Sets.{grantedAt}
 use Rattle.tables.specs.World.{Entries}
 use Rattle.tables.specs.Laws.World as World
-use Rattle.answer_information.specs.Information.{Alike}
+use Rattle.answer_information.specs.Information.{OneRank}
 
 -- ---- the entry of number `e`
 
@@ -70,14 +70,14 @@ part-few d place n = omega (arith, take-short n (drop place d), length-drop plac
 -- ---- rows of one rank
 
 module _ (held : List ℕ) (i end : ℕ) where
-  pub alike-start : i < end → Alike held i end (i + 1)
+  pub alike-start : i < end → OneRank held i end (i + 1)
   alike-start l = record {
     after = omega arith;
     within = omega (arith, l);
     same = λ j a b. ap (λ (m : ℕ). rankAt held m) (omega (arith, a, b));
   }
 
-  pub alike-on : (r : ℕ) → Alike held i end r → r < end → rankAt held r ≡ rankAt held i → Alike held i end (r + 1)
+  pub alike-on : (r : ℕ) → OneRank held i end r → r < end → rankAt held r ≡ rankAt held i → OneRank held i end (r + 1)
   alike-on r a l e = record {
     after = omega (arith, a .after);
     within = omega (arith, l);

@@ -17,8 +17,8 @@ use Rattle.directory_lookup.specs.Find.{stepOf}
 use Rattle.directory_lookup.specs.Laws.Find.{byStep, name-step}
 use Rattle.answer_matched.specs.Matched.{lastOf}
 use Rattle.answer_matched.specs.Laws.Matched.{descend, descend-matched}
-use Rattle.directory_lookup.specs.declared.find.Step.{Step}
-use Rattle.directory_lookup.specs.declared.find.Step.the-variants.{To, Lost, Ended}
+use Rattle.directory_lookup.specs.declared.find.Descent.{Descent}
+use Rattle.directory_lookup.specs.declared.find.Descent.the-variants.{To, Lost, Ended}
 
 descend-end : (σ : Setting) (es : List Stored) (from last left : ℕ) (s : Sheet) → left ≤ 0 → descend σ es from last (partsOf left s) ≡ last
 unfolding descend partsOf
@@ -58,9 +58,9 @@ module _ (book sets : List ℕ) (d q : Bytes) (place parts : ℕ) where
     pub way-end : left ≤ 0 → last ≤ entries book → Matched last
     way-end e l = reached l (λ σ es p held h. descend-end σ es from last left (linesAt (width book) q j) e)
 
-    module _ (more : 0 < left) (x : Step) (is : (σ : Setting) (es : List Stored) (held : List ℕ) → Entries σ es d book held → x ≡ stepOf (σ .schema) es from q (takenAt (width book) q j))
+    module _ (more : 0 < left) (x : Descent) (is : (σ : Setting) (es : List Stored) (held : List ℕ) → Entries σ es d book held → x ≡ stepOf (σ .schema) es from q (takenAt (width book) q j))
       where
-        turn : (y : Step) → x ≡ y → (σ : Setting) (es : List Stored) (p : Bytes) (held : List ℕ) → World σ es d p book held sets
+        turn : (y : Descent) → x ≡ y → (σ : Setting) (es : List Stored) (p : Bytes) (held : List ℕ) → World σ es d p book held sets
             → descend σ es from last (partsOf left (linesAt (width book) q j))
             ≡ byStep last last (λ k next. descend σ es k (lastOf σ es k last) (partsOf (left - 1) (linesAt (width book) q next))) y
         turn y e σ es p held h =

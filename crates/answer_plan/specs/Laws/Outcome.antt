@@ -13,7 +13,7 @@ use Rattle.rules.specs.Answer.{outcomeNumber, outcome, nameLines, noSuchObject}
 use Rattle.rules.specs.Sheet.{line}
 use Rattle.rules.specs.declared.Found.{Found}
 use Rattle.answer_plan.specs.Plan.{planned}
-use Rattle.answer_plan.specs.Sound.{Base, Sound}
+use Rattle.answer_plan.specs.Sound.{Base, SoundPlan}
 use Rattle.answer_plan.specs.Outcome.{absentPlan, refusedPlan}
 
 module _ (σ : Setting) (es : List Stored) (s : Selection) (hits : List ℕ) (op : ℕ) where
@@ -31,8 +31,8 @@ module _ (σ : Setting) (es : List Stored) (s : Selection) (hits : List ℕ) (op
 
 -- they are sound
 module _ (count : ℕ) (hits : List ℕ) (op : ℕ) where
-  pub absent-sound : (missing : ℕ) → missing ≤ count → Sound count (absentPlan op missing) hits
+  pub absent-sound : (missing : ℕ) → missing ≤ count → SoundPlan count (absentPlan op missing) hits
   absent-sound missing l = record { name = l; entry = zero-le; shown = zero-le; hits = λ i m. absurd (omega (arith, m)) }
 
-  pub refused-sound : (o : Outcome) → Sound count (refusedPlan op o) hits
+  pub refused-sound : (o : Outcome) → SoundPlan count (refusedPlan op o) hits
   refused-sound o = record { name = zero-le; entry = zero-le; shown = zero-le; hits = λ i m. absurd (omega (arith, m)) }

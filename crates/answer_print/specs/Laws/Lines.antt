@@ -18,7 +18,7 @@ use Rattle.rules.specs.Laws.Loops.{gather-suc}
 use Rattle.answer_line.specs.Emit.{Emits}
 use Rattle.answer_line.specs.Laws.Emit.{emits-none, emits-append}
 use Rattle.answer_plan.specs.Plan.{childLines, informationAt, foundLines, successLines, followed, planned}
-use Rattle.answer_plan.specs.Sound.{Sound}
+use Rattle.answer_plan.specs.Sound.{SoundPlan}
 use Rattle.answer_plan.specs.declared.Plan.{Plan}
 use Rattle.answer_name.specs.Name.{namingLine}
 
@@ -42,7 +42,7 @@ unfolding childLines
 child-by es w out at k p = p
 
 -- the entries that are shown
-module _ {count : ℕ} {r : Plan} {hits : List ℕ} (sound : Sound count r hits) where
+module _ {count : ℕ} {r : Plan} {hits : List ℕ} (sound : SoundPlan count r hits) where
   pub shown-many : length (take (r .shown - 0) hits) ≡ r .shown
   shown-many = let z : r .shown - 0 ≡ r .shown = omega arith in rw z (length-take-le (r .shown) hits (sound .shown))
 

@@ -6,7 +6,7 @@ use Rattle.rules.specs.Permission.{Read}
 use Rattle.rules.specs.Answer.{answer, readEntry}
 use Rattle.answer_plan.specs.declared.Plan.{Plan}
 use Rattle.answer_plan.specs.Plan.{planned}
-use Rattle.answer_plan.specs.Sound.{Sound}
+use Rattle.answer_plan.specs.Sound.{SoundPlan}
 use Rattle.answer_plan.specs.Laws.Outcome.{absent-sound}
 use Rattle.answer_entry.specs.Laws.Opening.{opened-none}
 use Rattle.tables.specs.Book.{entries}
@@ -22,7 +22,7 @@ returns c = let A = c .before .before .before .before .before .before .args in l
 
 returns-2 : tie.Need-returns-2
 unfolding answer
-returns-2 c = let A = c .before .before .before .before .before .args in let E = entries (now (A .book)) in (λ hits. subst (λ (r : Plan). Sound E r hits) (sym (c .absent .ensures)) (absent-sound E hits 1 (A .target .missing) (c .before .before .before .before .before .pre .1 .matched)), λ σ es n s hits w ch q. ap (λ (r : Plan). planned σ es s r hits) (c .absent .ensures) ∙ opened-none σ es (w .entries .accepted) n (A .target .base) (A .target .missing) q 1 Read (readEntry σ s) s hits (c .before .enum-told .given .1))
+returns-2 c = let A = c .before .before .before .before .before .args in let E = entries (now (A .book)) in (λ hits. subst (λ (r : Plan). SoundPlan E r hits) (sym (c .absent .ensures)) (absent-sound E hits 1 (A .target .missing) (c .before .before .before .before .before .pre .1 .matched)), λ σ es n s hits w ch q. ap (λ (r : Plan). planned σ es s r hits) (c .absent .ensures) ∙ opened-none σ es (w .entries .accepted) n (A .target .base) (A .target .missing) q 1 Read (readEntry σ s) s hits (c .before .enum-told .given .1))
 
 pub read-spec : {M : Type 1} → statement M
 read-spec =

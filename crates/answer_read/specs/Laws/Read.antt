@@ -19,7 +19,7 @@ use Rattle.tables.specs.Sets.{grantedAt}
 use Rattle.rules.specs.declared.Outcome.{Outcome}
 use Rattle.rules.specs.declared.Outcome.the-variants.{Result, InsufficientAccessRights, NoSuchAttributeOrValue}
 use Rattle.answer_plan.specs.Plan.{planned, successLines, informationAt}
-use Rattle.answer_plan.specs.Sound.{Sound}
+use Rattle.answer_plan.specs.Sound.{SoundPlan}
 use Rattle.answer_plan.specs.Outcome.{isResult, refusedPlan}
 use Rattle.answer_plan.specs.Laws.Outcome.{refused-planned}
 use Rattle.answer_read.specs.Read.{readable, disclosing, asksNothing, readOutcome, readPlan}
@@ -177,7 +177,7 @@ module _ (σ : Setting) (s : Selection) (e : Stored) where
 
 -- ---- the plan
 
-pub read-sound : (count k : ℕ) (b : Bool) (hits : List ℕ) → k < count → Sound count (readPlan k b) hits
+pub read-sound : (count k : ℕ) (b : Bool) (hits : List ℕ) → k < count → SoundPlan count (readPlan k b) hits
 read-sound count k true hits l = record { name = omega (arith, l); entry = omega (arith, l); shown = zero-le; hits = λ i m. absurd (omega (arith, m)) }
 read-sound count k false hits l = record { name = zero-le; entry = omega (arith, l); shown = zero-le; hits = λ i m. absurd (omega (arith, m)) }
 

@@ -26,10 +26,10 @@ use Rattle.sheet_line.specs.declared.Taken.the-variants as Taken
 use Rattle.tables.specs.Book.{entries, width, schema, parentAt, namingAt, namingOf}
 use Rattle.tables.specs.World.{Entries}
 use Rattle.tables.specs.Laws.World.{inside}
-use Rattle.directory_lookup.specs.Find.{UpTo, isChild, Within, stepFound, stepOf}
+use Rattle.directory_lookup.specs.Find.{UpTo, isChild, LeadsWithin, stepFound, stepOf}
 use Rattle.directory_lookup.specs.Laws.Names.{partsBy, parts-by}
-use Rattle.directory_lookup.specs.declared.find.Step.{Step}
-use Rattle.directory_lookup.specs.declared.find.Step.the-variants.{To, Lost, Ended}
+use Rattle.directory_lookup.specs.declared.find.Descent.{Descent}
+use Rattle.directory_lookup.specs.declared.find.Descent.the-variants.{To, Lost, Ended}
 use Rattle.rules.specs.declared.Found.{Found}
 use Rattle.rules.specs.declared.Found.the-variants.{At, Nothing}
 
@@ -46,8 +46,8 @@ unlike s v u e = rw e (none (fits s v) (fits s u))
 pub up-to : (n : ℕ) (f : Found) (b : ℕ) → UpTo n f → f ≡ At b → b ≤ n
 up-to n f b h e = subst (UpTo n) e h
 
-pub within-of : (n : ℕ) (x : Step) (k next : ℕ) → Within n x → x ≡ To k next → k ≤ n
-within-of n x k next h e = subst (Within n) e h
+pub within-of : (n : ℕ) (x : Descent) (k next : ℕ) → LeadsWithin n x → x ≡ To k next → k ≤ n
+within-of n x k next h e = subst (LeadsWithin n) e h
 
 -- ---- is it the child?
 
@@ -114,19 +114,19 @@ module _ (book : List ℕ) (d : Bytes) (parent t s : ℕ) (v : Bytes) where
   IsFound f = (σ : Setting) (es : List Stored) (held : List ℕ) → Entries σ es d book held → syntaxIn (schema book) t ≡ At s → f ≡ childFrom (σ .schema) parent (part t v) es 0
 
   -- the search from index `i` on finds what the whole search finds
-  pub record Sought (i : ℕ) : Type 0 where
+  pub record ChildSought (i : ℕ) : Type 0 where
     pub leads : (σ : Setting) (es : List Stored) (held : List ℕ) → Entries σ es d book held → syntaxIn (schema book) t ≡ At s
         → childFrom (σ .schema) parent (part t v) (drop i es) i ≡ childFrom (σ .schema) parent (part t v) es 0
 
-  pub sought-start : Sought parent
+  pub sought-start : ChildSought parent
   sought-start = record { leads = λ σ es held h q. from-parent (σ .schema) parent (part t v) es (h .accepted) parent (omega arith) }
 
-  module _ (i : ℕ) (sought : Sought i) where
+  module _ (i : ℕ) (sought : ChildSought i) where
     pub sought-here : i < entries book → isChild book d i parent t s v ≡ true → IsFound (At (i + 1))
     sought-here l e σ es held h q =
         sym (from-here (σ .schema) parent (part t v) es i (inside h i l) (sym (child-noted book d i parent t s v h l q) ∙ e)) ∙ sought .leads σ es held h q
 
-    pub sought-on : i < entries book → isChild book d i parent t s v ≡ false → Sought (i + 1)
+    pub sought-on : i < entries book → isChild book d i parent t s v ≡ false → ChildSought (i + 1)
     sought-on l e = record {
       leads = λ σ es held h q. sym (from-on (σ .schema) parent (part t v) es i (inside h i l) (sym (child-noted book d i parent t s v h l q) ∙ e)) ∙ sought .leads σ es held h q;
     }
@@ -164,7 +164,7 @@ byChild lost to (At k) = to k
 byChild lost to Nothing = lost
 
 -- by the step
-abbrev pub byStep : {A : Type 0} → A → A → (ℕ → ℕ → A) → Step → A
+abbrev pub byStep : {A : Type 0} → A → A → (ℕ → ℕ → A) → Descent → A
 byStep ended lost to (To k next) = to k next
 byStep ended lost to Lost = lost
 byStep ended lost to Ended = ended
@@ -219,10 +219,10 @@ module _ (book : List ℕ) (d s : Bytes) (i n : ℕ) where
         done zero l = refl
         done (suc n) l = absurd (omega arith)
 
-    module _ (more : 0 < left) (x : Step)
+    module _ (more : 0 < left) (x : Descent)
         (is : (σ : Setting) (es : List Stored) (held : List ℕ) → Entries σ es d book held → x ≡ stepOf (σ .schema) es from s (takenAt (width book) s j))
       where
-        turn : (y : Step) → x ≡ y → (σ : Setting) (es : List Stored) (held : List ℕ) → Entries σ es d book held
+        turn : (y : Descent) → x ≡ y → (σ : Setting) (es : List Stored) (held : List ℕ) → Entries σ es d book held
             → byStep (At from) Nothing (λ k next. walk (σ .schema) es k (partsOf (left - 1) (linesAt (width book) s next))) y ≡ walk (σ .schema) es 0 (partsOf n (linesAt (width book) s i))
         turn y e σ es held h =
             ap (byStep (At from) Nothing (λ k next. walk (σ .schema) es k (partsOf (left - 1) (linesAt (width book) s next)))) (sym e ∙ is σ es held h)

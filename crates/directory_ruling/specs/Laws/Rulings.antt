@@ -14,7 +14,7 @@ use Rattle.rules.specs.Directory.{Reading, step}
 use Rattle.rules.specs.Places.{schemaOf}
 use Rattle.value_syntax.specs.Digest.{digest}
 use Rattle.sheet_line.specs.declared.Line.{Line}
-use Rattle.sheet_line.specs.Laws.{Fits}
+use Rattle.sheet_line.specs.Laws.{LineFits}
 use Rattle.directory_schema.specs.Laws.Schema.{allowed-known}
 use Rattle.directory_ruling.specs.Mark.{Mark, mark, bucketAt, packed, headAt, slotIn, Room, withMark, MarkWithin, lastIn, Walk, Answers, twin, heads}
 use Rattle.directory_ruling.specs.Laws.Mark.{Marks, mark-room, chain-more, no-twin, last-most}
@@ -27,7 +27,7 @@ use Rattle.directory_ruling.specs.Rulings.{refusing, markOf, marking, ru
 -- ---- one mark more
 
 -- a line that was taken lies within the sheet
-pub line-within : {w : ℕ} {s : Bytes} {i : ℕ} {x : Line} → Fits w s i x → MarkWithin s (mark 0 (x .place) (x .length))
+pub line-within : {w : ℕ} {s : Bytes} {i : ℕ} {x : Line} → LineFits w s i x → MarkWithin s (mark 0 (x .place) (x .length))
 line-within f = record { key = omega arith; size = f .short; bytes = omega (arith, f .next, f .within) }
 
 module _ {s : Bytes} {ks table : List ℕ} {ms : List Mark} (ready : Ready s ks table ms) (owner t : ℕ) (low : owner ≤ lastOwner) (place size : ℕ) (within : MarkWithin s (mark 0 place size))

@@ -25,7 +25,7 @@ use Rattle.sheet_line.specs.declared.Line.{Line}
 use Rattle.sheet_line.specs.declared.Taken.{Taken}
 use Rattle.sheet_line.specs.declared.Taken.the-variants as Taken
 use Rattle.sheet_line.specs.Line.{takenBy, takenAt, bytesOf, lineOf}
-use Rattle.sheet_line.specs.Laws.{Fits, taken-fits-line}
+use Rattle.sheet_line.specs.Laws.{LineFits, taken-fits-line}
 use Rattle.directory_schema.specs.Lines.{judgedFrom}
 use Rattle.directory_schema.specs.Laws.Lines.{formed, judged-refused, judged-on, judged-broken, judged-end, passes-judged, entry-columns}
 use Rattle.directory_schema.specs.Types.{TypesEnded}
@@ -120,7 +120,7 @@ module _ (w : ℕ) (s : Bytes) (i : ℕ) {x : Line} where
   unfolding takenAt
   taken-front e = by-front (frontOf w (drop i s)) e
 
-  taken-value : Fits w s i x → valueOf w (x .length) (drop i s) ≡ bytesOf s x
+  taken-value : LineFits w s i x → valueOf w (x .length) (drop i s) ≡ bytesOf s x
   taken-value f = ap (take (x .length)) (drop-drop (5 * w) i s ∙ ap (λ (p : ℕ). drop p s) (sym (f .place)))
 
 -- ---- one entry more
@@ -170,7 +170,7 @@ module _ {f : Format} {s : Bytes} {ks : List ℕ} {notes : Notes} {depths table 
   here : takenAt (f .width) s i ≡ Taken.Line x
   here = sym (st .stands) ∙ is
 
-  fits : Fits (f .width) s i x
+  fits : LineFits (f .width) s i x
   fits = taken-fits-line (f .width) s i here
 
   outcome : EntryOutcome (f .top) s ks depths table (notes .count) complete current x r

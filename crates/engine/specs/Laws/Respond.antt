@@ -42,7 +42,7 @@ use Rattle.access_items.specs.Sorted.{Sorted}
 use Rattle.access_items.specs.Rank.{orderOf}
 use Rattle.access_items.specs.Laws.Rank.{length-orderOf, ranked-order}
 use Rattle.access_covers.specs.Noted.{rightsNoted}
-use Rattle.access_covers.specs.Reached.{Reached}
+use Rattle.access_covers.specs.Sources.{Sources}
 use Rattle.access_covers.specs.Laws.Covers.{rights-size, rights-noted}
 use Rattle.answer_plan.specs.Sound.{Base, Numbered}
 use Rattle.engine.specs.Judges.{DirectoryAt}
@@ -73,7 +73,7 @@ asker-of σ G w q y a u n = record {
 -- ---- the items that are for the requester
 
 pub reached-of : {σ : Setting} {es : List Stored} {d : Bytes} {book held : List ℕ} → Entries σ es d book held → (w : ℕ) (p : Bytes) (rights scopes order parents : List ℕ) {reach : List ℕ}
-    → parents ≡ Book.parents book → Sorted w p (σ .items) rights scopes order → reach ≡ map (reachOf σ es) (σ .items) → Reached σ es reach order parents
+    → parents ≡ Book.parents book → Sorted w p (σ .items) rights scopes order → reach ≡ map (reachOf σ es) (σ .items) → Sources σ es reach order parents
 reached-of {σ} {es} {book = book} E w p rights scopes order parents q s r = record {
   accepted = E .accepted;
   few = omega (arith, E .count, E .fits .few-entries);
@@ -113,7 +113,7 @@ module _ (f : Format) (d : Bytes) (x : Directory) (r : Notes) (held b book : Lis
 
 -- the sets stand for what the requester may
 module _ {σ : Setting} {es : List Stored} {d p : Bytes} {book held : List ℕ} (E : Entries σ es d book held) (w : ℕ) (rights scopes order reach parents : List ℕ)
-    (S : Sorted w p (σ .items) rights scopes order) (R : Reached σ es reach order parents)
+    (S : Sorted w p (σ .items) rights scopes order) (R : Sources σ es reach order parents)
   where
     pub world-of : (schema cleared sets : List ℕ) → schema ≡ Book.schema book → Rising 0 schema → cleared ≡ replicate SETS 0 → sets ≡ rightsNoted rights schema order reach parents cleared
         → World σ es d p book held sets

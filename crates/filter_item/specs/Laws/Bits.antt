@@ -11,7 +11,7 @@ use lib.Seq.{getD-set-same, getD-set-other}
 use borrow.Author.Tests.{eq-eqb, ne-eqb, eqb-true, eqb-false}
 use Rattle.access_set.specs.Member.{bit}
 use Rattle.access_set.specs.Laws.Bit.{bit-or, bit-pow, bit-none}
-use Rattle.filter_item.specs.Seen.{bitAt}
+use Rattle.filter_item.specs.Matchable.{bitAt}
 
 -- the bit of place `n`, or none
 bit-if : (b : Bool) (n i : ℕ) → bit (cond b (2 ^ n) 0) i ≡ (eqb i n && b)

@@ -28,8 +28,8 @@ use Rattle.tables.specs.Held.{rankAt, bytesAt, typeAt, ValueAt}
 use Rattle.tables.specs.Sets.{grantedAt}
 use Rattle.tables.specs.World.{Entries}
 use Rattle.tables.specs.Laws.Book.{schema-length, type-at}
-use Rattle.filter_item.specs.Seen.{bitAt, SeenAt}
-use Rattle.filter_item.specs.Rows.{someFrom, seenAt, heldRow, someRow}
+use Rattle.filter_item.specs.Matchable.{bitAt, MatchableAt}
+use Rattle.filter_item.specs.Rows.{someFrom, matchableAt, heldRow, someRow}
 use Rattle.filter_item.specs.Items.{assertionBy, definedBy, passesBy, satisfiedIn}
 use Rattle.filter_item.specs.Laws.Items.{countsBy, satisfiedBy, item-unknown, item-undecided, item-decided}
 
@@ -73,17 +73,17 @@ module _ (σ : Setting) (es : List Stored) (d : Bytes) (book held : List ℕ) (n
       ∙ some-parts (λ i. eqb (rankAt held i) rank) (λ p. eqb (p .type) t) parts (firstAt book k) same-rank
       ∙ sym (holds-flat name parts t)
 
-  module _ (asked types : ℕ) (values : List ℕ) (seen : SeenAt σ es d book held k asked types values) (wanted : bit asked rank ≡ true) where
+  module _ (asked types : ℕ) (values : List ℕ) (seen : MatchableAt σ es d book held k asked types values) (wanted : bit asked rank ≡ true) where
     -- a row counts where its value does
     row-counts : (test : Bytes → Bool) (j : ℕ) → j < length parts
-        → (seenAt held values (firstAt book k) rank (firstAt book k + j) && test (bytesAt d held (firstAt book k + j))) ≡ countsBy σ name t FilterMatch test (getD parts j (part 0 []))
-    unfolding seenAt grantedAt
+        → (matchableAt held values (firstAt book k) rank (firstAt book k + j) && test (bytesAt d held (firstAt book k + j))) ≡ countsBy σ name t FilterMatch test (getD parts j (part 0 []))
+    unfolding matchableAt grantedAt
     row-counts test j m = go (eqb (rankAt held (firstAt book k + j)) rank) refl
       where
         granted-row : rankAt held (firstAt book k + j) ≡ rank
             → bitAt values (firstAt book k + j - firstAt book k) ≡ granted σ name (ofValue (getD parts j (part 0 []) .type) (getD parts j (part 0 []) .value)) FilterMatch
         granted-row e =
-            seen .values-seen .value (firstAt book k + j) (omega arith) (omega (arith, m, noted .values k l .count))
+            seen .values-matchable .value (firstAt book k + j) (omega arith) (omega (arith, m, noted .values k l .count))
             ∙ ap (λ (b : Bool). b && grantedAt σ es (suc k) (ofValue (typeAt (schema book) (rankAt held (firstAt book k + j))) (bytesAt d held (firstAt book k + j))) FilterMatch) (ap (bit asked) e ∙ wanted)
             ∙ ap₂ (λ (x : ℕ) (u : Bytes). granted σ name (ofValue x u) FilterMatch) (row j m .type) (row j m .value)
 
@@ -97,8 +97,8 @@ module _ (σ : Setting) (es : List Stored) (d : Bytes) (book held : List ℕ) (n
     some-in : (test : Bytes → Bool) → someRow d held values (firstAt book k) (firstAt book (suc k)) rank test ≡ someValue σ (record { name = name; held = heldOf parts }) t FilterMatch test
     unfolding someRow
     some-in test =
-        ap (someFrom (λ i. seenAt held values (firstAt book k) rank i && test (bytesAt d held i)) (firstAt book k)) count
-        ∙ some-parts (λ i. seenAt held values (firstAt book k) rank i && test (bytesAt d held i)) (countsBy σ name t FilterMatch test) parts (firstAt book k) (row-counts test)
+        ap (someFrom (λ i. matchableAt held values (firstAt book k) rank i && test (bytesAt d held i)) (firstAt book k)) count
+        ∙ some-parts (λ i. matchableAt held values (firstAt book k) rank i && test (bytesAt d held i)) (countsBy σ name t FilterMatch test) parts (firstAt book k) (row-counts test)
         ∙ sym (someValue-flat σ name parts t FilterMatch test)
 
     satisfied-in : (s kind : ℕ) (ps : List Piece) (v : Bytes)
@@ -135,12 +135,12 @@ module _ (σ : Setting) (es : List Stored) (d : Bytes) (book held : List ℕ) (n
     unfolding entryOf
     undecided h = sym (item-undecided σ (getD es k blank .name) (getD es k blank .values) (schema book) (noted .schema-is) kind t v ps syntax with-syntax h)
 
-    module _ (asked types : ℕ) (values : List ℕ) (seen : SeenAt σ es d book held k asked types values) (wanted : bit asked place ≡ true) where
+    module _ (asked types : ℕ) (values : List ℕ) (seen : MatchableAt σ es d book held k asked types values) (wanted : bit asked place ≡ true) where
       -- the type's bit
       type-bit : bit types place ≡ granted σ (getD es k blank .name) (ofType t) FilterMatch
       unfolding grantedAt
       type-bit =
-          seen .types-seen .type place known
+          seen .types-matchable .type place known
           ∙ ap (λ (b : Bool). b && grantedAt σ es (suc k) (ofType (typeAt (schema book) place)) FilterMatch) wanted
           ∙ ap (λ (x : ℕ). granted σ (getD es k blank .name) (ofType x) FilterMatch) type-is
 

@@ -10,17 +10,17 @@ use lib.ListN.{getD}
 use borrow.Author.Tests.{eq-eqb, ne-eqb}
 use Rattle.access_set.specs.Member.{bit}
 use Rattle.tables.specs.Held.{rankAt}
-use Rattle.filter_item.specs.Seen.{bitAt}
-use Rattle.filter_item.specs.Rows.{someFrom, seenAt}
+use Rattle.filter_item.specs.Matchable.{bitAt}
+use Rattle.filter_item.specs.Rows.{someFrom, matchableAt}
 
 module _ (held values : List ℕ) (first rank i : ℕ) where
-  pub seen-other : (rankAt held i ≡ rank → ⊥) → false ≡ seenAt held values first rank i
-  unfolding seenAt
-  seen-other d = rw (ne-eqb (rankAt held i) rank d)
+  pub matchable-other : (rankAt held i ≡ rank → ⊥) → false ≡ matchableAt held values first rank i
+  unfolding matchableAt
+  matchable-other d = rw (ne-eqb (rankAt held i) rank d)
 
-  pub seen-same : rankAt held i ≡ rank → eqb (getD values ((i - first) / 64) 0 / 2 ^ ((i - first) % 64) % 2) 1 ≡ seenAt held values first rank i
-  unfolding seenAt bitAt bit
-  seen-same e = rw (eq-eqb (rankAt held i) rank e)
+  pub matchable-same : rankAt held i ≡ rank → eqb (getD values ((i - first) / 64) 0 / 2 ^ ((i - first) % 64) % 2) 1 ≡ matchableAt held values first rank i
+  unfolding matchableAt bitAt bit
+  matchable-same e = rw (eq-eqb (rankAt held i) rank e)
 
 module _ (p : ℕ → Bool) (i end : ℕ) where
   step : i < end → someFrom p i (end - i) ≡ (p i || someFrom p (i + 1) (end - (i + 1)))

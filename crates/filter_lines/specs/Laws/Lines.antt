@@ -1,4 +1,4 @@
--- Laws of `Lines`: a row's line, and the rows as they are noted one after the other.
+-- Laws of `LinesNoted`: a row's line, and the rows as they are noted one after the other.
 use Prim.Native.Nat.{ℕ, suc, _+_, _-_, _*_, _≤_, _<_}
 use mathlib.Core.Path.{_≡_, refl, sym, ap, ap₂, _∙_, subst}
 use mathlib.Core.Bool.{Bool, cond}
@@ -12,11 +12,11 @@ use lib.Seq.{getD-set-same, getD-set-other}
 use Rattle.rules.specs.Sheet.{Bytes, line, end, broken, row}
 use Rattle.rules.specs.Places.{linesAt}
 use Rattle.sheet_line.specs.Line.{takenAt}
-use Rattle.sheet_line.specs.Laws.{Fits, linesBy, taken-lines, taken-fits-line}
+use Rattle.sheet_line.specs.Laws.{LineFits, linesBy, taken-lines, taken-fits-line}
 use Rattle.sheet_line.specs.declared.Line.{Line}
 use Rattle.sheet_line.specs.declared.Taken.the-variants as Taken
 use Rattle.name.specs.Schema.{rankIn}
-use Rattle.filter_lines.specs.Lines.{LINES, kindAt, firstAt, secondAt, positionAt, placeAt, typeRank, nextAt, valueAt, lineAt, Row, Lines, Beyond, noted}
+use Rattle.filter_lines.specs.Lines.{LINES, kindAt, firstAt, secondAt, positionAt, placeAt, typeRank, nextAt, valueAt, lineAt, LineRow, LinesNoted, Beyond, noted}
 
 -- ---- a row's line
 
@@ -24,8 +24,8 @@ use Rattle.filter_lines.specs.Lines.{LINES, kindAt, firstAt, secondAt, p
 pub next-is : (rows : List ℕ) (k : ℕ) → nextAt rows k ≡ positionAt rows (k + 1)
 next-is rows k = let e : k * 6 + 9 ≡ (k + 1) * 6 + 3 = omega arith in ap (λ (i : ℕ). getD rows i 0) e
 
-module _ {w : ℕ} {q : Bytes} {rows : List ℕ} {k : ℕ} (r : Row w q rows k) where
-  row-fits : Fits w q (positionAt rows k) (lineAt rows k (r .third) (r .size))
+module _ {w : ℕ} {q : Bytes} {rows : List ℕ} {k : ℕ} (r : LineRow w q rows k) where
+  row-fits : LineFits w q (positionAt rows k) (lineAt rows k (r .third) (r .size))
   row-fits = taken-fits-line w q (positionAt rows k) (r .taken)
 
   -- its bytes lie on the sheet
@@ -127,7 +127,7 @@ module _ (rows : List ℕ) (at kind a b place rank next : ℕ) where
 pub record Noting (schema : List ℕ) (w : ℕ) (q : Bytes) (rows : List ℕ) (at n j : ℕ) : Type 0 where
   pub first : positionAt rows 0 ≡ at
   pub last : positionAt rows n ≡ j
-  pub line : (k : ℕ) → k < n → Row w q rows k
+  pub line : (k : ℕ) → k < n → LineRow w q rows k
   pub rank : (k : ℕ) → k < n → typeRank rows k ≡ rankIn schema (firstAt rows k)
 
 pub noting-start : (schema : List ℕ) (w : ℕ) (q : Bytes) (rows : List ℕ) (at : ℕ) → 6 ≤ length rows → Noting schema w q (set rows 3 at) at 0 at
@@ -166,7 +166,7 @@ module _ (schema : List ℕ) (w : ℕ) (q : Bytes) (rows : List ℕ) (at n j : �
           kept-position (k * 6 + 9) (omega (arith, h)) (λ z. omega (arith, h, z)) (λ z. omega (arith, h, z)) (λ z. omega (arith, h, z)),
         ) refl
 
-    old : (k : ℕ) → k < n → Row w q more k
+    old : (k : ℕ) → k < n → LineRow w q more k
     old k h =
         let r = o .line k h in
         record { third = r .third; size = r .size; taken = rw (position k (omega (arith, h)), old-line k (r .third) (r .size) h) (r .taken) }
@@ -182,14 +182,14 @@ module _ (schema : List ℕ) (w : ℕ) (q : Bytes) (rows : List ℕ) (at n j : �
           noted-next rows (n * 6) (x .kind) (x .a) (x .b) (x .place) rank (x .next) m,
         ) refl
 
-    this : Row w q more n
+    this : LineRow w q more n
     this = record { third = x .c; size = x .length; taken = rw (position n (omega arith), o .last, this-line) e }
 
     pub noting-on : Noting schema w q more at (n + 1) (x .next)
     noting-on = record {
       first = position 0 (omega arith) ∙ o .first;
       last = sym (next-is more n) ∙ noted-next rows (n * 6) (x .kind) (x .a) (x .b) (x .place) rank (x .next) room;
-      line = λ k h. each (Row w q more) old this k h (decLt k n);
+      line = λ k h. each (LineRow w q more) old this k h (decLt k n);
       rank = λ k h. each (λ k. typeRank more k ≡ rankIn schema (firstAt more k)) old-rank this-rank k h (decLt k n);
     }
       where
@@ -219,7 +219,7 @@ beyond-on rows₀ rows more n kind a b place rank next e h i l d =
 
 -- no line follows
 pub lines-noted : (schema : List ℕ) (w : ℕ) (q : Bytes) (rows : List ℕ) (at n j : ℕ) → Noting schema w q rows at n j → n * 6 + 6 ≤ length rows → n ≤ LINES
-    → (unread : Bool) → linesAt w q j ≡ cond unread broken end → Lines w q rows n
+    → (unread : Bool) → linesAt w q j ≡ cond unread broken end → LinesNoted w q rows n
 lines-noted schema w q rows at n j o room few unread e = record {
   placed = record { room = room; few = few; begins = λ k l. row-begins (o .line k l); within = λ k l. row-ends (o .line k l) };
   line = o .line;

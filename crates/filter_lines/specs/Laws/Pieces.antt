@@ -12,7 +12,7 @@ use Rattle.rules.specs.Value.{Piece, text, normal, fits, used, matches, contain
 use Rattle.rules.specs.Places.{linesAt}
 use Rattle.rules.specs.Laws.Value.{folded, matches-on, matches-off}
 use Rattle.rules.specs.FilterLines.{piecesOf, afterLines}
-use Rattle.filter_lines.specs.Lines.{Lines, positionAt, firstAt, valueAt, piecesIn, lesser}
+use Rattle.filter_lines.specs.Lines.{LinesNoted, positionAt, firstAt, valueAt, piecesIn, lesser}
 use Rattle.filter_lines.specs.Laws.Lines.{row-lines}
 use Rattle.rules.specs.declared.Found.the-variants.{At, Nothing}
 
@@ -136,7 +136,7 @@ module _ (v : Bytes) (from : ℕ) {ps : List Piece} (p : Piece) (rest : List Pie
   pub stand-on : (x : ℕ) → used (p .place) (normal text (p .bytes)) (drop from (normal text v)) ≡ At x → standFrom v from ps ≡ standFrom v (from + x) rest
   stand-on x f = ap (standFrom v from) e ∙ matches-on (folded text p) (map (folded text) rest) (normal text v) from x f
 
-module _ {w : ℕ} {q : Bytes} {rows : List ℕ} {lines : ℕ} (h : Lines w q rows lines) where
+module _ {w : ℕ} {q : Bytes} {rows : List ℕ} {lines : ℕ} (h : LinesNoted w q rows lines) where
   abbrev at : ℕ → Sheet
   at k = linesAt w q (positionAt rows k)
 

@@ -15,7 +15,7 @@ use Rattle.rules.specs.FilterLines.{both, either, assertionOf, afterItem, Evalu
 use Rattle.rules.specs.Laws.Filter.{filter-read}
 use Rattle.rules.specs.declared.Truth.{Truth}
 use Rattle.rules.specs.declared.Truth.the-variants.{True, False, Undefined}
-use Rattle.filter_lines.specs.Lines.{Lines, kindAt, firstAt, secondAt, positionAt, valueAt, piecesAt}
+use Rattle.filter_lines.specs.Lines.{LinesNoted, kindAt, firstAt, secondAt, positionAt, valueAt, piecesAt}
 use Rattle.filter_lines.specs.Laws.Lines.{row-lines}
 use Rattle.filter_lines.specs.Laws.Pieces.{pieces-are}
 use Rattle.filter_item.specs.Items.{assertionBy}
@@ -23,7 +23,7 @@ use Rattle.filter_tree.specs.Tree.{joinBy, afterBy}
 
 -- ---- line by line
 
-module _ (m : Assertion → Truth) {w : ℕ} {q : Bytes} {rows : List ℕ} {lines : ℕ} (h : Lines w q rows lines) (k depth : ℕ) where
+module _ (m : Assertion → Truth) {w : ℕ} {q : Bytes} {rows : List ℕ} {lines : ℕ} (h : LinesNoted w q rows lines) (k depth : ℕ) where
   -- too deep
   pub tree-none : depth ≡ 0 → evaluated Undefined (linesAt w q (positionAt rows k)) ≡ evaluateLines m depth (linesAt w q (positionAt rows k))
   unfolding evaluateLines

@@ -1,4 +1,4 @@
--- `item_at` meets its contract: a walk of its MIR, by hand. The `Reader` that `new` returns is passed to `due`, and the one in each `Reading` to the `due` or `group` after it. All that the proof knows of them is that each meets its contract.
+-- `item_at` meets its contract: a walk of its MIR, by hand. The `Reader` that `new` returns is passed to `due`, and the one in each `Advance` to the `due` or `group` after it. All that the proof knows of them is that each meets its contract.
 -- In a local of a body MIR erases the lifetime of a struct's type, so each machine value is shown to have the type at `erased`: what the struct owns does not say the lifetime's name.
 use mathlib.Core.Path.{_≡_, refl}
 use Prim.Native.Nat.{ℕ, _<_, _^_}
@@ -53,11 +53,11 @@ use Rattle.sheet_kind.specs.Kinds.{numberOf}
 use Rattle.sheet_kind.specs.declared.Kind.{Kind}
 use Rattle.sheet_kind.specs.declared.Kind.the-variants as Kind
 use Rattle.sheet_due.specs.declared.grammar.Grammar.the-variants.{Permissions}
-use Rattle.sheet_reader.specs.Readings.{readerAt, dueReading, groupReading}
+use Rattle.sheet_reader.specs.Advances.{readerAt, dueAdvance, groupAdvance}
 use Rattle.sheet_reader.specs.declared.Reader.{Reader}
-use Rattle.sheet_reader.specs.declared.Reading.{Reading}
+use Rattle.sheet_reader.specs.declared.Advance.{Advance}
 use Rattle.permission_item.specs.Laws.Item.{lines-are}
-use Rattle.permission_item.specs.declared.Lines.{Lines}
+use Rattle.permission_item.specs.declared.ItemLines.{ItemLines}
 use Rattle.rules.proofs.Format as F
 use Rattle.rules.proofs.Format.Laws as F′
 use Rattle.sheet_kind.proofs.Kind as K
@@ -67,10 +67,10 @@ use Rattle.sheet_due.proofs.grammar.Grammar.Laws as G′
 use Rattle.sheet_reader.proofs.Walk.{returned, typed, copies}
 use Rattle.sheet_reader.proofs.Reader as T
 use Rattle.sheet_reader.proofs.Reader.Laws as T′
-use Rattle.sheet_reader.proofs.Reading as R
-use Rattle.sheet_reader.proofs.Reading.Laws as R′
-use Rattle.permission_item.proofs.Lines as I
-use Rattle.permission_item.proofs.Lines.Laws as I′
+use Rattle.sheet_reader.proofs.Advance as R
+use Rattle.sheet_reader.proofs.Advance.Laws as R′
+use Rattle.permission_item.proofs.ItemLines as I
+use Rattle.permission_item.proofs.ItemLines.Laws as I′
 use Rattle.sheet_reader.proofs.Reader.new as new
 use Rattle.sheet_reader.proofs.Reader.new.Symbol as new-def
 use Rattle.sheet_reader.proofs.Reader.new.Symbol.{name as #new}
@@ -188,7 +188,7 @@ module _ {M : Type 1} (𝓤 : URA M) (H : Heap 𝓤) (A : Atoms 𝓤) (W : Given
   abbrev held : Reader → Fml
   held r = B κs .own r (T′.lowered r ∷ [])
 
-  abbrev has : Reading → Fml
+  abbrev has : Advance → Fml
   has x = R.the-row α .own x (R′.lowered x ∷ [])
 
   -- the call of `new`
@@ -216,7 +216,7 @@ module _ {M : Type 1} (𝓤 : URA M) (H : Heap 𝓤) (A : Atoms 𝓤) (W : Given
       move ! (0 ∷ 3 ∷ []) $ join ! $ move ! (2 ∷ 0 ∷ []) $ join ! $ frame ! $ done !
 
   -- what a reading owns gives what its reader owns
-  goes-on : (x : Reading) → ent 𝓤 (sem 𝓤 H A (has x)) (sem 𝓤 H A (held (x .rest)))
+  goes-on : (x : Advance) → ent 𝓤 (sem 𝓤 H A (has x)) (sem 𝓤 H A (held (x .rest)))
   goes-on x =
       qed W (‵ (has x) ∷ []) ∵ use1 W (given (R′.lowered x ∷ [] ≡ R′.lowered x ∷ []) (‵ (all-own (R.the-type α .parts) (R′.the-laws α) (x .refusal, (x .line, (x .rest, tt)))))) (own-open 𝓤 H A W (R.the-type α) (R′.the-laws α) (x .refusal, (x .line, (x .rest, tt))) (R′.lowered x)) $ learn ! (λ _.
       use1 W (‵ (held (x .rest)) ⊛ ‵ (others (R.the-type α .parts) (R′.the-laws α) 2 (x .refusal, (x .line, (x .rest, tt))))) (own-out 𝓤 H A W (R.the-type α .parts) (R′.the-laws α) 2 (x .refusal, (x .line, (x .rest, tt)))) $ split ! $ move ! (1 ∷ []) $ drop ! $ done !)
@@ -236,8 +236,8 @@ module _ {M : Type 1} (𝓤 : URA M) (H : Heap 𝓤) (A : Atoms 𝓤) (W : Given
       asked : (r : Reader) (m : ℕ) (k : Kind) → ent 𝓤 (onEntry 𝓤 H A due.signature κs qs (to-due r m k .0 .3) (to-due r m k .0 .4)) (DueOf 𝓤 H A mem run .pre (to-due r m k))
       asked r m k = qed W (tokens ∷ ‵ (owns (B κs ∷ F.the-row ∷ G.the-row ∷ ShrSlice (named 1) (κs .1 .0) u64 ∷ u64 ∷ K.the-row ∷ []) (to-due r m k .0 .3) (to-due r m k .0 .4)) ∷ []) ∵ says ! ok $ frame ! $ done !
 
-  due-said : (r : Reader) (m : ℕ) (k : Kind) (x : Reading) → ent 𝓤 (ensured 𝓤 H A due.ended (due.clauses 𝓤 H A mem run) κs (to-due r m k .0 .3) tt x) (fact 𝓤 (x ≡ dueReading J w r m (numberOf k)))
-  due-said r m k x = exE 𝓤 _ (λ ws. snd∗ 𝓤 (sem 𝓤 H A (lasts due.ended κs (to-due r m k .0 .3) ws)) (fact 𝓤 (x ≡ dueReading J w r m (numberOf k))))
+  due-said : (r : Reader) (m : ℕ) (k : Kind) (x : Advance) → ent 𝓤 (ensured 𝓤 H A due.ended (due.clauses 𝓤 H A mem run) κs (to-due r m k .0 .3) tt x) (fact 𝓤 (x ≡ dueAdvance J w r m (numberOf k)))
+  due-said r m k x = exE 𝓤 _ (λ ws. snd∗ 𝓤 (sem 𝓤 H A (lasts due.ended κs (to-due r m k .0 .3) ws)) (fact 𝓤 (x ≡ dueAdvance J w r m (numberOf k))))
 
   -- the call of `group`
   abbrev to-group : Reader → ℕ → Kind → Kind → GroupOf 𝓤 H A mem run .Ghost
@@ -254,17 +254,17 @@ module _ {M : Type 1} (𝓤 : URA M) (H : Heap 𝓤) (A : Atoms 𝓤) (W : Given
       asked : (r : Reader) (m : ℕ) (k j : Kind) → ent 𝓤 (onEntry 𝓤 H A group.signature κs qs (to-group r m k j .0 .3) (to-group r m k j .0 .4)) (GroupOf 𝓤 H A mem run .pre (to-group r m k j))
       asked r m k j = qed W (tokens ∷ ‵ (owns (B κs ∷ F.the-row ∷ G.the-row ∷ ShrSlice (named 1) (κs .1 .0) u64 ∷ u64 ∷ K.the-row ∷ K.the-row ∷ []) (to-group r m k j .0 .3) (to-group r m k j .0 .4)) ∷ []) ∵ says ! ok $ frame ! $ done !
 
-  group-said : (r : Reader) (m : ℕ) (k j : Kind) (x : Reading) → ent 𝓤 (ensured 𝓤 H A group.ended (group.clauses 𝓤 H A mem run) κs (to-group r m k j .0 .3) tt x) (fact 𝓤 (x ≡ groupReading J w r m (numberOf k) (numberOf j)))
-  group-said r m k j x = exE 𝓤 _ (λ ws. snd∗ 𝓤 (sem 𝓤 H A (lasts group.ended κs (to-group r m k j .0 .3) ws)) (fact 𝓤 (x ≡ groupReading J w r m (numberOf k) (numberOf j))))
+  group-said : (r : Reader) (m : ℕ) (k j : Kind) (x : Advance) → ent 𝓤 (ensured 𝓤 H A group.ended (group.clauses 𝓤 H A mem run) κs (to-group r m k j .0 .3) tt x) (fact 𝓤 (x ≡ groupAdvance J w r m (numberOf k) (numberOf j)))
+  group-said r m k j x = exE 𝓤 _ (λ ws. snd∗ 𝓤 (sem 𝓤 H A (lasts group.ended κs (to-group r m k j .0 .3) ws)) (fact 𝓤 (x ≡ groupAdvance J w r m (numberOf k) (numberOf j))))
 
   -- what is known of a reading, and of the result
-  abbrev Are-read : Reading → Type 0
+  abbrev Are-read : Advance → Type 0
   Are-read x = Is (R.the-row αᵉ) x (R′.lowered x ∷ [])
 
-  abbrev made : Reading → Reading → Reading → Reading → Reading → Lines
+  abbrev made : Advance → Advance → Advance → Advance → Advance → ItemLines
   made x₄ x₅ x₆ x₇ x₈ = record { refusal = x₈ .refusal; head = x₄ .line; base = x₅ .line; user = x₆ .line; target = x₇ .line; mask = x₈ .line }
 
-  exits : (r : Reader) (x₄ x₅ x₆ x₇ x₈ : Reading) → r ≡ readerAt p n → x₄ ≡ dueReading J w r 0 4 → x₅ ≡ groupReading J w (x₄ .rest) (x₄ .refusal) 5 9 → x₆ ≡ groupReading J w (x₅ .rest) (x₅ .refusal) 6 9 → x₇ ≡ dueReading J w (x₆ .rest) (x₆ .refusal) 7 → x₈ ≡ dueReading J w (x₇ .rest) (x₇ .refusal) 8
+  exits : (r : Reader) (x₄ x₅ x₆ x₇ x₈ : Advance) → r ≡ readerAt p n → x₄ ≡ dueAdvance J w r 0 4 → x₅ ≡ groupAdvance J w (x₄ .rest) (x₄ .refusal) 5 9 → x₆ ≡ groupAdvance J w (x₅ .rest) (x₅ .refusal) 6 9 → x₇ ≡ dueAdvance J w (x₆ .rest) (x₆ .refusal) 7 → x₈ ≡ dueAdvance J w (x₇ .rest) (x₇ .refusal) 8
       → Are-read x₄ → Are-read x₅ → Are-read x₆ → Are-read x₇ → Are-read x₈ → ent 𝓤 (⋆ 𝓤 H A (‵ (has x₈) ∷ tokens ∷ kept ∷ [])) (Post (I′.lowered (made x₄ x₅ x₆ x₇ x₈)))
   exits r x₄ x₅ x₆ x₇ x₈ e e₄ e₅ e₆ e₇ e₈ is₄ is₅ is₆ is₇ is₈ =
       qed W (‵ (has x₈) ∷ tokens ∷ kept ∷ []) ∵
@@ -276,21 +276,21 @@ module _ {M : Type 1} (𝓤 : URA M) (H : Heap 𝓤) (A : Atoms 𝓤) (W : Given
     module _ {K : Type 0} {Γ : List (Item 𝓤)} {E : Env 𝓤 H} {xs : List Operand} {d : Place} {rest : Body} {q : After 𝓤 H} where
       -- a step of the walk: a line is taken, and the reading is had in the reader's place
       takes-due : K → (r : Reader) (m : ℕ) (k : Kind) → m < 2 ^ 64 → Opds K W (raw (DueOf 𝓤 H A mem run .pre (to-due r m k)) ∷ kept ∷ Γ) E xs (DueOf 𝓤 H A mem run .args (to-due r m k))
-          → ((x : Reading) → x ≡ dueReading J w r m (numberOf k) → Are-read x → Typed (R.the-row αᵉ .mir) (R′.lowered x ∷ []) → Seq K W (‵ (has x) ∷ tokens ∷ kept ∷ Γ) (lands C Λ E d (R′.lowered x) rest q))
+          → ((x : Advance) → x ≡ dueAdvance J w r m (numberOf k) → Are-read x → Typed (R.the-row αᵉ .mir) (R′.lowered x ∷ []) → Seq K W (‵ (has x) ∷ tokens ∷ kept ∷ Γ) (lands C Λ E d (R′.lowered x) rest q))
           → Seq K W (‵ (held r) ∷ tokens ∷ kept ∷ Γ) (runs C Λ E (seq (call #due xs d) rest) q)
       takes-due t r m k m-fits os go =
           use3 W (raw (DueOf 𝓤 H A mem run .pre (to-due r m k)) ⊛ kept) (goes-due r m k m-fits) $ split t $ calls-at t fm (DueOf 𝓤 H A mem run) known-due (to-due r m k) os (λ u.
-          use1 W (later (some (λ (x : Reading). (tokens ⊛ ‵ (R.the-row α .own x (u ∷ []))) ⊛ raw (ensured 𝓤 H A due.ended (due.clauses 𝓤 H A mem run) κs (to-due r m k .0 .3) tt x)))) (id⊢ 𝓤 _) $ await t tt $ pick t (λ x.
-          split t $ move t (1 ∷ []) $ use1 W (raw (fact 𝓤 (x ≡ dueReading J w r m (numberOf k)))) (due-said r m k x) $ heard t (x ≡ dueReading J w r m (numberOf k)) (λ e. split t $ move t (1 ∷ []) $ returned t (R.the-type αᵉ) (R′.the-laws αᵉ) (R′.lowers αᵉ) x u (go x e))))
+          use1 W (later (some (λ (x : Advance). (tokens ⊛ ‵ (R.the-row α .own x (u ∷ []))) ⊛ raw (ensured 𝓤 H A due.ended (due.clauses 𝓤 H A mem run) κs (to-due r m k .0 .3) tt x)))) (id⊢ 𝓤 _) $ await t tt $ pick t (λ x.
+          split t $ move t (1 ∷ []) $ use1 W (raw (fact 𝓤 (x ≡ dueAdvance J w r m (numberOf k)))) (due-said r m k x) $ heard t (x ≡ dueAdvance J w r m (numberOf k)) (λ e. split t $ move t (1 ∷ []) $ returned t (R.the-type αᵉ) (R′.the-laws αᵉ) (R′.lowers αᵉ) x u (go x e))))
 
       -- the same of a line with the lines that it counts
       takes-group : K → (r : Reader) (m : ℕ) (k j : Kind) → m < 2 ^ 64 → Opds K W (raw (GroupOf 𝓤 H A mem run .pre (to-group r m k j)) ∷ kept ∷ Γ) E xs (GroupOf 𝓤 H A mem run .args (to-group r m k j))
-          → ((x : Reading) → x ≡ groupReading J w r m (numberOf k) (numberOf j) → Are-read x → Typed (R.the-row αᵉ .mir) (R′.lowered x ∷ []) → Seq K W (‵ (has x) ∷ tokens ∷ kept ∷ Γ) (lands C Λ E d (R′.lowered x) rest q))
+          → ((x : Advance) → x ≡ groupAdvance J w r m (numberOf k) (numberOf j) → Are-read x → Typed (R.the-row αᵉ .mir) (R′.lowered x ∷ []) → Seq K W (‵ (has x) ∷ tokens ∷ kept ∷ Γ) (lands C Λ E d (R′.lowered x) rest q))
           → Seq K W (‵ (held r) ∷ tokens ∷ kept ∷ Γ) (runs C Λ E (seq (call #group xs d) rest) q)
       takes-group t r m k j m-fits os go =
           use3 W (raw (GroupOf 𝓤 H A mem run .pre (to-group r m k j)) ⊛ kept) (goes-group r m k j m-fits) $ split t $ calls-at t fm (GroupOf 𝓤 H A mem run) known-group (to-group r m k j) os (λ u.
-          use1 W (later (some (λ (x : Reading). (tokens ⊛ ‵ (R.the-row α .own x (u ∷ []))) ⊛ raw (ensured 𝓤 H A group.ended (group.clauses 𝓤 H A mem run) κs (to-group r m k j .0 .3) tt x)))) (id⊢ 𝓤 _) $ await t tt $ pick t (λ x.
-          split t $ move t (1 ∷ []) $ use1 W (raw (fact 𝓤 (x ≡ groupReading J w r m (numberOf k) (numberOf j)))) (group-said r m k j x) $ heard t (x ≡ groupReading J w r m (numberOf k) (numberOf j)) (λ e. split t $ move t (1 ∷ []) $ returned t (R.the-type αᵉ) (R′.the-laws αᵉ) (R′.lowers αᵉ) x u (go x e))))
+          use1 W (later (some (λ (x : Advance). (tokens ⊛ ‵ (R.the-row α .own x (u ∷ []))) ⊛ raw (ensured 𝓤 H A group.ended (group.clauses 𝓤 H A mem run) κs (to-group r m k j .0 .3) tt x)))) (id⊢ 𝓤 _) $ await t tt $ pick t (λ x.
+          split t $ move t (1 ∷ []) $ use1 W (raw (fact 𝓤 (x ≡ groupAdvance J w r m (numberOf k) (numberOf j)))) (group-said r m k j x) $ heard t (x ≡ groupAdvance J w r m (numberOf k) (numberOf j)) (λ e. split t $ move t (1 ∷ []) $ returned t (R.the-type αᵉ) (R′.the-laws αᵉ) (R′.lowers αᵉ) x u (go x e))))
 
     walk : Are (Passed κs) (Ises (Passed κs)) (p, (f, (s, (n, tt)))) at → ent 𝓤 (onEntry 𝓤 H A item-at.signature κs qs (p, (f, (s, (n, tt)))) at) (WpFn 𝓤 H C Λ code.function (v ∷ F′.lowered f ∷ v₁ ∷ vint w64 n ∷ []) Post)
     walk are =

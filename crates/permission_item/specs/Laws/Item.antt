@@ -16,15 +16,15 @@ use Rattle.sheet_due.specs.Laws.Lines.{after, due-is, group-is, first-parts, To
 use Rattle.sheet_due.specs.declared.Due.{Due}
 use Rattle.sheet_due.specs.declared.Group.{Group}
 use Rattle.sheet_due.specs.declared.Reached.{Reached}
-use Rattle.sheet_reader.specs.Readings.{readerAt, dueReading, groupReading}
+use Rattle.sheet_reader.specs.Advances.{readerAt, dueAdvance, groupAdvance}
 use Rattle.sheet_reader.specs.declared.Reader.{Reader}
-use Rattle.sheet_reader.specs.declared.Reading.{Reading}
+use Rattle.sheet_reader.specs.declared.Advance.{Advance}
 use Rattle.permission_item.specs.Item.{headAt, baseAt, userAt, targetAt, maskAt, itemLines, itemOf}
 use Rattle.permission_item.specs.Laws.Bounds.{head-bounds, base-bounds, user-bounds, target-bounds, mask-bounds}
-use Rattle.permission_item.specs.declared.Lines.{Lines}
+use Rattle.permission_item.specs.declared.ItemLines.{ItemLines}
 
 -- what lines that were taken tell
-pub record TookItem (f : Format) (p : Bytes) (i : Lines) : Type 0 where
+pub record TookItem (f : Format) (p : Bytes) (i : ItemLines) : Type 0 where
   pub precedence : i .head .a ≤ 255
   pub level : i .head .b ≤ 2
   pub grants : i .head .c ≤ 1
@@ -43,9 +43,9 @@ pub record TookItem (f : Format) (p : Bytes) (i : Lines) : Type 0 where
   pub permissions : (1 ≤ i .mask .a) × (i .mask .a ≤ 63)
 
 -- the lines as a reader goes through them
-pub lines-are : (f : Format) (s : RefT (List ℕ)) (S : Schema) (at : ℕ) {r : Reader} {x y z t m : Reading} → let G = permissionGrammar (f .top) S in let w = f .width in
-    r ≡ readerAt s at → x ≡ dueReading G w r 0 4 → y ≡ groupReading G w (x .rest) (x .refusal) 5 9 → z ≡ groupReading G w (y .rest) (y .refusal) 6 9
-    → t ≡ dueReading G w (z .rest) (z .refusal) 7 → m ≡ dueReading G w (t .rest) (t .refusal) 8
+pub lines-are : (f : Format) (s : RefT (List ℕ)) (S : Schema) (at : ℕ) {r : Reader} {x y z t m : Advance} → let G = permissionGrammar (f .top) S in let w = f .width in
+    r ≡ readerAt s at → x ≡ dueAdvance G w r 0 4 → y ≡ groupAdvance G w (x .rest) (x .refusal) 5 9 → z ≡ groupAdvance G w (y .rest) (y .refusal) 6 9
+    → t ≡ dueAdvance G w (z .rest) (z .refusal) 7 → m ≡ dueAdvance G w (t .rest) (t .refusal) 8
     → record { refusal = m .refusal; head = x .line; base = y .line; user = z .line; target = t .line; mask = m .line } ≡ itemLines f (now s) S at
 unfolding itemLines
 lines-are f s S at er ex ey ez et em = rw (em, et, ez, ey, ex, er)

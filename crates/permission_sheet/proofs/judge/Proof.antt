@@ -1,17 +1,17 @@
--- The invariant is `Reading`: the items so far are noted, and the rules from here give what they give from the start.
+-- The invariant is `ItemsRead`: the items so far are noted, and the rules from here give what they give from the start.
 use Prim.Native.Nat.{_-_}
 use mathlib.Core.Path.{sym, ap, _∙_}
 use lib.ListN.{length}
 use denote.Ref.{now}
 use Rattle.rules.specs.Places.{schemaOf}
 use Rattle.sheet_due.specs.Lines.{misplacedBy}
-use Rattle.permission_sheet.specs.Laws.Reading.{Reading, Ahead, reading-start, reading-lengths, reading-on, item-small, item-value, item-less, judged-long, judged-over, judged-item, judged-end}
+use Rattle.permission_sheet.specs.Laws.ItemsRead.{ItemsRead, Ahead, reading-start, reading-lengths, reading-on, item-small, item-value, item-less, judged-long, judged-over, judged-item, judged-end}
 use borrow.Author.Needs.{needs}
 use Rattle.permission_sheet.proofs.judge.Statement.{statement}
 use Rattle.permission_sheet.proofs.judge.Tie as tie
 
 abbrev Inv-loop : tie.InvT-loop
-Inv-loop p f schema rights₀ scopes₀ count₀ at₀ rights scopes count at = Reading f p (schemaOf schema) count at rights scopes
+Inv-loop p f schema rights₀ scopes₀ count₀ at₀ rights scopes count at = ItemsRead f p (schemaOf schema) count at rights scopes
 
 abbrev μ-loop : tie.MeasureT-loop
 μ-loop p f schema rights₀ scopes₀ count₀ at₀ rights scopes count at = length p - at

@@ -10,13 +10,13 @@ use Rattle.rules.specs.Sheet.{Bytes}
 use Rattle.rules.specs.declared.Format.{Format}
 use Rattle.rules.specs.Decision.{rank, explicit}
 use Rattle.rules.specs.Laws.Decision.{weight}
-use Rattle.permission_sheet.specs.Noted.{Bounded, Row, score, bit}
+use Rattle.permission_sheet.specs.Noted.{Bounded, ItemRow, score, bit}
 use Rattle.permission_weight.specs.Weight.{rankOf, explicitOf, weightOf, scoreOf}
 use Rattle.permission_sheet.specs.Rows.{rightsRow, scopesRow}
 use Rattle.permission_weight.specs.Laws.{weight-small}
 use Rattle.permission_item.specs.Item.{itemOf}
 use Rattle.permission_item.specs.Laws.Item.{TookItem}
-use Rattle.permission_item.specs.declared.Lines.{Lines}
+use Rattle.permission_item.specs.declared.ItemLines.{ItemLines}
 
 -- ---- the weight of an item from its numbers
 
@@ -24,21 +24,21 @@ explicit-by : (a b : Bool) → _≡_ {A = ℕ} (cond (a || b) 1 0) (cond a 1 (co
 explicit-by true b = refl
 explicit-by false b = refl
 
-weight-is : (w : ℕ) (p : Bytes) (i : Lines) → weight (itemOf w p i) ≡ weightOf (i .head .a) (i .user .a) (i .target .a)
+weight-is : (w : ℕ) (p : Bytes) (i : ItemLines) → weight (itemOf w p i) ≡ weightOf (i .head .a) (i .user .a) (i .target .a)
 unfolding weight rank explicit itemOf weightOf rankOf explicitOf
 weight-is w p i = rw (explicit-by (eqb (i .target .a) 3) (eqb (i .target .a) 5))
 
-score-is : (w : ℕ) (p : Bytes) (i : Lines) → score (itemOf w p i) ≡ scoreOf (weightOf (i .head .a) (i .user .a) (i .target .a)) (i .head .c)
+score-is : (w : ℕ) (p : Bytes) (i : ItemLines) → score (itemOf w p i) ≡ scoreOf (weightOf (i .head .a) (i .user .a) (i .target .a)) (i .head .c)
 unfolding score scoreOf itemOf
 score-is w p i = ap (λ (m : ℕ). cond (eqb (i .head .c) 1) (m * 2 + 2) (m * 2 + 3)) (weight-is w p i)
 
 -- ---- the rows
 
-pub rights-long : (p : Bytes) (i : Lines) → length (rightsRow p i) ≡ 8
+pub rights-long : (p : Bytes) (i : ItemLines) → length (rightsRow p i) ≡ 8
 unfolding rightsRow
 rights-long p i = refl
 
-pub scopes-long : (i : Lines) → length (scopesRow i) ≡ 7
+pub scopes-long : (i : ItemLines) → length (scopesRow i) ≡ 7
 unfolding scopesRow
 scopes-long i = refl
 
@@ -47,7 +47,7 @@ bit-is zero h = refl
 bit-is (suc zero) h = refl
 bit-is (suc (suc n)) h = absurd (not-suc-le-zero (le-of-suc-le-suc h))
 
-module _ (f : Format) (p : Bytes) (i : Lines) (t : TookItem f p i) where
+module _ (f : Format) (p : Bytes) (i : ItemLines) (t : TookItem f p i) where
   abbrev w : ℕ
   w = f .width
 
@@ -66,7 +66,7 @@ module _ (f : Format) (p : Bytes) (i : Lines) (t : TookItem f p i) where
   }
 
   pub row-is : (right scope : ℕ → ℕ) → ((j : ℕ) → j < 8 → right j ≡ getD (rightsRow p i) j 0) → ((j : ℕ) → j < 7 → scope j ≡ getD (scopesRow i) j 0)
-      → Row w p (itemOf w p i) right scope
+      → ItemRow w p (itemOf w p i) right scope
   unfolding itemOf rightsRow scopesRow
   row-is right scope r s = record {
     bounded = bounded;

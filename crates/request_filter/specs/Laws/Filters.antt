@@ -18,21 +18,21 @@ use Rattle.sheet_due.specs.Lines.{seenAt, misplacedBy}
 use Rattle.sheet_due.specs.Laws.Lines.{onSeen, misplaced-some, misplaced-at}
 use Rattle.sheet_due.specs.declared.Seen.{Seen}
 use Rattle.sheet_due.specs.declared.Seen.the-variants as Seen
-use Rattle.request_piece.specs.declared.Step.{Step}
-use Rattle.request_piece.specs.declared.Step.the-variants as Step
-use Rattle.request_piece.specs.declared.Step.the-variants.{Read}
+use Rattle.request_piece.specs.declared.Progress.{Progress}
+use Rattle.request_piece.specs.declared.Progress.the-variants as Progress
+use Rattle.request_piece.specs.declared.Progress.the-variants.{Read}
 use Rattle.request_filter.specs.declared.Node.{Node}
 use Rattle.request_filter.specs.Filters.{byNode, filterAt, itemOf, nodeAt, nodeBy, nodeOf, partsAt}
 
 -- ---- one turn of a loop
 
-module _ (one : ℕ → ℕ → Step) (pos left : ℕ) where
+module _ (one : ℕ → ℕ → Progress) (pos left : ℕ) where
   pub parts-on : (n : ℕ) → 0 < n → {next room : ℕ} → one pos left ≡ Read next room → partsAt one n pos left ≡ partsAt one (n - 1) next room
   unfolding partsAt
   parts-on zero h e = absurd (omega arith)
   parts-on (suc n) h e = rw (sub-one, e)
 
-  pub parts-stop : (n : ℕ) → 0 < n → {number : ℕ} → one pos left ≡ Step.Refused number → partsAt one n pos left ≡ Step.Refused number
+  pub parts-stop : (n : ℕ) → 0 < n → {number : ℕ} → one pos left ≡ Progress.Refused number → partsAt one n pos left ≡ Progress.Refused number
   unfolding partsAt
   parts-stop zero h e = absurd (omega arith)
   parts-stop (suc n) h e = rw e
@@ -43,7 +43,7 @@ module _ (one : ℕ → ℕ → Step) (pos left : ℕ) where
 
 -- by depth
 module _ (G : Grammar) (w : ℕ) (q : Bytes) (at left : ℕ) where
-  pub filter-none : (depth : ℕ) → depth ≡ 0 → filterAt G w q depth at left ≡ Step.Refused (misplacedBy (G .refusals) (seenAt (G .forms) w q at))
+  pub filter-none : (depth : ℕ) → depth ≡ 0 → filterAt G w q depth at left ≡ Progress.Refused (misplacedBy (G .refusals) (seenAt (G .forms) w q at))
   unfolding filterAt
   filter-none depth e = rw e
 
@@ -66,9 +66,9 @@ abbrev FilterFollows : Grammar → ℕ → Bytes → ℕ → ℕ → ℕ → Typ
 FilterFollows G w q d at left = Follows w q (filterReader G w q d at left) (filterAt G w q d at left)
 
 -- an item has no parts
-item-step : (one : ℕ → ℕ → Step) (st : Step) → byNode one (itemOf st) ≡ st
+item-step : (one : ℕ → ℕ → Progress) (st : Progress) → byNode one (itemOf st) ≡ st
 item-step one (Read next left) = refl
-item-step one (Step.Refused n) = refl
+item-step one (Progress.Refused n) = refl
 
 module _ (G : Grammar) (w : ℕ) (q : Bytes) (d : ℕ) (one : (at left : ℕ) → FilterFollows G w q d at left) where
   -- filters from a position on, by what the code does, if `one` filter is

@@ -18,9 +18,9 @@ use Rattle.sheet_due.specs.Lines.{seenAt}
 use Rattle.sheet_due.specs.Laws.Lines.{onSeen, by-seen}
 use Rattle.sheet_due.specs.declared.Seen.{Seen}
 use Rattle.sheet_due.specs.declared.Seen.the-variants as Seen
-use Rattle.request_piece.specs.declared.Step.{Step}
-use Rattle.request_piece.specs.declared.Step.the-variants as Step
-use Rattle.request_piece.specs.declared.Step.the-variants.{Read}
+use Rattle.request_piece.specs.declared.Progress.{Progress}
+use Rattle.request_piece.specs.declared.Progress.the-variants as Progress
+use Rattle.request_piece.specs.declared.Progress.the-variants.{Read}
 use Rattle.request_piece.specs.Pieces.{inPlace, onStep, pieceAt, pieceBy, piecesAt}
 
 -- ---- one turn of a loop
@@ -32,7 +32,7 @@ module _ (G : Grammar) (w : ℕ) (q : Bytes) (first : Bool) (pos left : ℕ) whe
   pieces-on zero h e = absurd (omega arith)
   pieces-on (suc n) h e = rw (sub-one, rw sub-one at e)
 
-  pub pieces-stop : (n : ℕ) → 0 < n → {number : ℕ} → pieceAt G w q first (n - 1) pos left ≡ Step.Refused number → piecesAt G w q first n pos left ≡ Step.Refused number
+  pub pieces-stop : (n : ℕ) → 0 < n → {number : ℕ} → pieceAt G w q first (n - 1) pos left ≡ Progress.Refused number → piecesAt G w q first n pos left ≡ Progress.Refused number
   unfolding piecesAt
   pieces-stop zero h e = absurd (omega arith)
   pieces-stop (suc n) h e = rw (rw sub-one at e)
@@ -44,31 +44,31 @@ module _ (G : Grammar) (w : ℕ) (q : Bytes) (first : Bool) (pos left : ℕ) whe
 -- ---- what the rules read
 
 -- what the rules read, as `reader` hands it on, by what the code does; a refusal is never 0
-abbrev pub Follows : {X : Type 0} → ℕ → Bytes → ((A : Type 0) → (X → ℕ → Sheet → Verdict A) → Verdict A) → Step → Type 1
+abbrev pub Follows : {X : Type 0} → ℕ → Bytes → ((A : Type 0) → (X → ℕ → Sheet → Verdict A) → Verdict A) → Progress → Type 1
 Follows {X} w q reader (Read next left) = (x : X) × ((A : Type 0) (k : X → ℕ → Sheet → Verdict A) → reader A k ≡ k x left (linesAt w q next))
-Follows {X} w q reader (Step.Refused n) = (n ≡ 0 → ⊥) × ((A : Type 0) (k : X → ℕ → Sheet → Verdict A) → reader A k ≡ refuse n)
+Follows {X} w q reader (Progress.Refused n) = (n ≡ 0 → ⊥) × ((A : Type 0) (k : X → ℕ → Sheet → Verdict A) → reader A k ≡ refuse n)
 
 module _ {X : Type 0} (w : ℕ) (q : Bytes) where
   -- another reader that does the same
   pub follows-by : (reader reader′ : (A : Type 0) → (X → ℕ → Sheet → Verdict A) → Verdict A)
-      → ((A : Type 0) (k : X → ℕ → Sheet → Verdict A) → reader′ A k ≡ reader A k) → (st : Step) → Follows w q reader st → Follows w q reader′ st
+      → ((A : Type 0) (k : X → ℕ → Sheet → Verdict A) → reader′ A k ≡ reader A k) → (st : Progress) → Follows w q reader st → Follows w q reader′ st
   follows-by reader reader′ e (Read next left) f = (f .0, λ A k. e A k ∙ f .1 A k)
-  follows-by reader reader′ e (Step.Refused n) f = (f .0, λ A k. e A k ∙ f .1 A k)
+  follows-by reader reader′ e (Progress.Refused n) f = (f .0, λ A k. e A k ∙ f .1 A k)
 
 module _ {X Y : Type 0} (w : ℕ) (q : Bytes) where
   -- something made of what was read
-  pub follows-map : (make : X → Y) → (reader : (A : Type 0) → (X → ℕ → Sheet → Verdict A) → Verdict A) → (st : Step) → Follows w q reader st
+  pub follows-map : (make : X → Y) → (reader : (A : Type 0) → (X → ℕ → Sheet → Verdict A) → Verdict A) → (st : Progress) → Follows w q reader st
       → Follows w q (λ A k. reader A (λ x. k (make x))) st
   follows-map make reader (Read next left) f = (make (f .0), λ A k. f .1 A (λ x. k (make x)))
-  follows-map make reader (Step.Refused n) f = (f .0, λ A k. f .1 A (λ x. k (make x)))
+  follows-map make reader (Progress.Refused n) f = (f .0, λ A k. f .1 A (λ x. k (make x)))
 
   -- something read after it
   pub follows-then : (reader : (A : Type 0) → (X → ℕ → Sheet → Verdict A) → Verdict A) (K : (A : Type 0) → (Y → ℕ → Sheet → Verdict A) → X → ℕ → Sheet → Verdict A)
-      → (go : ℕ → ℕ → Step) → ((x : X) (next left : ℕ) → Follows w q (λ A k. K A k x left (linesAt w q next)) (go next left))
-      → (st : Step) → Follows w q reader st → Follows w q (λ A k. reader A (K A k)) (onStep st go)
+      → (go : ℕ → ℕ → Progress) → ((x : X) (next left : ℕ) → Follows w q (λ A k. K A k x left (linesAt w q next)) (go next left))
+      → (st : Progress) → Follows w q reader st → Follows w q (λ A k. reader A (K A k)) (onStep st go)
   follows-then reader K go h (Read next left) f =
       follows-by w q (λ A k. K A k (f .0) left (linesAt w q next)) (λ A k. reader A (K A k)) (λ A k. f .1 A (K A k)) (go next left) (h (f .0) next left)
-  follows-then reader K go h (Step.Refused n) f = (f .0, λ A k. f .1 A (K A k))
+  follows-then reader K go h (Progress.Refused n) f = (f .0, λ A k. f .1 A (K A k))
 
 -- a line of a filter, by what is seen
 module _ {A : Type 0} (G : Grammar) (w : ℕ) (q : Bytes) (at : ℕ) (next : ℕ → Line → Sheet → Verdict A) where
@@ -111,7 +111,7 @@ module _ (G : Grammar) (w : ℕ) (q : Bytes) where
   module _ (first : Bool) (n at : ℕ) (rest : (at left : ℕ) → Follows w q (piecesReader G w q false n at left) (piecesAt G w q false n at left)) where
     piece-one : (left : ℕ) (x : Sheets.Line) (t : Bool) → eqb (x .kind) 28 ≡ t → (u : Bool) → inPlace (x .a) first n ≡ u
         → Follows w q (λ A f. afterPiece G first n A f left (lineOf q x) (linesAt w q (x .next)))
-        (onStep (cond t (cond u (Read (x .next) left) (Step.Refused (G .refusals + 3))) (Step.Refused (G .refusals + 3))) (piecesAt G w q false n))
+        (onStep (cond t (cond u (Read (x .next) left) (Progress.Refused (G .refusals + 3))) (Progress.Refused (G .refusals + 3))) (piecesAt G w q false n))
     unfolding afterPiece
     piece-one left x true f true g =
         follows-by w q (λ A m. piecesReader G w q false n (x .next) left A (λ ps. m (pieceLine (lineOf q x) ∷ ps)))

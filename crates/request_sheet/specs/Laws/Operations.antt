@@ -18,8 +18,8 @@ use Rattle.sheet_due.specs.Lines.{reachedAt, afterDue, afterGroup}
 use Rattle.sheet_due.specs.Laws.Lines.{after, due-is, group-is, took, took-columns, took-group, followers, first-types}
 use Rattle.sheet_due.specs.declared.Reached.{Reached}
 use Rattle.request_piece.specs.Laws.Pieces.{Follows}
-use Rattle.request_piece.specs.declared.Step.{Step}
-use Rattle.request_piece.specs.declared.Step.the-variants.{Read, Refused}
+use Rattle.request_piece.specs.declared.Progress.{Progress}
+use Rattle.request_piece.specs.declared.Progress.the-variants.{Read, Refused}
 use Rattle.request_filter.specs.Filters.{filterAt}
 use Rattle.request_filter.specs.Laws.Filters.{filter-follow}
 use Rattle.request_operation.specs.declared.Body.{Body}
@@ -40,7 +40,7 @@ record Filtered (G : Grammar) (w : ℕ) (q : Bytes) (r e : Reached) : Type 1 whe
   clear : e .refusal ≡ 0 → r .refusal ≡ 0
 
 module _ (G : Grammar) (w : ℕ) (q : Bytes) where
-  filter-step : (r : Reached) → eqb (r .refusal) 0 ≡ true → (st : Step) → Follows w q (λ A k. filter G 16 128 (linesAt w q (r .next)) k) st → Filtered G w q r (reachedBy st)
+  filter-step : (r : Reached) → eqb (r .refusal) 0 ≡ true → (st : Progress) → Follows w q (λ A k. filter G 16 128 (linesAt w q (r .next)) k) st → Filtered G w q r (reachedBy st)
   filter-step r e (Read next left) f =
       record { one = f .0; is = λ A k. rw e (f .1 A (λ f left s. k f s)); reads = λ z. f .1 Filter (λ f left rest. accept f); clear = λ z. eqb-true (r .refusal) 0 e }
   filter-step r e (Refused n) f =

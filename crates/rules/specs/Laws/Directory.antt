@@ -103,11 +103,11 @@ abbrev FreshLast : Schema → List Stored → Option Stored → Type 0
 FreshLast S es none = Unit {0}
 FreshLast S es (some e) = Fresh S es e
 
-record Sound (st : Reading) : Type 0 where
+record SoundReading (st : Reading) : Type 0 where
   before : Accepted (st .schema) (st .complete)
   last : FreshLast (st .schema) (st .complete) (st .current)
 
-sound-all : (st : Reading) → Sound st → Accepted (st .schema) (entriesOf st)
+sound-all : (st : Reading) → SoundReading st → Accepted (st .schema) (entriesOf st)
 unfolding entriesOf
 sound-all st ok = go (st .current) (ok .last)
   where
@@ -115,23 +115,23 @@ sound-all st ok = go (st .current) (ok .last)
     go none f = subst (λ (es : List Stored). Accepted (st .schema) es) (sym (append-nil (st .complete))) (ok .before)
     go (some e) f = accepted-more (st .schema) (st .complete) e (ok .before) f
 
-type-sound : (st : Reading) (x : Line) (next : Reading) → typeLine st x ≡ accept next → Sound next
+type-sound : (st : Reading) (x : Line) (next : Reading) → typeLine st x ≡ accept next → SoundReading next
 unfolding typeLine entriesOf
 type-sound st x next e =
     let h = not-refused _ 3 _ next e in
-    subst Sound (accepted-is (h .1)) (go (st .complete) (st .current) (first-false (not (isEmpty (st .complete ++ optional (st .current)))) _ (h .0)))
+    subst SoundReading (accepted-is (h .1)) (go (st .complete) (st .current) (first-false (not (isEmpty (st .complete ++ optional (st .current)))) _ (h .0)))
   where
     first-false : (a b : Bool) → (a || b) ≡ false → a ≡ false
     first-false true b e = absurd (true≢false e)
     first-false false b e = refl
 
     go : (es : List Stored) (o : Option Stored) → not (isEmpty (es ++ optional o)) ≡ false
-        → Sound (record { schema = st .schema ++ (record { number = x .a; syntax = x .b } ∷ []); complete = es; current = o })
+        → SoundReading (record { schema = st .schema ++ (record { number = x .a; syntax = x .b } ∷ []); complete = es; current = o })
     go [] none h = record { before = none-accepted _; last = tt }
     go [] (some c) h = absurd (true≢false h)
     go (c ∷ cs) o h = absurd (true≢false h)
 
-entry-sound : (st : Reading) (x : Line) (next : Reading) → Sound st → entryLine st x ≡ accept next → Sound next
+entry-sound : (st : Reading) (x : Line) (next : Reading) → SoundReading st → entryLine st x ≡ accept next → SoundReading next
 unfolding entryLine
 entry-sound st x next ok e =
     let h₂ = not-refused (ltb (length (entriesOf st)) (x .a)) 2 _ next e in
@@ -139,32 +139,32 @@ entry-sound st x next ok e =
     let h₃ = not-refused (leb 256 (length (entriesOf st)) || ltb 8 (length (newEntry (entriesOf st) x .name))) 3 _ next (h₆ .1) in
     let h₄ = not-refused (not (allowed (st .schema) (x .b) (x .bytes))) 4 _ next (h₃ .1) in
     let h₅ = not-refused (clashes (st .schema) (entriesOf st) (x .a) (part (x .b) (x .bytes))) 5 _ next (h₄ .1) in
-    let s : Sound (record { schema = st .schema; complete = entriesOf st; current = some (newEntry (entriesOf st) x) })
+    let s : SoundReading (record { schema = st .schema; complete = entriesOf st; current = some (newEntry (entriesOf st) x) })
     = record { before = sound-all st ok; last = record { parent = ltb-false _ _ (h₂ .0); name = refl; alone = h₅ .0 } } in
-    subst Sound (accepted-is (h₅ .1)) s
+    subst SoundReading (accepted-is (h₅ .1)) s
 
 value-sound : (st : Reading) (x : Line) (next : Reading) (o : Option Stored) → Accepted (st .schema) (st .complete) → FreshLast (st .schema) (st .complete) o
-    → valueLine st o x ≡ accept next → Sound next
+    → valueLine st o x ≡ accept next → SoundReading next
 unfolding valueLine
 value-sound st x next none ok f e = absurd (refused-not 3 next e)
 value-sound st x next (some c) ok f e =
     let h₃ = not-refused (ltb (x .a) ((lastOr (part 0 []) (c .values)) .type)) 3 _ next e in
     let h₄ = not-refused (not (allowed (st .schema) (x .a) (x .bytes))) 4 _ next (h₃ .1) in
     let h₅ = not-refused (any (samePart (st .schema) (part (x .a) (x .bytes))) (c .values)) 5 _ next (h₄ .1) in
-    let s : Sound (record { schema = st .schema; complete = st .complete; current = some (withValue c (part (x .a) (x .bytes))) })
+    let s : SoundReading (record { schema = st .schema; complete = st .complete; current = some (withValue c (part (x .a) (x .bytes))) })
     = record { before = ok; last = record { parent = f .parent; name = f .name; alone = f .alone } } in
-    subst Sound (accepted-is (h₅ .1)) s
+    subst SoundReading (accepted-is (h₅ .1)) s
 
-step-sound : (top : ℕ) (st : Reading) (x : Line) (next : Reading) → Sound st → step top st x ≡ accept next → Sound next
+step-sound : (top : ℕ) (st : Reading) (x : Line) (next : Reading) → SoundReading st → step top st x ≡ accept next → SoundReading next
 unfolding step
 step-sound top st x next ok e = go (eqb (x .kind) 1) (eqb (x .kind) 2) ((not-refused (not (inForm (directoryForms top) x)) 2 _ next e) .1)
   where
-    go : (a b : Bool) → cond a (typeLine st x) (cond b (entryLine st x) (valueLine st (st .current) x)) ≡ accept next → Sound next
+    go : (a b : Bool) → cond a (typeLine st x) (cond b (entryLine st x) (valueLine st (st .current) x)) ≡ accept next → SoundReading next
     go true b h = type-sound st x next h
     go false true h = entry-sound st x next ok h
     go false false h = value-sound st x next (st .current) (ok .before) (ok .last) h
 
-fold-sound : (top : ℕ) (s : Sheet) (st : Reading) (d : Directory.Directory) → Sound st → fold (step top) finish 2 st s ≡ accept d → Accepted (d .schema) (d .entries)
+fold-sound : (top : ℕ) (s : Sheet) (st : Reading) (d : Directory.Directory) → SoundReading st → fold (step top) finish 2 st s ≡ accept d → Accepted (d .schema) (d .entries)
 unfolding fold finish
 fold-sound top end st d ok e =
     subst (λ (x : Directory.Directory). Accepted (x .schema) (x .entries)) (accepted-is ((not-refused (lacksNaming (st .schema) (st .current)) 6 _ d e) .1)) (sound-all st ok)
@@ -172,7 +172,7 @@ fold-sound top broken st d ok e = absurd (refused-not 2 d e)
 fold-sound top (row x rest) st d ok e = go (step top st x) refl e (λ next. fold-sound top rest next d)
   where
     go : (v : Verdict Reading) → step top st x ≡ v → then v (λ next. fold (step top) finish 2 next rest) ≡ accept d
-        → ((next : Reading) → Sound next → fold (step top) finish 2 next rest ≡ accept d → Accepted (d .schema) (d .entries)) → Accepted (d .schema) (d .entries)
+        → ((next : Reading) → SoundReading next → fold (step top) finish 2 next rest ≡ accept d → Accepted (d .schema) (d .entries)) → Accepted (d .schema) (d .entries)
     go (accept next) p q ih = ih next (step-sound top st x next ok p) q
     go (refuse n) p q ih = absurd (refused-not n d q)
 

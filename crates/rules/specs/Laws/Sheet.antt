@@ -199,7 +199,7 @@ column-read w n h = column-by w n h (eqb (n / 10) 0) refl
 -- ---- a line written is read back
 
 -- numbers of at most `w` digits, and at most 64 bytes
-pub record Fits (w : ℕ) (x : Line) : Type 0 where
+pub record FitsColumns (w : ℕ) (x : Line) : Type 0 where
   pub kind : x .kind < 10 ^ w
   pub a : x .a < 10 ^ w
   pub b : x .b < 10 ^ w
@@ -254,7 +254,7 @@ module _ (w : ℕ) (x : Line) where
     pub printed-rest : restOf w (length (x .bytes)) (lineBytes w x ++ rest) ≡ rest
     printed-rest = drop-at (lineBytes w x) rest (5 * w + 1 + length (x .bytes)) line-length
 
-module _ (w : ℕ) (x : Line) (rest : Bytes) (f : Fits (suc w) x) where
+module _ (w : ℕ) (x : Line) (rest : Bytes) (f : FitsColumns (suc w) x) where
   pub printed-front : frontOf (suc w) (lineBytes (suc w) x ++ rest) ≡ Taken (x .kind) (x .a) (x .b) (x .c) (length (x .bytes))
   unfolding numbers whole
   printed-front =
@@ -273,7 +273,7 @@ module _ (w : ℕ) (x : Line) (rest : Bytes) (f : Fits (suc w) x) where
 -- all lines fit
 abbrev pub AllFit : ℕ → List Line → Type 0
 AllFit w [] = Unit {0}
-AllFit w (x ∷ ls) = Fits w x × AllFit w ls
+AllFit w (x ∷ ls) = FitsColumns w x × AllFit w ls
 
 -- the lines `ls`, then `t`
 abbrev pub rows : List Line → Sheet → Sheet

@@ -9,13 +9,13 @@ use Rattle.rules.specs.Laws.Tests.{and-left, and-right}
 use Rattle.sheet_form.specs.Columns.{fits}
 
 -- a range as a statement
-abbrev pub Within : Range → ℕ → Type 0
-Within unnamed n = n ≡ 0
-Within (exactly m) n = n ≡ m
-Within (between low high) n = (low ≤ n) × (n ≤ high)
-Within free n = Unit {0}
+abbrev pub InRange : Range → ℕ → Type 0
+InRange unnamed n = n ≡ 0
+InRange (exactly m) n = n ≡ m
+InRange (between low high) n = (low ≤ n) × (n ≤ high)
+InRange free n = Unit {0}
 
-within : (r : Range) (n : ℕ) → inRange r n ≡ true → Within r n
+within : (r : Range) (n : ℕ) → inRange r n ≡ true → InRange r n
 within unnamed n e = eqb-true n 0 e
 within (exactly m) n e = eqb-true n m e
 within (between low high) n e = (leb-true low n (and-left (leb low n) (leb n high) e), leb-true n high (and-right (leb low n) (leb n high) e))
@@ -26,7 +26,7 @@ either true y f g e = f refl
 either false y f g e = g e
 
 module _ (a b c l : ℕ) where
-  columns : (f : Form) → fits f a b c l ≡ true → Within (f .a) a × Within (f .b) b × Within (f .c) c
+  columns : (f : Form) → fits f a b c l ≡ true → InRange (f .a) a × InRange (f .b) b × InRange (f .c) c
   unfolding fits
   columns f e =
       let e₁ = and-right (inRange (f .a) a) (inRange (f .b) b && (inRange (f .c) c && inRange (f .length) l)) e in
@@ -34,7 +34,7 @@ module _ (a b c l : ℕ) where
       (within (f .a) a (and-left (inRange (f .a) a) _ e), within (f .b) b (and-left (inRange (f .b) b) _ e₁), within (f .c) c (and-left (inRange (f .c) c) _ e₂))
 
   -- by the form that a line fits: this one, or one of those after it
-  pub by-form : {P : Type 0} (f : Form) (more : Bool) → (Within (f .a) a × Within (f .b) b × Within (f .c) c → P) → (more ≡ true → P) → (fits f a b c l || more) ≡ true → P
+  pub by-form : {P : Type 0} (f : Form) (more : Bool) → (InRange (f .a) a × InRange (f .b) b × InRange (f .c) c → P) → (more ≡ true → P) → (fits f a b c l || more) ≡ true → P
   by-form f more g h = either (fits f a b c l) more (λ e. g (columns f e)) h
 
 pub no-form : {P : Type 0} → false ≡ true → P

@@ -17,7 +17,7 @@ use Rattle.rules.specs.Places.{linesAt, partsOf, typesOf}
 use Rattle.sheet_form.specs.Columns.{inFormOf, columnsIn}
 use Rattle.sheet_form.specs.Laws.Columns.{columns-in-form}
 use Rattle.sheet_line.specs.Line.{takenAt, lineOf}
-use Rattle.sheet_line.specs.Laws.{linesBy, Fits, taken-lines, taken-fits-line}
+use Rattle.sheet_line.specs.Laws.{linesBy, LineFits, taken-lines, taken-fits-line}
 use Rattle.sheet_line.specs.declared.Line.{Line}
 use Rattle.sheet_line.specs.declared.Taken.{Taken}
 use Rattle.sheet_line.specs.declared.Taken.the-variants as Taken
@@ -59,7 +59,7 @@ module _ {B : Type 0} (forms : List Form) (w : ℕ) (s : Bytes) (at : ℕ) (f : 
 pub record Stands (forms : List Form) (w : ℕ) (s : Bytes) (at : ℕ) (x : Line) : Type 0 where
   pub lines : linesAt w s at ≡ row (lineOf s x) (linesAt w s (x .next))
   pub allowed : columnsIn forms x ≡ true
-  pub fits : Fits w s at x
+  pub fits : LineFits w s at x
 
 module _ (forms : List Form) (w : ℕ) (s : Bytes) (at : ℕ) {x : Line} where
   stands-line : (y : Line) → takenAt w s at ≡ Taken.Line y → (t : Bool) → columnsIn forms y ≡ t → cond t (Seen.Line y) Seen.NotAllowed ≡ Seen.Line x → Stands forms w s at x

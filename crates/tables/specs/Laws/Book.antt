@@ -5,7 +5,7 @@ use mathlib.Core.List.{List}
 use native.Mathlib.Omega.{arith}
 use lib.ListN.{length, getD, take, drop, length-drop}
 use lib.Seq.{length-take-le, getD-take, getD-drop}
-use Rattle.tables.specs.Book.{Fits, types, entries, schema, parentAt, parents, firstAt}
+use Rattle.tables.specs.Book.{BookFits, types, entries, schema, parentAt, parents, firstAt}
 
 cut-length : (b : List ℕ) (at n : ℕ) → at + n ≤ length b → length (take n (drop at b)) ≡ n
 cut-length b at n h = length-take-le n (drop at b) (simp length-drop (omega (arith, h)))
@@ -21,7 +21,7 @@ cut-part b at n = let e : at + n - at ≡ n = omega arith in rw e
 pub end-is : (b : List ℕ) (k : ℕ) → getD b (1097 + k) 0 ≡ firstAt b (suc k)
 end-is b k = let e : 1097 + k ≡ 1096 + suc k = omega arith in rw e
 
-module _ {b : List ℕ} (h : Fits b) where
+module _ {b : List ℕ} (h : BookFits b) where
   pub schema-length : length (schema b) ≡ types b
   unfolding schema
   schema-length = cut-length b 8 (types b) (omega (arith, h .size, h .few-types))

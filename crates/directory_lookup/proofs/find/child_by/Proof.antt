@@ -1,13 +1,13 @@
 use Prim.Native.Nat.{_-_}
 use mathlib.Core.Path.{sym, _∙_}
 use native.Mathlib.Omega.{arith}
-use Rattle.directory_lookup.specs.Laws.Find.{Sought, sought-start, sought-here, sought-on, sought-end}
+use Rattle.directory_lookup.specs.Laws.Find.{ChildSought, sought-start, sought-here, sought-on, sought-end}
 use borrow.Author.Needs.{needs}
 use Rattle.directory_lookup.proofs.find.child_by.Statement.{statement}
 use Rattle.directory_lookup.proofs.find.child_by.Tie as tie
 
 abbrev Inv-loop : tie.InvT-loop
-Inv-loop book d parent t s v n i₀ i = Sought book d parent t s v i
+Inv-loop book d parent t s v n i₀ i = ChildSought book d parent t s v i
 
 abbrev μ-loop : tie.MeasureT-loop
 μ-loop book d parent t s v n i₀ i = n - i

@@ -8,7 +8,7 @@ use Rattle.tables.specs.Book as Book
 use Rattle.tables.specs.Laws.Book.{end-is}
 use Rattle.filter_lines.specs.Lines.{kindAt, firstAt, typeRank, valueAt, piecesAt}
 use Rattle.filter_item.specs.Items.{satisfiedIn}
-use Rattle.filter_item.specs.Laws.Seen.{values-within}
+use Rattle.filter_item.specs.Laws.Matchable.{values-within}
 use Rattle.filter_item.specs.Laws.Entry.{item-beyond, item-undecidable, item-told}
 use borrow.Author.Needs.{needs}
 use Rattle.filter_item.proofs.item.item.Statement.{statement}

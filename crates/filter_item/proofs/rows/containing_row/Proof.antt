@@ -10,20 +10,20 @@ use borrow.Author.Needs.{needs}
 use Rattle.filter_item.proofs.rows.containing_row.Statement.{statement}
 use Rattle.filter_item.proofs.rows.containing_row.Tie as tie
 
-seen-row-requires : tie.Need-seen-row-requires
-seen-row-requires c κs = let r = c .before .before .pre .0 .room in (c .before .before .pre .1, omega (arith, r, c .before .before .pre .2))
+matchable-row-requires : tie.Need-matchable-row-requires
+matchable-row-requires c κs = let r = c .before .before .pre .0 .room in (c .before .before .pre .1, omega (arith, r, c .before .before .pre .2))
 
 bytes-requires : tie.Need-bytes-requires
 bytes-requires c κs = let r = c .before .before .before .before .before .before .pre .0 .room in (omega (arith, r, c .before .before .before .before .before .before .pre .2), c .before .before .before .before .before .before .pre .0 .part (c .before .before .before .before .before .before .args .i) (c .before .before .before .before .before .before .pre .1) (c .before .before .before .before .before .before .pre .2))
 
 returns : tie.Need-returns
-returns c = c .substrings .ensures ∙ ap (λ (u : Bytes). contains text (piecesAt (now (c .before .before .before .before .before .before .before .before .args .q)) (now (c .before .before .before .before .before .before .before .before .args .rows)) (c .before .before .before .before .before .before .before .before .args .lines) (c .before .before .before .before .before .before .before .before .args .k)) u) (c .before .bytes .ensures) ∙ ap (λ (b : Bool). b && contains text (piecesAt (now (c .before .before .before .before .before .before .before .before .args .q)) (now (c .before .before .before .before .before .before .before .before .args .rows)) (c .before .before .before .before .before .before .before .before .args .lines) (c .before .before .before .before .before .before .before .before .args .k)) (bytesAt (now (c .before .before .before .before .before .before .before .before .args .d)) (now (c .before .before .before .before .before .before .before .before .args .held)) (c .before .before .before .before .before .before .before .before .args .i))) (sym (c .before .before .before .before .if1 .taken) ∙ c .before .before .before .before .before .seen-row .ensures)
+returns c = c .substrings .ensures ∙ ap (λ (u : Bytes). contains text (piecesAt (now (c .before .before .before .before .before .before .before .before .args .q)) (now (c .before .before .before .before .before .before .before .before .args .rows)) (c .before .before .before .before .before .before .before .before .args .lines) (c .before .before .before .before .before .before .before .before .args .k)) u) (c .before .bytes .ensures) ∙ ap (λ (b : Bool). b && contains text (piecesAt (now (c .before .before .before .before .before .before .before .before .args .q)) (now (c .before .before .before .before .before .before .before .before .args .rows)) (c .before .before .before .before .before .before .before .before .args .lines) (c .before .before .before .before .before .before .before .before .args .k)) (bytesAt (now (c .before .before .before .before .before .before .before .before .args .d)) (now (c .before .before .before .before .before .before .before .before .args .held)) (c .before .before .before .before .before .before .before .before .args .i))) (sym (c .before .before .before .before .if1 .taken) ∙ c .before .before .before .before .before .matchable-row .ensures)
 
 returns-2 : tie.Need-returns-2
-returns-2 c = ap (λ (b : Bool). b && contains text (piecesAt (now (c .before .before .before .before .args .q)) (now (c .before .before .before .before .args .rows)) (c .before .before .before .before .args .lines) (c .before .before .before .before .args .k)) (bytesAt (now (c .before .before .before .before .args .d)) (now (c .before .before .before .before .args .held)) (c .before .before .before .before .args .i))) (sym (c .if1 .left) ∙ c .before .seen-row .ensures)
+returns-2 c = ap (λ (b : Bool). b && contains text (piecesAt (now (c .before .before .before .before .args .q)) (now (c .before .before .before .before .args .rows)) (c .before .before .before .before .args .lines) (c .before .before .before .before .args .k)) (bytesAt (now (c .before .before .before .before .args .d)) (now (c .before .before .before .before .args .held)) (c .before .before .before .before .args .i))) (sym (c .if1 .left) ∙ c .before .matchable-row .ensures)
 
 pub containing-row-spec : {M : Type 1} → statement M
 containing-row-spec =
     tie.close
-    (tie.spec seen-row-requires (λ c. search needs) (λ c. search needs) (λ c. search needs) (λ c. search needs) (λ c. search needs) bytes-requires
+    (tie.spec matchable-row-requires (λ c. search needs) (λ c. search needs) (λ c. search needs) (λ c. search needs) (λ c. search needs) bytes-requires
     (λ c κs. search needs) returns returns-2)

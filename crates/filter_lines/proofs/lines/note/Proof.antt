@@ -7,16 +7,16 @@ use native.Mathlib.Omega.{arith}
 use lib.ListN.{length, set, length-set}
 use denote.Ref.{now}
 use Rattle.sheet_line.specs.Line.{takenAt}
-use Rattle.sheet_line.specs.Laws.{Fits, linesBy, taken-lines, taken-fits-line}
+use Rattle.sheet_line.specs.Laws.{LineFits, linesBy, taken-lines, taken-fits-line}
 use Rattle.sheet_line.specs.declared.Taken.the-variants as Taken
-use Rattle.filter_lines.specs.Lines.{LINES, ROWS, Beyond}
+use Rattle.filter_lines.specs.Lines.{LINES, FILTER, Beyond}
 use Rattle.filter_lines.specs.Laws.Lines.{Noting, noting-start, noting-on, beyond-start, beyond-on, lines-noted, noted-length, room-left, room-on}
 use borrow.Author.Needs.{needs}
 use Rattle.filter_lines.proofs.lines.note.Statement.{statement}
 use Rattle.filter_lines.proofs.lines.note.Tie as tie
 
 abbrev Inv-loop : tie.InvT-loop
-Inv-loop schema w q at rows₀ n₀ j₀ rows n j = (length rows ≡ ROWS) × (n ≤ LINES) × (n * (5 * w + 1) ≤ j) × Noting schema w q rows at n j × Beyond n rows₀ rows
+Inv-loop schema w q at rows₀ n₀ j₀ rows n j = (length rows ≡ FILTER) × (n ≤ LINES) × (n * (5 * w + 1) ≤ j) × Noting schema w q rows at n j × Beyond n rows₀ rows
 
 abbrev μ-loop : tie.MeasureT-loop
 μ-loop schema w q at rows₀ n₀ j₀ rows n j = length q - j
@@ -31,7 +31,7 @@ loop-holds c =
 line : (c : tie.After-known-told Inv-loop μ-loop) → takenAt (c .before .before .before .before .before .before .before .args .w) (now (c .before .before .before .before .before .before .before .args .q)) (c .before .before .before .before .loop .j) ≡ Taken.Line (c .before .x .given .0 .0)
 line c = sym (c .before .before .before .take .ensures) ∙ c .before .x .given .1
 
-fits : (c : tie.After-known-told Inv-loop μ-loop) → Fits (c .before .before .before .before .before .before .before .args .w) (now (c .before .before .before .before .before .before .before .args .q)) (c .before .before .before .before .loop .j) (c .before .x .given .0 .0)
+fits : (c : tie.After-known-told Inv-loop μ-loop) → LineFits (c .before .before .before .before .before .before .before .args .w) (now (c .before .before .before .before .before .before .before .args .q)) (c .before .before .before .before .loop .j) (c .before .x .given .0 .0)
 fits c = taken-fits-line (c .before .before .before .before .before .before .before .args .w) (now (c .before .before .before .before .before .before .before .args .q)) (c .before .before .before .before .loop .j) (line c)
 
 room : (c : tie.After-known-told Inv-loop μ-loop) → c .before .before .before .before .loop .n < LINES

@@ -8,7 +8,7 @@ use Rattle.rules.specs.Filter.{Assertion, negation}
 use Rattle.rules.specs.Places.{linesAt}
 use Rattle.rules.specs.FilterLines.{Evaluated, evaluated, partsFrom, evaluateLines}
 use Rattle.sheet_kind.specs.Laws.Kinds.{is-kind, not-kind}
-use Rattle.filter_lines.specs.Lines.{Lines, positionAt}
+use Rattle.filter_lines.specs.Lines.{LinesNoted, positionAt}
 use Rattle.filter_tree.specs.Tree.{joinBy}
 use Rattle.filter_tree.specs.Laws.Tree.{tree-none, tree-over, tree-not, tree-group, tree-item, parts-end, parts-on}
 use Rattle.filter_tree.specs.Truths.{Truths}
@@ -39,7 +39,7 @@ evaluate-below t =
     and 2 evaluate-kinds.ps (falls 2 evaluate-kinds.ps _<_ μ-evaluate t) evaluate.Pre
 
 abbrev evaluate-Inv-loop : evaluate-lts.InvT-loop
-evaluate-Inv-loop rows truths lines k depth kind conjunction truth₀ next₀ left₀ truth next left = (next ≤ lines) × ((w : ℕ) (q : Bytes) (m : Assertion → Truth) → Lines w q rows lines → Truths m q rows lines lines truths
+evaluate-Inv-loop rows truths lines k depth kind conjunction truth₀ next₀ left₀ truth next left = (next ≤ lines) × ((w : ℕ) (q : Bytes) (m : Assertion → Truth) → LinesNoted w q rows lines → Truths m q rows lines lines truths
     → partsFrom (joinBy conjunction) (evaluateLines m (depth - 1)) left truth (linesAt w q (positionAt rows next)) ≡ evaluateLines m depth (linesAt w q (positionAt rows k)))
 
 abbrev evaluate-μ-loop : evaluate-lts.MeasureT-loop

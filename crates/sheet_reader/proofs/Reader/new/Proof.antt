@@ -33,7 +33,7 @@ use denote.Triple.Spec.{Meets, tripleOf}
 use denote.Triple.Table.{entered}
 use denote.Triple.Walked.{says, Stays, stay-none, stay-none-slice, walkOf, goes-none, goes-none-slice, Walks, ends-at, walked, walk-meets}
 use denote.Exit.{yes}
-use Rattle.sheet_reader.specs.Readings.{readerAt}
+use Rattle.sheet_reader.specs.Advances.{readerAt}
 use Rattle.sheet_reader.proofs.Reader as T
 use Rattle.sheet_reader.proofs.Reader.Laws as T′
 use Rattle.sheet_reader.proofs.Reader.new.Key.{name as #new}

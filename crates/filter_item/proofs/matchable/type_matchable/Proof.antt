@@ -6,8 +6,8 @@ use Rattle.tables.specs.Book.{schema}
 use Rattle.tables.specs.Held.{typeAt}
 use Rattle.tables.specs.Sets.{grantedAt}
 use borrow.Author.Needs.{needs}
-use Rattle.filter_item.proofs.seen.type_seen.Statement.{statement}
-use Rattle.filter_item.proofs.seen.type_seen.Tie as tie
+use Rattle.filter_item.proofs.matchable.type_matchable.Statement.{statement}
+use Rattle.filter_item.proofs.matchable.type_matchable.Tie as tie
 
 returns : tie.Need-returns
 returns c = λ σ es d p book held w l k. c .may-type .ensures σ es d p book held w l k ∙ ap (λ (b : Bool). b && grantedAt σ es (c .before .before .before .args .e) (ofType (typeAt (schema book) (c .before .before .before .args .r))) FilterMatch) (sym (c .before .if1 .taken) ∙ c .before .before .in-word .ensures)
@@ -15,5 +15,5 @@ returns c = λ σ es d p book held w l k. c .may-type .ensures σ es d p book he
 returns-2 : tie.Need-returns-2
 returns-2 c = λ σ es d p book held w l k. ap (λ (b : Bool). b && grantedAt σ es (c .before .before .args .e) (ofType (typeAt (schema book) (c .before .before .args .r))) FilterMatch) (sym (c .if1 .left) ∙ c .before .in-word .ensures)
 
-pub type-seen-spec : {M : Type 1} → statement M
-type-seen-spec = tie.close (tie.spec (λ c κs. search needs) (λ c κs. search needs) returns returns-2)
+pub type-matchable-spec : {M : Type 1} → statement M
+type-matchable-spec = tie.close (tie.spec (λ c κs. search needs) (λ c κs. search needs) returns returns-2)

@@ -1,8 +1,8 @@
 use mathlib.Core.Path.{refl}
 use Rattle.access_set.specs.Member.{bit}
 use borrow.Author.Needs.{needs}
-use Rattle.filter_item.proofs.seen.in_word.Statement.{statement}
-use Rattle.filter_item.proofs.seen.in_word.Tie as tie
+use Rattle.filter_item.proofs.matchable.in_word.Statement.{statement}
+use Rattle.filter_item.proofs.matchable.in_word.Tie as tie
 
 returns : tie.Need-returns
 unfolding bit

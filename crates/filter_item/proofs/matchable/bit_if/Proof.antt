@@ -4,8 +4,8 @@ use Prim.Native.Nat.{_%_, _^_}
 use mathlib.Core.Bool.{Bool, cond}
 use Rattle.access_set.specs.Laws.Bit.{one-shl}
 use borrow.Author.Needs.{needs}
-use Rattle.filter_item.proofs.seen.bit_if.Statement.{statement}
-use Rattle.filter_item.proofs.seen.bit_if.Tie as tie
+use Rattle.filter_item.proofs.matchable.bit_if.Statement.{statement}
+use Rattle.filter_item.proofs.matchable.bit_if.Tie as tie
 
 returns : tie.Need-returns
 returns c = one-shl (c .before .args .j % 64) (omega arith) ∙ ap (λ (b : Bool). cond b (2 ^ (c .before .args .j % 64)) 0) (sym (c .if1 .taken))

@@ -10,7 +10,7 @@ use Rattle.rules.specs.Laws.First.{Ranked}
 use Rattle.rules.specs.Numbers.{reachOf}
 
 -- of the setting's items and the accepted entries `es`
-pub record Reached (σ : Setting) (es : List Stored) (reach order parents : List ℕ) : Type 0 where
+pub record Sources (σ : Setting) (es : List Stored) (reach order parents : List ℕ) : Type 0 where
   pub accepted : Accepted (σ .schema) es
   pub few : length es ≤ 256
   pub few-items : length (σ .items) ≤ 256

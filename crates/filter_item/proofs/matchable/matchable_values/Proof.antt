@@ -8,16 +8,16 @@ use Rattle.rules.specs.Directory.{Stored}
 use Rattle.rules.specs.Decision.{Setting}
 use Rattle.tables.specs.Book.{firstAt}
 use Rattle.tables.specs.World.{World}
-use Rattle.filter_item.specs.Seen.{SeenValues}
+use Rattle.filter_item.specs.Matchable.{MatchableValues}
 use Rattle.tables.specs.Laws.Book.{end-is}
 use Rattle.tables.specs.Laws.World.{rows-within}
-use Rattle.filter_item.specs.Laws.Seen.{Blank, blank-none, blank-on, values-none, values-on, values-until}
+use Rattle.filter_item.specs.Laws.Matchable.{Blank, blank-none, blank-on, values-none, values-on, values-until}
 use borrow.Author.Needs.{needs}
-use Rattle.filter_item.proofs.seen.seen_values.Statement.{statement}
-use Rattle.filter_item.proofs.seen.seen_values.Tie as tie
+use Rattle.filter_item.proofs.matchable.matchable_values.Statement.{statement}
+use Rattle.filter_item.proofs.matchable.matchable_values.Tie as tie
 
 abbrev Inv-loop : tie.InvT-loop
-Inv-loop book held sets d p k asked first end values₀ i₀ values i = (first ≤ i) × (length values ≡ 34) × Blank values (i - first) × ((σ : Setting) (es : List Stored) → World σ es d p book held sets → SeenValues σ es d book held k asked i values)
+Inv-loop book held sets d p k asked first end values₀ i₀ values i = (first ≤ i) × (length values ≡ 34) × Blank values (i - first) × ((σ : Setting) (es : List Stored) → World σ es d p book held sets → MatchableValues σ es d book held k asked i values)
 
 abbrev μ-loop : tie.MeasureT-loop
 μ-loop book held sets d p k asked first end values₀ i₀ values i = end - i
@@ -52,8 +52,8 @@ mul-values c = omega (arith, c .loop-test .taken, c .before .loop .inv .0, rows-
 array-read-values : tie.Need-array-read-values Inv-loop μ-loop
 array-read-values c = omega (arith, c .loop-test .taken, c .before .loop .inv .0, rows-within (c .before .before .before .before .before .before .pre .0 .2 .entries) (c .before .before .before .before .before .before .args .k) (c .before .before .before .before .before .before .pre .1) .1, end-is (now (c .before .before .before .before .before .before .args .book)) (c .before .before .before .before .before .before .args .k))
 
-value-seen-requires : tie.Need-value-seen-requires Inv-loop μ-loop
-value-seen-requires c κs = (c .before .before .before .before .before .before .pre .0, c .before .before .before .before .before .before .pre .1, c .before .loop .inv .0, omega (arith, c .loop-test .taken, end-is (now (c .before .before .before .before .before .before .args .book)) (c .before .before .before .before .before .before .args .k)))
+value-matchable-requires : tie.Need-value-matchable-requires Inv-loop μ-loop
+value-matchable-requires c κs = (c .before .before .before .before .before .before .pre .0, c .before .before .before .before .before .before .pre .1, c .before .loop .inv .0, omega (arith, c .loop-test .taken, end-is (now (c .before .before .before .before .before .before .args .book)) (c .before .before .before .before .before .before .args .k)))
 
 mul-values-2 : tie.Need-mul-values-2 Inv-loop μ-loop
 mul-values-2 c = omega (arith, c .before .before .loop-test .taken, c .before .before .before .loop .inv .0, rows-within (c .before .before .before .before .before .before .before .before .pre .0 .2 .entries) (c .before .before .before .before .before .before .before .before .args .k) (c .before .before .before .before .before .before .before .before .pre .1) .1, end-is (now (c .before .before .before .before .before .before .before .before .args .book)) (c .before .before .before .before .before .before .before .before .args .k))
@@ -68,13 +68,13 @@ loop-less : tie.Need-loop-less Inv-loop μ-loop
 loop-less c = omega (arith, c .before .before .loop-test .taken)
 
 loop-again : tie.Need-loop-again Inv-loop μ-loop
-loop-again c = (omega (arith, c .before .before .before .loop .inv .0), length-set (c .before .before .before .loop .values) _ _ ∙ c .before .before .before .loop .inv .1, blank-on (c .before .before .before .loop .values) (firstAt (now (c .before .before .before .before .before .before .before .before .args .book)) (c .before .before .before .before .before .before .before .before .args .k)) (c .before .before .before .loop .i) (c .bit-if .result) (c .before .value-seen .result) (c .bit-if .ensures) (omega (arith, c .before .before .loop-test .taken, c .before .before .before .loop .inv .0, c .before .before .before .loop .inv .1, rows-within (c .before .before .before .before .before .before .before .before .pre .0 .2 .entries) (c .before .before .before .before .before .before .before .before .args .k) (c .before .before .before .before .before .before .before .before .pre .1) .1, end-is (now (c .before .before .before .before .before .before .before .before .args .book)) (c .before .before .before .before .before .before .before .before .args .k))) (c .before .before .before .loop .inv .0) (c .before .before .before .loop .inv .2), λ σ es w. values-on (c .before .before .before .loop .values) (firstAt (now (c .before .before .before .before .before .before .before .before .args .book)) (c .before .before .before .before .before .before .before .before .args .k)) (c .before .before .before .loop .i) (c .bit-if .result) (c .before .value-seen .result) (c .bit-if .ensures) (omega (arith, c .before .before .loop-test .taken, c .before .before .before .loop .inv .0, c .before .before .before .loop .inv .1, rows-within (c .before .before .before .before .before .before .before .before .pre .0 .2 .entries) (c .before .before .before .before .before .before .before .before .args .k) (c .before .before .before .before .before .before .before .before .pre .1) .1, end-is (now (c .before .before .before .before .before .before .before .before .args .book)) (c .before .before .before .before .before .before .before .before .args .k))) (c .before .before .before .loop .inv .0) σ es (now (c .before .before .before .before .before .before .before .before .args .d)) (now (c .before .before .before .before .before .before .before .before .args .book)) (now (c .before .before .before .before .before .before .before .before .args .held)) (c .before .before .before .before .before .before .before .before .args .k) (c .before .before .before .before .before .before .before .before .args .asked) refl (c .before .before .before .loop .inv .2) (c .before .value-seen .ensures σ es w) (c .before .before .before .loop .inv .3 σ es w))
+loop-again c = (omega (arith, c .before .before .before .loop .inv .0), length-set (c .before .before .before .loop .values) _ _ ∙ c .before .before .before .loop .inv .1, blank-on (c .before .before .before .loop .values) (firstAt (now (c .before .before .before .before .before .before .before .before .args .book)) (c .before .before .before .before .before .before .before .before .args .k)) (c .before .before .before .loop .i) (c .bit-if .result) (c .before .value-matchable .result) (c .bit-if .ensures) (omega (arith, c .before .before .loop-test .taken, c .before .before .before .loop .inv .0, c .before .before .before .loop .inv .1, rows-within (c .before .before .before .before .before .before .before .before .pre .0 .2 .entries) (c .before .before .before .before .before .before .before .before .args .k) (c .before .before .before .before .before .before .before .before .pre .1) .1, end-is (now (c .before .before .before .before .before .before .before .before .args .book)) (c .before .before .before .before .before .before .before .before .args .k))) (c .before .before .before .loop .inv .0) (c .before .before .before .loop .inv .2), λ σ es w. values-on (c .before .before .before .loop .values) (firstAt (now (c .before .before .before .before .before .before .before .before .args .book)) (c .before .before .before .before .before .before .before .before .args .k)) (c .before .before .before .loop .i) (c .bit-if .result) (c .before .value-matchable .result) (c .bit-if .ensures) (omega (arith, c .before .before .loop-test .taken, c .before .before .before .loop .inv .0, c .before .before .before .loop .inv .1, rows-within (c .before .before .before .before .before .before .before .before .pre .0 .2 .entries) (c .before .before .before .before .before .before .before .before .args .k) (c .before .before .before .before .before .before .before .before .pre .1) .1, end-is (now (c .before .before .before .before .before .before .before .before .args .book)) (c .before .before .before .before .before .before .before .before .args .k))) (c .before .before .before .loop .inv .0) σ es (now (c .before .before .before .before .before .before .before .before .args .d)) (now (c .before .before .before .before .before .before .before .before .args .book)) (now (c .before .before .before .before .before .before .before .before .args .held)) (c .before .before .before .before .before .before .before .before .args .k) (c .before .before .before .before .before .before .before .before .args .asked) refl (c .before .before .before .loop .inv .2) (c .before .value-matchable .ensures σ es w) (c .before .before .before .loop .inv .3 σ es w))
 
 returns : tie.Need-returns Inv-loop μ-loop
 returns c = λ σ es w. values-until σ es (now (c .before .before .before .before .before .before .args .d)) (now (c .before .before .before .before .before .before .args .book)) (now (c .before .before .before .before .before .before .args .held)) (c .before .before .before .before .before .before .args .k) (c .before .before .before .before .before .before .args .asked) (c .before .loop .i) (firstAt (now (c .before .before .before .before .before .before .args .book)) (suc (c .before .before .before .before .before .before .args .k))) (c .before .loop .values) (omega (arith, c .loop-test .left, end-is (now (c .before .before .before .before .before .before .args .book)) (c .before .before .before .before .before .before .args .k))) (c .before .loop .inv .3 σ es w)
 
-pub seen-values-spec : {M : Type 1} → statement M
-seen-values-spec =
+pub matchable-values-spec : {M : Type 1} → statement M
+matchable-values-spec =
     tie.close
     (tie.spec Inv-loop μ-loop add-first mul-first element-copy-out-first add-end mul-end element-copy-out-end loop-holds sub-j mul-values
-    array-read-values value-seen-requires (λ c κs. search needs) mul-values-2 array-write-values add-i loop-less loop-again returns)
+    array-read-values value-matchable-requires (λ c κs. search needs) mul-values-2 array-write-values add-i loop-less loop-again returns)

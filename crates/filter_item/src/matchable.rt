@@ -22,13 +22,13 @@ ghost use Rattle.tables.specs.Book.{entries, schema, firstAt};
 ghost use Rattle.tables.specs.Held.{rankAt, bytesAt, typeAt};
 ghost use Rattle.tables.specs.Sets.{grantedAt};
 ghost use Rattle.tables.specs.World.{World, Known};
-ghost use Rattle.filter_item.specs.Seen.{SeenTypes, SeenValues, SeenAt};
+ghost use Rattle.filter_item.specs.Matchable.{MatchableTypes, MatchableValues, MatchableAt};
 
 // Where the book has the end of an entry's rows.
 pub(crate) const END: usize = FIRST + 1;
 
 // Bit r of `types`: FilterMatch is granted on the type of rank r. Bit j % 64 of word j / 64 of `values`: the same of the value in the entry's row j.
-pub struct Seen {
+pub struct Matchable {
     pub types: u64,
     pub values: [u64; 34],
 }
@@ -52,7 +52,7 @@ pub(crate) fn bit_if(b: bool, j: usize) -> u64
 }
 
 // Is the type of rank `r` asked about, and FilterMatch granted on it in entry number `e`?
-fn type_seen(sets: &[u64; SETS], e: usize, asked: u64, r: usize) -> bool
+fn type_matchable(sets: &[u64; SETS], e: usize, asked: u64, r: usize) -> bool
     requires { ⌜ (e ≤ 256) × (r < 64) × ((d p : Bytes) × (book held : List ℕ) × Known d p book held (now sets)) ⌝ }
     ensures { λ x. ⌜ ((σ : Setting) (es : List Stored) (d p : Bytes) (book held : List ℕ) → World σ es d p book held (now (sets .entry)) → e ≤ length es → r < length (schema book) → x ≡ (bit asked r && grantedAt σ es e (ofType (typeAt (schema book) r)) FilterMatch)) ⌝ }
 {
@@ -63,21 +63,21 @@ fn type_seen(sets: &[u64; SETS], e: usize, asked: u64, r: usize) -> bool
 }
 
 // FilterMatch on the first `n` types of the schema, of those that are asked about.
-fn seen_types(sets: &[u64; SETS], n: usize, e: usize, asked: u64) -> u64
+fn matchable_types(sets: &[u64; SETS], n: usize, e: usize, asked: u64) -> u64
     requires { ⌜ (e ≤ 256) × (n ≤ 64) × ((d p : Bytes) × (book held : List ℕ) × Known d p book held (now sets)) ⌝ }
-    ensures { λ x. ⌜ ((σ : Setting) (es : List Stored) (d p : Bytes) (book held : List ℕ) → World σ es d p book held (now (sets .entry)) → e ≤ length es → n ≤ length (schema book) → SeenTypes σ es book e asked n x) ⌝ }
+    ensures { λ x. ⌜ ((σ : Setting) (es : List Stored) (d p : Bytes) (book held : List ℕ) → World σ es d p book held (now (sets .entry)) → e ≤ length es → n ≤ length (schema book) → MatchableTypes σ es book e asked n x) ⌝ }
 {
     let mut x: u64 = 0;
     let mut r: usize = 0;
     while r < n {
-        x = x | bit_if(type_seen(sets, e, asked, r), r);
+        x = x | bit_if(type_matchable(sets, e, asked, r), r);
         r += 1;
     }
     x
 }
 
 // Is the type of the value in row `i`, of the entry of index `k`, asked about, and FilterMatch granted on the value?
-fn value_seen(
+fn value_matchable(
     book: &[u64; BOOK],
     held: &[u64; HELD],
     sets: &[u64; SETS],
@@ -98,7 +98,7 @@ fn value_seen(
 }
 
 // FilterMatch on the values of the entry of index `k`, of those whose types are asked about.
-fn seen_values(
+fn matchable_values(
     book: &[u64; BOOK],
     held: &[u64; HELD],
     sets: &[u64; SETS],
@@ -108,7 +108,7 @@ fn seen_values(
     asked: u64,
 ) -> [u64; 34]
     requires { ⌜ Known (now d) (now p) (now book) (now held) (now sets) × (k < entries (now book)) ⌝ }
-    ensures { λ r. ⌜ ((σ : Setting) (es : List Stored) → World σ es (now (d .entry)) (now (p .entry)) (now (book .entry)) (now (held .entry)) (now (sets .entry)) → SeenValues σ es (now (d .entry)) (now (book .entry)) (now (held .entry)) k asked (firstAt (now (book .entry)) (suc k)) r) ⌝ }
+    ensures { λ r. ⌜ ((σ : Setting) (es : List Stored) → World σ es (now (d .entry)) (now (p .entry)) (now (book .entry)) (now (held .entry)) (now (sets .entry)) → MatchableValues σ es (now (d .entry)) (now (book .entry)) (now (held .entry)) k asked (firstAt (now (book .entry)) (suc k)) r) ⌝ }
 {
     let first = book[FIRST + k] as usize;
     let end = book[END + k] as usize;
@@ -117,7 +117,8 @@ fn seen_values(
     while i < end {
         let j = i - first;
         let word = j / 64;
-        values[word] = values[word] | bit_if(value_seen(book, held, sets, d, p, k, asked, i), j);
+        values[word] = values[word]
+            | bit_if(value_matchable(book, held, sets, d, p, k, asked, i), j);
         i += 1;
     }
     values
@@ -132,12 +133,12 @@ pub fn ask(
     p: &[u8],
     k: usize,
     asked: u64,
-) -> Seen
+) -> Matchable
     requires { ⌜ Known (now d) (now p) (now book) (now held) (now sets) × (k < entries (now book)) ⌝ }
-    ensures { λ r. ⌜ ((σ : Setting) (es : List Stored) → World σ es (now (d .entry)) (now (p .entry)) (now (book .entry)) (now (held .entry)) (now (sets .entry)) → SeenAt σ es (now (d .entry)) (now (book .entry)) (now (held .entry)) k asked (r .types) (r .values)) ⌝ }
+    ensures { λ r. ⌜ ((σ : Setting) (es : List Stored) → World σ es (now (d .entry)) (now (p .entry)) (now (book .entry)) (now (held .entry)) (now (sets .entry)) → MatchableAt σ es (now (d .entry)) (now (book .entry)) (now (held .entry)) k asked (r .types) (r .values)) ⌝ }
 {
-    Seen {
-        types: seen_types(sets, book[TYPES] as usize, k + 1, asked),
-        values: seen_values(book, held, sets, d, p, k, asked),
+    Matchable {
+        types: matchable_types(sets, book[TYPES] as usize, k + 1, asked),
+        values: matchable_values(book, held, sets, d, p, k, asked),
     }
 }

@@ -22,14 +22,14 @@ abbrev pub valueSeen : Setting → List Stored → Bytes → List ℕ → List �
 valueSeen σ es d book held e asked i = bit asked (rankAt held i) && grantedAt σ es e (ofValue (typeAt (schema book) (rankAt held i)) (bytesAt d held i)) FilterMatch
 
 -- the bits of the first `n` types: FilterMatch on each in entry number `e`, if it is asked about
-pub record SeenTypes (σ : Setting) (es : List Stored) (book : List ℕ) (e asked n x : ℕ) : Type 0 where
+pub record MatchableTypes (σ : Setting) (es : List Stored) (book : List ℕ) (e asked n x : ℕ) : Type 0 where
   pub type : (r : ℕ) → r < n → bit x r ≡ (bit asked r && grantedAt σ es e (ofType (typeAt (schema book) r)) FilterMatch)
 
 -- the bits of the values in the rows before `end` of the entry of index `k`
-pub record SeenValues (σ : Setting) (es : List Stored) (d : Bytes) (book held : List ℕ) (k asked end : ℕ) (values : List ℕ) : Type 0 where
+pub record MatchableValues (σ : Setting) (es : List Stored) (d : Bytes) (book held : List ℕ) (k asked end : ℕ) (values : List ℕ) : Type 0 where
   pub value : (i : ℕ) → firstAt book k ≤ i → i < end → bitAt values (i - firstAt book k) ≡ valueSeen σ es d book held (suc k) asked i
 
 -- the bits of all types and of all values of the entry of index `k`
-pub record SeenAt (σ : Setting) (es : List Stored) (d : Bytes) (book held : List ℕ) (k asked types : ℕ) (values : List ℕ) : Type 0 where
-  pub types-seen : SeenTypes σ es book (suc k) asked (length (schema book)) types
-  pub values-seen : SeenValues σ es d book held k asked (firstAt book (suc k)) values
+pub record MatchableAt (σ : Setting) (es : List Stored) (d : Bytes) (book held : List ℕ) (k asked types : ℕ) (values : List ℕ) : Type 0 where
+  pub types-matchable : MatchableTypes σ es book (suc k) asked (length (schema book)) types
+  pub values-matchable : MatchableValues σ es d book held k asked (firstAt book (suc k)) values

@@ -12,8 +12,8 @@ use Rattle.tables.specs.Held.{rankAt, bytesAt, typeAt}
 use Rattle.tables.specs.Sets.{grantedAt}
 use Rattle.tables.specs.Laws.World.{rows-within, rank-within, bytes-within}
 use borrow.Author.Needs.{needs}
-use Rattle.filter_item.proofs.seen.value_seen.Statement.{statement}
-use Rattle.filter_item.proofs.seen.value_seen.Tie as tie
+use Rattle.filter_item.proofs.matchable.value_matchable.Statement.{statement}
+use Rattle.filter_item.proofs.matchable.value_matchable.Tie as tie
 
 mul-rank : tie.Need-mul-rank
 mul-rank c = let P = c .before .before .pre in omega (arith, P .3, rows-within (P .0 .2 .entries) (c .before .before .args .k) (P .1) .1)
@@ -54,7 +54,7 @@ returns-2 c =
     let t = typeAt (schema (now (A .book))) (rankAt (now (A .held)) (A .i)) in
     λ σ es w. ap (λ (b : Bool). b && grantedAt σ es (suc (A .k)) (ofValue t (bytesAt (now (A .d)) (now (A .held)) (A .i))) FilterMatch) (sym (c .if1 .left) ∙ c .before .in-word .ensures)
 
-pub value-seen-spec : {M : Type 1} → statement M
-value-seen-spec =
+pub value-matchable-spec : {M : Type 1} → statement M
+value-matchable-spec =
     tie.close
     (tie.spec mul-rank element-copy-out-rank in-word-requires (λ c. search needs) bytes-requires may-value-requires returns returns-2)

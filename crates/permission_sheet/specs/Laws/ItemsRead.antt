@@ -15,7 +15,7 @@ use Rattle.rules.specs.Judge.{Verdict, accept, refuse, refusalOf}
 use Rattle.rules.specs.Permission.{Item, permissionGrammar, item, items, permissionsOf}
 use Rattle.rules.specs.Places.{linesAt, partsOf, schemaOf}
 use Rattle.rules.specs.Laws.Judge.{refused-not, accepted-is}
-use Rattle.permission_sheet.specs.Noted.{PermissionsJudged, PermissionsNoted, Row, blank, refused}
+use Rattle.permission_sheet.specs.Noted.{PermissionsJudged, PermissionsNoted, ItemRow, blank, refused}
 use Rattle.rules.specs.Columns.{permissionForms}
 use Rattle.sheet_due.specs.Lines.{seenAt, misplacedBy, noLine}
 use Rattle.sheet_due.specs.Laws.Lines.{after, misplaced-at, misplaced-some}
@@ -25,22 +25,22 @@ use Rattle.permission_sheet.specs.Rows.{rightsRow, scopesRow, putAt}
 use Rattle.permission_sheet.specs.Laws.End.{not-at-end, at-end}
 use Rattle.permission_sheet.specs.Laws.Rows.{filled, filled-none, filled-length, filled-rest, filled-more, filled-at}
 use Rattle.permission_sheet.specs.Laws.ItemRows.{rights-long, scopes-long, row-is}
-use Rattle.permission_item.specs.declared.Lines.{Lines}
+use Rattle.permission_item.specs.declared.ItemLines.{ItemLines}
 use Rattle.permission_sheet.specs.declared.NotedItems.{NotedItems}
 
-abbrev rightsOf : Bytes → List Lines → List ℕ
+abbrev rightsOf : Bytes → List ItemLines → List ℕ
 rightsOf p its = filled (rightsRow p) 8 (rights-long p) 256 its
 
-abbrev scopesOf : List Lines → List ℕ
+abbrev scopesOf : List ItemLines → List ℕ
 scopesOf its = filled scopesRow 7 scopes-long 256 its
 
 -- no lines
-abbrev none : Lines
+abbrev none : ItemLines
 none = record { refusal = 0; head = noLine; base = noLine; user = noLine; target = noLine; mask = noLine }
 
 -- `count` items before the position `at`, noted in the two arrays
-pub record Reading (f : Format) (p : Bytes) (S : Schema) (count at : ℕ) (rights scopes : List ℕ) : Type 0 where
-  pub its : List Lines
+pub record ItemsRead (f : Format) (p : Bytes) (S : Schema) (count at : ℕ) (rights scopes : List ℕ) : Type 0 where
+  pub its : List ItemLines
   pub counted : count ≡ length its
   pub few : length its ≤ 256
   pub within : at ≤ length p
@@ -58,7 +58,7 @@ each-more P d xs x h e k l = go (decLt k (length xs))
     go (yes q) = subst P (sym (List·getD-append xs (x ∷ []) d k q)) (h k q)
     go (no q) = subst P (sym (getD-at xs x [] d k (omega (arith, length-append xs (x ∷ []))))) e
 
-pub reading-start : (f : Format) (p : Bytes) (S : Schema) → Reading f p S 0 0 (replicate 2048 0) (replicate 1792 0)
+pub reading-start : (f : Format) (p : Bytes) (S : Schema) → ItemsRead f p S 0 0 (replicate 2048 0) (replicate 1792 0)
 reading-start f p S = record {
   its = [];
   counted = refl;
@@ -71,12 +71,12 @@ reading-start f p S = record {
 }
 
 -- one item more was read, `i`: there are bytes for it, and room
-pub record Ahead (f : Format) (p : Bytes) (S : Schema) (count at : ℕ) (i : Lines) : Type 0 where
+pub record Ahead (f : Format) (p : Bytes) (S : Schema) (count at : ℕ) (i : ItemLines) : Type 0 where
   pub inside : at < length p
   pub room : count < 256
   pub is : i ≡ itemLines f p S at
 
-module _ {f : Format} {p : Bytes} {S : Schema} {count at : ℕ} {rights scopes : List ℕ} (s : Reading f p S count at rights scopes) where
+module _ {f : Format} {p : Bytes} {S : Schema} {count at : ℕ} {rights scopes : List ℕ} (s : ItemsRead f p S count at rights scopes) where
   abbrev w : ℕ
   w = f .width
 
@@ -86,7 +86,7 @@ module _ {f : Format} {p : Bytes} {S : Schema} {count at : ℕ} {rights scopes :
     ap length (s .scopes-are) ∙ filled-length scopesRow 7 scopes-long 256 (s .its) (s .few),
   )
 
-  module _ {i : Lines} (n : Ahead f p S count at i) where
+  module _ {i : ItemLines} (n : Ahead f p S count at i) where
     -- the items from here, where one more may follow
     items-on : items (f .top) S (256 - length (s .its)) (map (itemOf w p) (s .its)) (linesAt w p at)
         ≡ item (f .top) S (linesAt w p at) (λ i rest. items (f .top) S (256 - (length (s .its) + 1)) (map (itemOf w p) (s .its) ++ (i ∷ [])) rest)
@@ -119,7 +119,7 @@ module _ {f : Format} {p : Bytes} {S : Schema} {count at : ℕ} {rights scopes :
 
       -- one item more
       pub reading-on : {rights′ scopes′ : List ℕ} → rights′ ≡ putAt rights (count * 8) (rightsRow p i) → scopes′ ≡ putAt scopes (count * 7) (scopesRow i)
-          → Reading f p S (count + 1) (i .mask .next) rights′ scopes′
+          → ItemsRead f p S (count + 1) (i .mask .next) rights′ scopes′
       reading-on er es =
           let l : length (s .its ++ (i ∷ [])) ≡ length (s .its) + 1 = length-append (s .its) (i ∷ []) in
           record {
@@ -153,7 +153,7 @@ module _ {f : Format} {p : Bytes} {S : Schema} {count at : ℕ} {rights scopes :
   unfolding itemOf partsOf
   item-at k = List·getD-map (itemOf w p) (s .its) k none
 
-  reading-rows : (k : ℕ) → k < length (s .its) → Row w p (itemOf w p (getD (s .its) k none)) (λ j. getD rights (k * 8 + j) 0) (λ j. getD scopes (k * 7 + j) 0)
+  reading-rows : (k : ℕ) → k < length (s .its) → ItemRow w p (itemOf w p (getD (s .its) k none)) (λ j. getD rights (k * 8 + j) 0) (λ j. getD scopes (k * 7 + j) 0)
   reading-rows k l =
       row-is f p (getD (s .its) k none) (s .took k l) (λ j. getD rights (k * 8 + j) 0) (λ j. getD scopes (k * 7 + j) 0)
       (λ j h. rw (s .rights-are) (filled-at (rightsRow p) 8 (rights-long p) 256 none (s .its) k j l h))
@@ -209,7 +209,7 @@ module _ (f : Format) (p : Bytes) (schema : List ℕ) where
     unfolding permissionsOf
     by-items e = rw (le-ltb 65536 (length p) h) e
 
-    module _ {count at : ℕ} {rights scopes : List ℕ} (s : Reading f p (schemaOf schema) count at rights scopes) where
+    module _ {count at : ℕ} {rights scopes : List ℕ} (s : ItemsRead f p (schemaOf schema) count at rights scopes) where
       -- at the sheet's end
       pub judged-end : length p ≤ at → PermissionsJudged f p schema (record { refusal = 0; count = count; rights = rights; scopes = scopes })
       judged-end l = judged-accepted (by-items (items-end s l)) (reading-noted s)
@@ -219,5 +219,5 @@ module _ (f : Format) (p : Bytes) (schema : List ℕ) where
       judged-over g l e = rw e (judged-refused (by-items (items-over s g l)) (misplaced-some 10 (seenAt (permissionForms (f .top)) (f .width) p at)))
 
       -- at an item that is refused
-      pub judged-item : {i : Lines} → Ahead f p (schemaOf schema) count at i → (i .refusal ≡ 0 → ⊥) → PermissionsJudged f p schema (refused (i .refusal))
+      pub judged-item : {i : ItemLines} → Ahead f p (schemaOf schema) count at i → (i .refusal ≡ 0 → ⊥) → PermissionsJudged f p schema (refused (i .refusal))
       judged-item n z = judged-refused (by-items (item-refused s n z)) z

@@ -6,7 +6,7 @@ use Rattle.rules.specs.Judge.{Grammar}
 use Rattle.sheet_due.specs.Lines.{dueAt, groupAt}
 use Rattle.sheet_due.specs.declared.Reached.{Reached}
 use Rattle.sheet_reader.specs.declared.Reader.{Reader}
-use Rattle.sheet_reader.specs.declared.Reading.{Reading}
+use Rattle.sheet_reader.specs.declared.Advance.{Advance}
 
 -- a reader of the sheet `s`, at the position `at`
 abbrev pub readerAt : RefT (List ℕ) → ℕ → Reader
@@ -18,13 +18,13 @@ fromReader r n = record { refusal = n; next = r .at }
 
 module _ (G : Grammar) (w : ℕ) (r : Reader) (n : ℕ) where
   -- the line of kind `k` that is due, and the reader after it
-  abbrev pub dueReading : ℕ → Reading
-  dueReading k =
+  abbrev pub dueAdvance : ℕ → Advance
+  dueAdvance k =
       let d = dueAt G w (now (r .sheet)) (fromReader r n) k in
       record { refusal = d .refusal; line = d .line; rest = readerAt (r .sheet) (d .line .next) }
 
   -- a line of kind `k` and the lines of kind `j` that it counts, and the reader after them
-  abbrev pub groupReading : ℕ → ℕ → Reading
-  groupReading k j =
+  abbrev pub groupAdvance : ℕ → ℕ → Advance
+  groupAdvance k j =
       let g = groupAt G w (now (r .sheet)) (fromReader r n) k j in
       record { refusal = g .refusal; line = g .line; rest = readerAt (r .sheet) (g .next) }

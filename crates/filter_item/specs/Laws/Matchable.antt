@@ -1,4 +1,4 @@
--- Laws of `Seen`: one type more, one value more; and what the rows of an entry are known to be.
+-- Laws of `Matchable`: one type more, one value more; and what the rows of an entry are known to be.
 use Prim.Native.Nat.{ℕ, zero, suc, _+_, _-_, _/_, _%_, _^_, _≤_, _<_}
 use mathlib.Core.Path.{_≡_, refl, sym, ap, _∙_, subst}
 use mathlib.Core.Bool.{Bool, false, _&&_, cond}
@@ -14,14 +14,14 @@ use Rattle.rules.specs.Permission.{FilterMatch}
 use Rattle.rules.specs.Decision.{Setting, ofType}
 use Rattle.access_set.specs.Member.{bit}
 use Rattle.access_set.specs.Laws.Bit.{bit-none}
-use Rattle.tables.specs.Book.{Fits, types, entries, schema, firstAt}
+use Rattle.tables.specs.Book.{BookFits, types, entries, schema, firstAt}
 use Rattle.tables.specs.Held.{typeAt}
 use Rattle.tables.specs.Sets.{grantedAt}
 use Rattle.tables.specs.World.{Entries}
 use Rattle.tables.specs.Laws.Book.{schema-length, end-is}
 use Rattle.tables.specs.Laws.World.{rows-within, bytes-within}
-use Rattle.filter_item.specs.Seen.{bitAt, valueSeen, SeenTypes, SeenValues}
-use Rattle.filter_item.specs.Rows.{Within}
+use Rattle.filter_item.specs.Matchable.{bitAt, valueSeen, MatchableTypes, MatchableValues}
+use Rattle.filter_item.specs.Rows.{RowsWithin}
 use Rattle.filter_item.specs.Laws.Bits.{word-other, word-here, bits-other, bits-here}
 
 -- ---- types
@@ -40,7 +40,7 @@ module _ (x y : ℕ) (b : Bool) (r : ℕ) (small : r < 64) (e : y ≡ cond b (2 
   pub clear-on : Clear x r → Clear (bitOr x y) (r + 1)
   clear-on h j l = word-other x y b r one j (λ z. omega arith) ∙ h j (omega arith)
 
-  pub types-on : (σ : Setting) (es : List Stored) (book : List ℕ) (n asked : ℕ) → Clear x r → b ≡ (bit asked r && grantedAt σ es n (ofType (typeAt (schema book) r)) FilterMatch) → SeenTypes σ es book n asked r x → SeenTypes σ es book n asked (r + 1) (bitOr x y)
+  pub types-on : (σ : Setting) (es : List Stored) (book : List ℕ) (n asked : ℕ) → Clear x r → b ≡ (bit asked r && grantedAt σ es n (ofType (typeAt (schema book) r)) FilterMatch) → MatchableTypes σ es book n asked r x → MatchableTypes σ es book n asked (r + 1) (bitOr x y)
   types-on σ es book n asked h g s = record { type = λ j l. go j l (decLt j r) }
     where
       go : (j : ℕ) → j < r + 1 → Dec (j < r) → bit (bitOr x y) j ≡ (bit asked j && grantedAt σ es n (ofType (typeAt (schema book) j)) FilterMatch)
@@ -49,12 +49,12 @@ module _ (x y : ℕ) (b : Bool) (r : ℕ) (small : r < 64) (e : y ≡ cond b (2 
           let z : r ≡ j = omega arith in
           subst (λ (i : ℕ). bit (bitOr x y) i ≡ (bit asked i && grantedAt σ es n (ofType (typeAt (schema book) i)) FilterMatch)) z (word-here x y b r one (h r (omega arith)) ∙ g)
 
-pub types-none : (σ : Setting) (es : List Stored) (book : List ℕ) (n asked : ℕ) → SeenTypes σ es book n asked 0 0
+pub types-none : (σ : Setting) (es : List Stored) (book : List ℕ) (n asked : ℕ) → MatchableTypes σ es book n asked 0 0
 types-none σ es book n asked = record { type = λ j l. absurd (omega arith) }
 
 -- all types of the schema, as code counts them
-pub types-full : (σ : Setting) (es : List Stored) (book : List ℕ) (k asked x : ℕ) → Fits book → SeenTypes σ es book (k + 1) asked (types book) x → SeenTypes σ es book (suc k) asked (length (schema book)) x
-types-full σ es book k asked x f s = subst (λ (n : ℕ). SeenTypes σ es book n asked (length (schema book)) x) (add-one k) (subst (λ (n : ℕ). SeenTypes σ es book (k + 1) asked n x) (sym (schema-length f)) s)
+pub types-full : (σ : Setting) (es : List Stored) (book : List ℕ) (k asked x : ℕ) → BookFits book → MatchableTypes σ es book (k + 1) asked (types book) x → MatchableTypes σ es book (suc k) asked (length (schema book)) x
+types-full σ es book k asked x f s = subst (λ (n : ℕ). MatchableTypes σ es book n asked (length (schema book)) x) (add-one k) (subst (λ (n : ℕ). MatchableTypes σ es book (k + 1) asked n x) (sym (schema-length f)) s)
 
 -- ---- values
 
@@ -79,7 +79,7 @@ module _ (words : List ℕ) (first i y : ℕ) (b : Bool) (e : y ≡ cond b (2 ^ 
   blank-on h j l = bits-other words (i - first) y b e room j (λ z. omega arith) ∙ h j (omega arith)
 
   pub values-on : (σ : Setting) (es : List Stored) (d : Bytes) (book held : List ℕ) (k asked : ℕ) → firstAt book k ≡ first → Blank words (i - first) → b ≡ valueSeen σ es d book held (suc k) asked i
-      → SeenValues σ es d book held k asked i words → SeenValues σ es d book held k asked (i + 1) (set words ((i - first) / 64) (bitOr (getD words ((i - first) / 64) 0) y))
+      → MatchableValues σ es d book held k asked i words → MatchableValues σ es d book held k asked (i + 1) (set words ((i - first) / 64) (bitOr (getD words ((i - first) / 64) 0) y))
   values-on σ es d book held k asked f h g s = record { value = λ j m l. go j m l (decLt j i) }
     where
       go : (j : ℕ) → firstAt book k ≤ j → j < i + 1 → Dec (j < i) → bitAt more (j - firstAt book k) ≡ valueSeen σ es d book held (suc k) asked j
@@ -89,15 +89,15 @@ module _ (words : List ℕ) (first i y : ℕ) (b : Bool) (e : y ≡ cond b (2 ^ 
           let a : j - firstAt book k ≡ i - first = omega arith in
           ap (bitAt more) a ∙ bits-here words (i - first) y b e room (h (i - first) (omega arith)) ∙ g ∙ ap (valueSeen σ es d book held (suc k) asked) z
 
-pub values-none : (σ : Setting) (es : List Stored) (d : Bytes) (book held : List ℕ) (k asked first : ℕ) (words : List ℕ) → firstAt book k ≡ first → SeenValues σ es d book held k asked first words
+pub values-none : (σ : Setting) (es : List Stored) (d : Bytes) (book held : List ℕ) (k asked first : ℕ) (words : List ℕ) → firstAt book k ≡ first → MatchableValues σ es d book held k asked first words
 values-none σ es d book held k asked first words f = record { value = λ j m l. absurd (omega arith) }
 
-pub values-until : (σ : Setting) (es : List Stored) (d : Bytes) (book held : List ℕ) (k asked i end : ℕ) (words : List ℕ) → end ≤ i → SeenValues σ es d book held k asked i words → SeenValues σ es d book held k asked end words
+pub values-until : (σ : Setting) (es : List Stored) (d : Bytes) (book held : List ℕ) (k asked i end : ℕ) (words : List ℕ) → end ≤ i → MatchableValues σ es d book held k asked i words → MatchableValues σ es d book held k asked end words
 values-until σ es d book held k asked i end words l s = record { value = λ j m n. s .value j m (omega arith) }
 
 -- ---- the rows of an entry
 
 -- the rows as code takes them
 pub values-within : {σ : Setting} {es : List Stored} {d : Bytes} {book held : List ℕ} → Entries σ es d book held → (k : ℕ) → k < entries book
-    → Within d held (firstAt book k) (getD book (1097 + k) 0)
+    → RowsWithin d held (firstAt book k) (getD book (1097 + k) 0)
 values-within {book = book} E k l = rw (end-is book k) record { room = rows-within E k l .1; part = λ i from to. bytes-within E k l i from to }
