@@ -17,16 +17,16 @@ use tables::sets::row;
 ghost use mathlib.Core.Path.{_≡_};
 ghost use mathlib.Core.Bool.{_&&_, _||_};
 ghost use mathlib.Core.List.{List};
-ghost use Prim.Native.Nat.{ℕ, _+_, _^_, _≤_, _<_};
+ghost use Prim.Native.Nat.{ℕ, suc, _+_, _^_, _≤_, _<_};
 ghost use lib.ListN.{length};
 ghost use Rattle.rules.specs.Sheet.{Bytes};
 ghost use Rattle.rules.specs.Directory.{Stored};
 ghost use Rattle.rules.specs.Decision.{Setting, entry, ofType, ofValue};
 ghost use Rattle.access_set.specs.Member.{member};
-ghost use Rattle.tables.specs.Book.{types, schema};
+ghost use Rattle.tables.specs.Book.{types, entries, schema};
 ghost use Rattle.tables.specs.Held.{typeAt};
 ghost use Rattle.tables.specs.Sets.{inRow, grantedAt};
-ghost use Rattle.tables.specs.World.{World, Known};
+ghost use Rattle.tables.specs.World.{World, Known, KnownEntry, KnownTypes};
 ghost use Rattle.access_may.specs.Decided.{Decided};
 
 // Rows by what an item is about.
@@ -62,7 +62,7 @@ fn decided(sets: &[u64; SETS], asked: Bits) -> bool
 
 // Is the permission granted on entry number `e`?
 pub fn may_entry(sets: &[u64; SETS], e: usize, q: usize) -> bool
-    requires { ⌜ (e ≤ 256) × (q < 6) × ((d p : Bytes) × (book held : List ℕ) × Known d p book held (now sets)) ⌝ }
+    requires { ⌜ (q < 6) × KnownEntry (now sets) e ⌝ }
     ensures { λ r. ⌜ ((σ : Setting) (es : List Stored) (d p : Bytes) (book held : List ℕ) → World σ es d p book held (now (sets .entry)) → e ≤ length es → r ≡ grantedAt σ es e entry (2 ^ q)) ⌝ }
 {
     decided(sets, naming(sets, e, q).and(row(sets, ENTRY)))
@@ -79,7 +79,7 @@ fn about_type(sets: &[u64; SETS], rank: usize) -> Bits
 
 // Is the permission granted on the type of this rank in entry number `e`, held or not?
 pub fn may_type(sets: &[u64; SETS], e: usize, rank: usize, q: usize) -> bool
-    requires { ⌜ (e ≤ 256) × (rank < 64) × (q < 6) × ((d p : Bytes) × (book held : List ℕ) × Known d p book held (now sets)) ⌝ }
+    requires { ⌜ (q < 6) × KnownTypes (now sets) e (suc rank) ⌝ }
     ensures { λ r. ⌜ ((σ : Setting) (es : List Stored) (d p : Bytes) (book held : List ℕ) → World σ es d p book held (now (sets .entry)) → e ≤ length es → rank < length (schema book) → r ≡ grantedAt σ es e (ofType (typeAt (schema book) rank)) (2 ^ q)) ⌝ }
 {
     decided(sets, naming(sets, e, q).and(about_type(sets, rank)))
@@ -112,8 +112,8 @@ pub fn may_value(
     v: &[u8],
     q: usize,
 ) -> bool
-    requires { ⌜ (e ≤ 256) × (rank < types (now book)) × (q < 6) × ((d : Bytes) × (held : List ℕ) × Known d (now p) (now book) held (now sets)) ⌝ }
-    ensures { λ r. ⌜ ((σ : Setting) (es : List Stored) (d : Bytes) (held : List ℕ) → World σ es d (now (p .entry)) (now (book .entry)) held (now (sets .entry)) → e ≤ length es → r ≡ grantedAt σ es e (ofValue (typeAt (schema (now (book .entry))) rank) (now (v .entry))) (2 ^ q)) ⌝ }
+    requires { ⌜ (e ≤ entries (now book)) × (rank < types (now book)) × (q < 6) × ((d : Bytes) × (held : List ℕ) × Known d (now p) (now book) held (now sets)) ⌝ }
+    ensures { λ r. ⌜ ((σ : Setting) (es : List Stored) (d : Bytes) (held : List ℕ) → World σ es d (now (p .entry)) (now (book .entry)) held (now (sets .entry)) → r ≡ grantedAt σ es e (ofValue (typeAt (schema (now (book .entry))) rank) (now (v .entry))) (2 ^ q)) ⌝ }
 {
     let asked = naming(sets, e, q);
     let all = about_all(sets, asked, rank);

@@ -27,3 +27,7 @@ pub record Selects (w : ℕ) (q : Bytes) (s : Selection) (r : Asked) : Type 0 wh
   pub count : length (s .types) ≡ r .«types_listed»
   pub few : r .«types_listed» ≤ 16
   pub values : s .values ≡ r .values
+
+-- some selection is noted
+abbrev pub KnownSelection : ℕ → Bytes → Asked → Type 0
+KnownSelection w q r = (s : Selection) × Selects w q s r

@@ -16,7 +16,7 @@ ghost use Rattle.access_set.specs.Member.{bit};
 ghost use Rattle.tables.specs.Book.{BookFits, width, schema};
 ghost use Rattle.tables.specs.Held.{typeAt, Distinct};
 ghost use Rattle.answer_plan.specs.Choice.{Chooses};
-ghost use Rattle.answer_choice.specs.Selected.{Selects};
+ghost use Rattle.answer_choice.specs.Selected.{Selects, KnownSelection};
 
 // All ranks.
 const ALL: u64 = 18446744073709551615;
@@ -63,7 +63,7 @@ fn ranks_listed(book: &[u64; BOOK], q: &[u8], i: usize, n: usize) -> u64
 
 // What the request selects.
 pub fn choice_of(book: &[u64; BOOK], q: &[u8], asked: Asked) -> Choice
-    requires { ⌜ BookFits (now book) × Distinct (schema (now book)) ⌝ }
+    requires { ⌜ BookFits (now book) × Distinct (schema (now book)) × KnownSelection (width (now book)) (now q) asked ⌝ }
     ensures { λ r. ⌜ ((s : Selection) → Selects (width (now (book .entry))) (now (q .entry)) s asked → Chooses (schema (now (book .entry))) s r) ⌝ }
 {
     if asked.listed {

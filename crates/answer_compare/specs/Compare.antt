@@ -20,6 +20,13 @@ compareOutcome σ t v e =
     (cond (holds e t) (cond (allowed (σ .schema) t v) Result InvalidAttributeSyntax) NoSuchAttributeOrValue)
     (cond (holds e t && granted σ (e .name) (ofType t) DiscloseOnError) InsufficientAccessRights NoSuchAttributeOrValue)
 
+-- the same of an entry named `n` that holds the type
+unfoldable pub heldOutcome : Setting → ℕ → Bytes → Name → Outcome
+heldOutcome σ t v n =
+    cond (granted σ n (ofType t) Compare)
+    (cond (allowed (σ .schema) t v) Result InvalidAttributeSyntax)
+    (cond (granted σ n (ofType t) DiscloseOnError) InsufficientAccessRights NoSuchAttributeOrValue)
+
 -- a value of the type `t`, with Compare granted, equal to `v`
 unfoldable pub counts : Setting → Name → ℕ → Bytes → Part → Bool
 counts σ n t v u = eqb (u .type) t && (granted σ n (ofValue (u .type) (u .value)) Compare && equal (σ .schema) t v (u .value))

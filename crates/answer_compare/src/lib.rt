@@ -22,7 +22,6 @@ use tables::sets::DISCLOSE_ON_ERROR;
 use tables::sets::READ;
 use tables::sets::SETS;
 ghost use mathlib.Core.Path.{_≡_};
-ghost use mathlib.Core.Bool.{true};
 ghost use mathlib.Core.List.{List, map};
 ghost use Prim.Native.Nat.{ℕ, suc, _+_, _≤_, _<_};
 ghost use lib.Dec.{ltb};
@@ -42,8 +41,8 @@ ghost use Rattle.tables.specs.Book.{types, entries, schema, firstAt};
 ghost use Rattle.tables.specs.Held.{rankAt, bytesAt, typeAt};
 ghost use Rattle.tables.specs.World.{World, Known};
 ghost use Rattle.answer_plan.specs.Plan.{planned};
-ghost use Rattle.answer_plan.specs.Sound.{Base, Numbered, SoundPlan};
-ghost use Rattle.answer_compare.specs.Compare.{counts, compareOutcome, comparePlan};
+ghost use Rattle.answer_plan.specs.Sound.{Base, KnownBase, SoundPlan};
+ghost use Rattle.answer_compare.specs.Compare.{counts, heldOutcome, comparePlan};
 
 // The first row of the type `t` among the values of the entry of index `k`; the row after the last if it does not hold the type.
 fn row_of(book: &[u64; BOOK], held: &[u64; HELD], k: usize, t: u64) -> usize
@@ -65,7 +64,7 @@ fn row_of(book: &[u64; BOOK], held: &[u64; HELD], k: usize, t: u64) -> usize
 // The outcome for an open entry, that of index `k`, which holds the type of this rank; Compare on the type is asked first.
 fn outcome_of(book: &[u64; BOOK], sets: &[u64; SETS], k: usize, rank: usize, v: &[u8]) -> Outcome
     requires { ⌜ ((d p : Bytes) × (held : List ℕ) × Known d p (now book) held (now sets)) × (k < entries (now book)) × (rank < types (now book)) ⌝ }
-    ensures { λ r. ⌜ ((σ : Setting) (es : List Stored) (d p : Bytes) (held : List ℕ) → World σ es d p (now (book .entry)) held (now (sets .entry)) → holds (entryOf (getD es k blank)) (typeAt (schema (now (book .entry))) rank) ≡ true → r ≡ compareOutcome σ (typeAt (schema (now (book .entry))) rank) (now (v .entry)) (entryOf (getD es k blank))) ⌝ }
+    ensures { λ r. ⌜ ((σ : Setting) (es : List Stored) (d p : Bytes) (held : List ℕ) → World σ es d p (now (book .entry)) held (now (sets .entry)) → r ≡ heldOutcome σ (typeAt (schema (now (book .entry))) rank) (now (v .entry)) (getD es k blank .name)) ⌝ }
 {
     if may_type(sets, k + 1, rank, COMPARE) {
         if value_syntax::fits(book[SCHEMA + rank] % 4, v) {
@@ -193,8 +192,8 @@ fn compare_entry(
     b: usize,
     missing: usize,
 ) -> Plan
-    requires { ⌜ Known (now d) (now p) (now book) (now held) (now sets) × (b ≤ entries (now book)) × (missing ≤ entries (now book)) ⌝ }
-    ensures { λ r. ⌜ ((hits : List ℕ) → SoundPlan (entries (now (book .entry))) r hits) × ((σ : Setting) (es : List Stored) (n : Name) (base : Found) (s : Selection) (hits : List ℕ) → World σ es (now (d .entry)) (now (p .entry)) (now (book .entry)) (now (held .entry)) (now (sets .entry)) → Base σ es n base missing → base ≡ At b → planned σ es s r hits ≡ Answer.answer σ (map entryOf es) n (Request.compare t (now (v .entry)))) ⌝ }
+    requires { ⌜ KnownBase (now d) (now p) (now book) (now held) (now sets) (At b) missing ⌝ }
+    ensures { λ r. ⌜ ((hits : List ℕ) → SoundPlan (entries (now (book .entry))) r hits) × ((σ : Setting) (es : List Stored) (n : Name) (s : Selection) (hits : List ℕ) → World σ es (now (d .entry)) (now (p .entry)) (now (book .entry)) (now (held .entry)) (now (sets .entry)) → Base σ es n (At b) missing → planned σ es s r hits ≡ Answer.answer σ (map entryOf es) n (Request.compare t (now (v .entry)))) ⌝ }
 {
     let opened = opening(sets, b, READ);
     if !is_result(opened) {
@@ -217,7 +216,7 @@ pub fn compare(
     v: &[u8],
     target: Target,
 ) -> Plan
-    requires { ⌜ Known (now d) (now p) (now book) (now held) (now sets) × Numbered (entries (now book)) (target .base) (target .missing) ⌝ }
+    requires { ⌜ KnownBase (now d) (now p) (now book) (now held) (now sets) (target .base) (target .missing) ⌝ }
     ensures { λ r. ⌜ ((hits : List ℕ) → SoundPlan (entries (now (book .entry))) r hits) × ((σ : Setting) (es : List Stored) (n : Name) (s : Selection) (hits : List ℕ) → World σ es (now (d .entry)) (now (p .entry)) (now (book .entry)) (now (held .entry)) (now (sets .entry)) → Base σ es n (target .base) (target .missing) → planned σ es s r hits ≡ Answer.answer σ (map entryOf es) n (Request.compare t (now (v .entry)))) ⌝ }
 {
     let base = target.base;

@@ -18,7 +18,7 @@ ghost use lib.ListN.{length};
 ghost use Rattle.rules.specs.Sheet.{Bytes};
 ghost use Rattle.rules.specs.Directory.{Stored};
 ghost use Rattle.rules.specs.Decision.{Setting};
-ghost use Rattle.tables.specs.World.{World, Known};
+ghost use Rattle.tables.specs.World.{World, KnownEntry};
 ghost use Rattle.answer_entry.specs.Opening.{openingAt, withheldPlan};
 ghost use Rattle.answer_entry.specs.Returned.{browsableAt, returnableAt, successPlan, limitedPlan, returnedPlan};
 
@@ -30,7 +30,7 @@ pub struct Target {
 
 // The outcome of opening entry number `e` by permission `q`: a result with it, else insufficient access rights with DiscloseOnError, else no such object.
 pub fn opening(sets: &[u64; SETS], e: usize, q: usize) -> Outcome
-    requires { ⌜ (e ≤ 256) × (q < 6) × ((d p : Bytes) × (book held : List ℕ) × Known d p book held (now sets)) ⌝ }
+    requires { ⌜ (q < 6) × KnownEntry (now sets) e ⌝ }
     ensures { λ r. ⌜ ((σ : Setting) (es : List Stored) (d p : Bytes) (book held : List ℕ) → World σ es d p book held (now (sets .entry)) → e ≤ length es → r ≡ openingAt σ es e (2 ^ q)) ⌝ }
 {
     if may_entry(sets, e, q) {
@@ -54,7 +54,7 @@ pub fn withheld(operation: u64, outcome: Outcome, missing: usize) -> Plan
 
 // Browse, or for the base Browse or Read, on entry number `e`.
 fn browsable(sets: &[u64; SETS], e: usize, base: bool) -> bool
-    requires { ⌜ (e ≤ 256) × ((d p : Bytes) × (book held : List ℕ) × Known d p book held (now sets)) ⌝ }
+    requires { ⌜ KnownEntry (now sets) e ⌝ }
     ensures { λ r. ⌜ ((σ : Setting) (es : List Stored) (d p : Bytes) (book held : List ℕ) → World σ es d p book held (now (sets .entry)) → e ≤ length es → r ≡ browsableAt σ es e base) ⌝ }
 {
     if may_entry(sets, e, BROWSE) {
@@ -68,7 +68,7 @@ fn browsable(sets: &[u64; SETS], e: usize, base: bool) -> bool
 
 // May entry number `e` be returned? It has to be browsable, with ReturnDN.
 pub fn returnable(sets: &[u64; SETS], e: usize, base: bool) -> bool
-    requires { ⌜ (e ≤ 256) × ((d p : Bytes) × (book held : List ℕ) × Known d p book held (now sets)) ⌝ }
+    requires { ⌜ KnownEntry (now sets) e ⌝ }
     ensures { λ r. ⌜ ((σ : Setting) (es : List Stored) (d p : Bytes) (book held : List ℕ) → World σ es d p book held (now (sets .entry)) → e ≤ length es → r ≡ returnableAt σ es e base) ⌝ }
 {
     if browsable(sets, e, base) {

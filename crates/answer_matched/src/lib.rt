@@ -10,18 +10,17 @@ ghost use Prim.Native.Nat.{ℕ, _-_, _≤_};
 ghost use mathlib.Core.List.{List, map};
 ghost use lib.ListN.{length};
 ghost use Rattle.rules.specs.Sheet.{Bytes};
-ghost use Rattle.rules.specs.Name.{Name};
 ghost use Rattle.rules.specs.Directory.{Stored, nameAt, entryOf};
 ghost use Rattle.rules.specs.Decision.{Setting};
 ghost use Rattle.rules.specs.Answer.{matchedName};
 ghost use Rattle.rules.specs.Places.{linesAt, partsOf};
 ghost use Rattle.tables.specs.Book.{entries, width};
-ghost use Rattle.tables.specs.World.{World, Known};
+ghost use Rattle.tables.specs.World.{World, Known, KnownEntry};
 ghost use Rattle.answer_matched.specs.Matched.{lastOf};
 
 // The entry number `e` if DiscloseOnError is granted on it, else `last`.
 fn disclosed(sets: &[u64; SETS], e: usize, last: usize) -> usize
-    requires { ⌜ (e ≤ 256) × ((d p : Bytes) × (book held : List ℕ) × Known d p book held (now sets)) ⌝ }
+    requires { ⌜ KnownEntry (now sets) e ⌝ }
     ensures { λ r. ⌜ ((n : ℕ) → e ≤ n → last ≤ n → r ≤ n) × ((σ : Setting) (es : List Stored) (d p : Bytes) (book held : List ℕ) → World σ es d p book held (now (sets .entry)) → e ≤ length es → r ≡ lastOf σ es e last) ⌝ }
 {
     if may_entry(sets, e, DISCLOSE_ON_ERROR) {
@@ -39,8 +38,8 @@ pub fn matched(
     place: usize,
     parts: usize,
 ) -> usize
-    requires { ⌜ ((p : Bytes) × (held : List ℕ) × Known (now d) p (now book) held (now sets)) ⌝ }
-    ensures { λ r. ⌜ (r ≤ entries (now (book .entry))) × ((σ : Setting) (es : List Stored) (p : Bytes) (held : List ℕ) (n : Name) → World σ es (now (d .entry)) p (now (book .entry)) held (now (sets .entry)) → partsOf parts (linesAt (width (now (book .entry))) (now (q .entry)) place) ≡ n → length n ≡ parts → (r ≤ length es) × (nameAt es r ≡ matchedName σ (map entryOf es) n (parts - 1))) ⌝ }
+    requires { ⌜ ((p : Bytes) × (held : List ℕ) × Known (now d) p (now book) held (now sets)) × (length (partsOf parts (linesAt (width (now book)) (now q) place)) ≡ parts) ⌝ }
+    ensures { λ r. ⌜ (r ≤ entries (now (book .entry))) × ((σ : Setting) (es : List Stored) (p : Bytes) (held : List ℕ) → World σ es (now (d .entry)) p (now (book .entry)) held (now (sets .entry)) → nameAt es r ≡ matchedName σ (map entryOf es) (partsOf parts (linesAt (width (now (book .entry))) (now (q .entry)) place)) (parts - 1)) ⌝ }
 {
     if parts == 0 {
         return 0;

@@ -21,14 +21,14 @@ ghost use Rattle.rules.specs.Judge.{Grammar};
 ghost use Rattle.rules.specs.Request.{Request};
 ghost use Rattle.rules.specs.Answer.{answer};
 ghost use Rattle.request_sheet.specs.Noted.{RequestNoted};
-ghost use Rattle.tables.specs.Book.{width, entries, schema};
-ghost use Rattle.tables.specs.World.{World, Known};
-ghost use Rattle.answer_plan.specs.Choice.{Chooses};
+ghost use Rattle.tables.specs.Book.{width, entries};
+ghost use Rattle.tables.specs.World.{World};
 ghost use Rattle.answer_plan.specs.Plan.{planned};
-ghost use Rattle.answer_plan.specs.Sound.{Base, Numbered, SoundPlan};
+ghost use Rattle.answer_plan.specs.Sound.{SoundPlan};
 ghost use Rattle.answer_choice.specs.Selected.{selectionOf};
 ghost use Rattle.answer_entry.specs.Passing.{over};
 ghost use Rattle.answer_operation.specs.Hits.{foundBy};
+ghost use Rattle.answer_operation.specs.Posed.{Posed, KnownRequest};
 
 // The plan of the answer; the indices of the entries that list and search find are noted in `hits`.
 pub fn plan_of(
@@ -43,8 +43,8 @@ pub fn plan_of(
     choice: Choice,
     hits: &mut [usize; 256],
 ) -> Plan
-    requires { ⌜ Known (now d) (now p) (now book) (now held) (now sets) × Numbered (entries (now book)) (target .base) (target .missing) × (length (now hits) ≡ 256) × ((G : Grammar) × (x : Request) × RequestNoted G (width (now book)) (now q) x asked) ⌝ }
-    ensures { λ r. ⌜ SoundPlan (entries (now (book .entry))) r (now (hits .exit)) × ((σ : Setting) (es : List Stored) (G : Grammar) (x : Request) → World σ es (now (d .entry)) (now (p .entry)) (now (book .entry)) (now (held .entry)) (now (sets .entry)) → RequestNoted G (width (now (book .entry))) (now (q .entry)) x asked → Chooses (schema (now (book .entry))) (selectionOf (x .operation)) choice → Base σ es (x .base) (target .base) (target .missing) → planned σ es (selectionOf (x .operation)) r (now (hits .exit)) ≡ answer σ (map entryOf es) (x .base) (x .operation)) × ((σ : Setting) (es : List Stored) (G : Grammar) (x : Request) → World σ es (now (d .entry)) (now (p .entry)) (now (book .entry)) (now (held .entry)) (now (sets .entry)) → RequestNoted G (width (now (book .entry))) (now (q .entry)) x asked → now (hits .exit) ≡ over (foundBy σ es (target .base) (x .operation)) (now (hits .entry))) ⌝ }
+    requires { ⌜ KnownRequest (now d) (now p) (now q) (now book) (now held) (now sets) asked target choice × (length (now hits) ≡ 256) ⌝ }
+    ensures { λ r. ⌜ SoundPlan (entries (now (book .entry))) r (now (hits .exit)) × ((σ : Setting) (es : List Stored) (G : Grammar) (x : Request) → Posed σ es G x (now (d .entry)) (now (p .entry)) (now (q .entry)) (now (book .entry)) (now (held .entry)) (now (sets .entry)) asked target choice → planned σ es (selectionOf (x .operation)) r (now (hits .exit)) ≡ answer σ (map entryOf es) (x .base) (x .operation)) × ((σ : Setting) (es : List Stored) (G : Grammar) (x : Request) → World σ es (now (d .entry)) (now (p .entry)) (now (book .entry)) (now (held .entry)) (now (sets .entry)) → RequestNoted G (width (now (book .entry))) (now (q .entry)) x asked → now (hits .exit) ≡ over (foundBy σ es (target .base) (x .operation)) (now (hits .entry))) ⌝ }
 {
     if asked.operation == operation::READ {
         return read(book, held, sets, d, p, choice, target);

@@ -1,1 +1,3 @@
 pub mod Outcome
+pub mod Choice
+pub mod Sound

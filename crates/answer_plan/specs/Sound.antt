@@ -3,24 +3,25 @@ use Prim.Native.Nat.{ℕ, _-_, _≤_, _<_}
 use mathlib.Core.Path.{_≡_}
 use mathlib.Core.List.{List, map}
 use lib.ListN.{length, getD}
+use Rattle.rules.specs.Sheet.{Bytes}
 use Rattle.rules.specs.Name.{Name}
 use Rattle.rules.specs.Directory.{Stored, nameAt, entryOf}
 use Rattle.rules.specs.Decision.{Setting}
 use Rattle.rules.specs.Answer.{matchedName}
 use Rattle.rules.specs.Numbers.{walk}
 use Rattle.rules.specs.declared.Found.{Found}
-use Rattle.rules.specs.declared.Found.the-variants.{At}
+use Rattle.tables.specs.World.{World}
 use Rattle.answer_plan.specs.declared.Plan.{Plan}
 
--- the name asked for: the number that it is found at, and the number of the entry with the matched name
+-- the name asked for: the number that it is found at, and the number of the entry with the matched name, or the root's, 0
 pub record Base (σ : Setting) (es : List Stored) (n : Name) (base : Found) (missing : ℕ) : Type 0 where
   pub walked : walk (σ .schema) es 0 n ≡ base
   pub matched : nameAt es missing ≡ matchedName σ (map entryOf es) n (length n - 1)
+  pub within : missing ≤ length es
 
--- they are numbers of the `count` entries, or the root's, 0
-pub record Numbered (count : ℕ) (base : Found) (missing : ℕ) : Type 0 where
-  pub found : (b : ℕ) → base ≡ At b → b ≤ count
-  pub matched : missing ≤ count
+-- the tables stand for some world, and the numbers for some name asked for in it
+abbrev pub KnownBase : Bytes → Bytes → List ℕ → List ℕ → List ℕ → Found → ℕ → Type 0
+KnownBase d p book held sets base missing = (σ : Setting) × (es : List Stored) × (n : Name) × World σ es d p book held sets × Base σ es n base missing
 
 -- the numbers of a plan are numbers of the `count` entries
 pub record SoundPlan (count : ℕ) (r : Plan) (hs : List ℕ) : Type 0 where

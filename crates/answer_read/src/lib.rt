@@ -41,9 +41,9 @@ ghost use Rattle.rules.specs.declared.Found.the-variants.{At};
 ghost use Rattle.tables.specs.Book.{entries, schema, firstAt};
 ghost use Rattle.tables.specs.Held.{rankAt, bytesAt, typeAt};
 ghost use Rattle.tables.specs.World.{World, Known};
-ghost use Rattle.answer_plan.specs.Choice.{Chooses};
+ghost use Rattle.answer_plan.specs.Choice.{Chooses, KnownChoice, KnownChoiceAt};
 ghost use Rattle.answer_plan.specs.Plan.{planned};
-ghost use Rattle.answer_plan.specs.Sound.{Base, Numbered, SoundPlan};
+ghost use Rattle.answer_plan.specs.Sound.{Base, KnownBase, SoundPlan};
 ghost use Rattle.answer_read.specs.Read.{readable, disclosing, readOutcome, readPlan};
 
 // Is something returned for the value in row `i`, held by the entry of index `k`: is its type chosen, with Read, and, if values are wanted, has it Read itself?
@@ -57,7 +57,7 @@ fn readable_row(
     k: usize,
     i: usize,
 ) -> bool
-    requires { ⌜ Known (now d) (now p) (now book) (now held) (now sets) × (k < entries (now book)) × (firstAt (now book) k ≤ i) × (i < firstAt (now book) (suc k)) ⌝ }
+    requires { ⌜ Known (now d) (now p) (now book) (now held) (now sets) × (k < entries (now book)) × (firstAt (now book) k ≤ i) × (i < firstAt (now book) (suc k)) × KnownChoice (schema (now book)) choice ⌝ }
     ensures { λ r. ⌜ ((σ : Setting) (es : List Stored) (s : Selection) → World σ es (now (d .entry)) (now (p .entry)) (now (book .entry)) (now (held .entry)) (now (sets .entry)) → Chooses (schema (now (book .entry))) s choice → r ≡ readable σ s (getD es k blank .name) (part (typeAt (schema (now (book .entry))) (rankAt (now (held .entry)) i)) (bytesAt (now (d .entry)) (now (held .entry)) i))) ⌝ }
 {
     let rank = held[i] as usize;
@@ -83,7 +83,7 @@ fn readable_any(
     choice: Choice,
     k: usize,
 ) -> bool
-    requires { ⌜ Known (now d) (now p) (now book) (now held) (now sets) × (k < entries (now book)) ⌝ }
+    requires { ⌜ Known (now d) (now p) (now book) (now held) (now sets) × (k < entries (now book)) × KnownChoice (schema (now book)) choice ⌝ }
     ensures { λ r. ⌜ ((σ : Setting) (es : List Stored) (s : Selection) → World σ es (now (d .entry)) (now (p .entry)) (now (book .entry)) (now (held .entry)) (now (sets .entry)) → Chooses (schema (now (book .entry))) s choice → r ≡ any (readable σ s (getD es k blank .name)) (getD es k blank .values)) ⌝ }
 {
     let end = book[FIRST + 1 + k] as usize;
@@ -99,7 +99,7 @@ fn readable_any(
 
 // Is the type of this rank chosen, with DiscloseOnError in the entry of index `k`?
 fn disclosing_rank(sets: &[u64; SETS], choice: Choice, k: usize, rank: usize) -> bool
-    requires { ⌜ (k < 256) × (rank < 64) × ((d p : Bytes) × (book held : List ℕ) × Known d p book held (now sets)) ⌝ }
+    requires { ⌜ KnownChoiceAt (now sets) (k + 1) rank choice ⌝ }
     ensures { λ r. ⌜ ((σ : Setting) (es : List Stored) (s : Selection) (d p : Bytes) (book held : List ℕ) → World σ es d p book held (now (sets .entry)) → Chooses (schema book) s choice → k < length es → rank < length (schema book) → r ≡ disclosing σ s (getD es k blank .name) (typeAt (schema book) rank)) ⌝ }
 {
     if chosen(choice, rank) {
@@ -116,7 +116,7 @@ fn discloses(
     choice: Choice,
     k: usize,
 ) -> bool
-    requires { ⌜ ((d p : Bytes) × Known d p (now book) (now held) (now sets)) × (k < entries (now book)) ⌝ }
+    requires { ⌜ ((d p : Bytes) × Known d p (now book) (now held) (now sets)) × (k < entries (now book)) × KnownChoice (schema (now book)) choice ⌝ }
     ensures { λ r. ⌜ ((σ : Setting) (es : List Stored) (s : Selection) (d p : Bytes) → World σ es d p (now (book .entry)) (now (held .entry)) (now (sets .entry)) → Chooses (schema (now (book .entry))) s choice → r ≡ any (λ v. disclosing σ s (getD es k blank .name) (v .type)) (getD es k blank .values)) ⌝ }
 {
     let end = book[FIRST + 1 + k] as usize;
@@ -141,7 +141,7 @@ fn outcome_of(
     choice: Choice,
     k: usize,
 ) -> Outcome
-    requires { ⌜ Known (now d) (now p) (now book) (now held) (now sets) × (k < entries (now book)) ⌝ }
+    requires { ⌜ Known (now d) (now p) (now book) (now held) (now sets) × (k < entries (now book)) × KnownChoice (schema (now book)) choice ⌝ }
     ensures { λ r. ⌜ ((σ : Setting) (es : List Stored) (s : Selection) → World σ es (now (d .entry)) (now (p .entry)) (now (book .entry)) (now (held .entry)) (now (sets .entry)) → Chooses (schema (now (book .entry))) s choice → r ≡ readOutcome σ s (entryOf (getD es k blank))) ⌝ }
 {
     if choice.nothing {
@@ -193,7 +193,7 @@ fn read_open(
     choice: Choice,
     k: usize,
 ) -> Plan
-    requires { ⌜ Known (now d) (now p) (now book) (now held) (now sets) × (k < entries (now book)) ⌝ }
+    requires { ⌜ Known (now d) (now p) (now book) (now held) (now sets) × (k < entries (now book)) × KnownChoice (schema (now book)) choice ⌝ }
     ensures { λ r. ⌜ ((hits : List ℕ) → SoundPlan (entries (now (book .entry))) r hits) × ((σ : Setting) (es : List Stored) (s : Selection) (hits : List ℕ) → World σ es (now (d .entry)) (now (p .entry)) (now (book .entry)) (now (held .entry)) (now (sets .entry)) → Chooses (schema (now (book .entry))) s choice → planned σ es s r hits ≡ Answer.readEntry σ s (entryOf (getD es k blank))) ⌝ }
 {
     let outcome = outcome_of(book, held, sets, d, p, choice, k);
@@ -214,8 +214,8 @@ fn read_entry(
     b: usize,
     missing: usize,
 ) -> Plan
-    requires { ⌜ Known (now d) (now p) (now book) (now held) (now sets) × (b ≤ entries (now book)) × (missing ≤ entries (now book)) ⌝ }
-    ensures { λ r. ⌜ ((hits : List ℕ) → SoundPlan (entries (now (book .entry))) r hits) × ((σ : Setting) (es : List Stored) (n : Name) (base : Found) (s : Selection) (hits : List ℕ) → World σ es (now (d .entry)) (now (p .entry)) (now (book .entry)) (now (held .entry)) (now (sets .entry)) → Chooses (schema (now (book .entry))) s choice → Base σ es n base missing → base ≡ At b → planned σ es s r hits ≡ Answer.answer σ (map entryOf es) n (Request.read s)) ⌝ }
+    requires { ⌜ KnownBase (now d) (now p) (now book) (now held) (now sets) (At b) missing × KnownChoice (schema (now book)) choice ⌝ }
+    ensures { λ r. ⌜ ((hits : List ℕ) → SoundPlan (entries (now (book .entry))) r hits) × ((σ : Setting) (es : List Stored) (n : Name) (s : Selection) (hits : List ℕ) → World σ es (now (d .entry)) (now (p .entry)) (now (book .entry)) (now (held .entry)) (now (sets .entry)) → Chooses (schema (now (book .entry))) s choice → Base σ es n (At b) missing → planned σ es s r hits ≡ Answer.answer σ (map entryOf es) n (Request.read s)) ⌝ }
 {
     let opened = opening(sets, b, READ);
     if !is_result(opened) {
@@ -237,7 +237,7 @@ pub fn read(
     choice: Choice,
     target: Target,
 ) -> Plan
-    requires { ⌜ Known (now d) (now p) (now book) (now held) (now sets) × Numbered (entries (now book)) (target .base) (target .missing) ⌝ }
+    requires { ⌜ KnownBase (now d) (now p) (now book) (now held) (now sets) (target .base) (target .missing) × KnownChoice (schema (now book)) choice ⌝ }
     ensures { λ r. ⌜ ((hits : List ℕ) → SoundPlan (entries (now (book .entry))) r hits) × ((σ : Setting) (es : List Stored) (n : Name) (s : Selection) (hits : List ℕ) → World σ es (now (d .entry)) (now (p .entry)) (now (book .entry)) (now (held .entry)) (now (sets .entry)) → Chooses (schema (now (book .entry))) s choice → Base σ es n (target .base) (target .missing) → planned σ es s r hits ≡ Answer.answer σ (map entryOf es) n (Request.read s)) ⌝ }
 {
     let base = target.base;

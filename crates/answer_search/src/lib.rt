@@ -31,22 +31,22 @@ ghost use Rattle.rules.specs.Name.{Name};
 ghost use Rattle.rules.specs.Directory.{Stored, entryOf};
 ghost use Rattle.rules.specs.Decision.{Setting};
 ghost use Rattle.rules.specs.Filter.{Filter};
-ghost use Rattle.rules.specs.Judge.{accept, Grammar};
+ghost use Rattle.rules.specs.Judge.{Grammar};
 ghost use Rattle.rules.specs.Request as Request;
 ghost use Rattle.rules.specs.Request.{Search};
-ghost use Rattle.rules.specs.Places.{linesAt};
 ghost use Rattle.rules.specs.Answer.{answer};
 ghost use Rattle.rules.specs.Numbers.{withinNumber};
 ghost use Rattle.tables.specs.Book.{width, entries};
 ghost use Rattle.tables.specs.Book as Book;
 ghost use Rattle.tables.specs.World.{World, Entries, Known};
 ghost use Rattle.answer_plan.specs.Plan.{planned};
-ghost use Rattle.answer_plan.specs.Sound.{Base, Numbered, SoundPlan};
+ghost use Rattle.answer_plan.specs.Sound.{Base, KnownBase, SoundPlan};
 ghost use Rattle.answer_entry.specs.Passing.{Indices, passing, over};
 ghost use Rattle.filter_lines.specs.Lines.{LINES, LinesNoted, Typed, positionAt};
 ghost use Rattle.filter_item.specs.Mask.{Masks};
+ghost use Rattle.filter_tree.specs.Tree.{FilterAt, KnownFilter};
 ghost use Rattle.answer_search.specs.Hits.{foundAt, searchFound};
-ghost use Rattle.answer_search.specs.Query.{Seeks};
+ghost use Rattle.answer_search.specs.Query.{Seeks, KnownQuery};
 
 // What a search asks: at most how many entries (0 is no limit), the subset, and the position of the filter's first line.
 pub struct Query {
@@ -89,8 +89,8 @@ fn found_at(
     scope: Extent,
     k: usize,
 ) -> bool
-    requires { ⌜ Known (now d) (now p) (now book) (now held) (now sets) × (k < entries (now book)) × LinesNoted (width (now book)) (now q) (now rows) (scope .lines) × Typed (Book.schema (now book)) (now rows) (scope .lines) × Masks (now rows) (scope .lines) (scope .ranks) ⌝ }
-    ensures { λ r. ⌜ ((σ : Setting) (es : List Stored) (g : Grammar) (f : Filter) → World σ es (now (d .entry)) (now (p .entry)) (now (book .entry)) (now (held .entry)) (now (sets .entry)) → Request.filter g 16 128 (linesAt (width (now (book .entry))) (now (q .entry)) (positionAt (now (rows .entry)) 0)) (λ f left rest. accept f) ≡ accept f → r ≡ foundAt σ es (scope .base) (scope .subset) f k) ⌝ }
+    requires { ⌜ Known (now d) (now p) (now book) (now held) (now sets) × (k < entries (now book)) × LinesNoted (width (now book)) (now q) (now rows) (scope .lines) × Typed (Book.schema (now book)) (now rows) (scope .lines) × Masks (now rows) (scope .lines) (scope .ranks) × KnownFilter (width (now book)) (now q) (positionAt (now rows) 0) ⌝ }
+    ensures { λ r. ⌜ ((σ : Setting) (es : List Stored) (g : Grammar) (f : Filter) → World σ es (now (d .entry)) (now (p .entry)) (now (book .entry)) (now (held .entry)) (now (sets .entry)) → FilterAt g (width (now (book .entry))) (now (q .entry)) (positionAt (now (rows .entry)) 0) f → r ≡ foundAt σ es (scope .base) (scope .subset) f k) ⌝ }
 {
     if !within(book, scope.base, scope.subset, k) {
         return false;
@@ -113,8 +113,8 @@ fn found(
     scope: Extent,
     hits: &mut [usize; 256],
 ) -> usize
-    requires { ⌜ Known (now d) (now p) (now book) (now held) (now sets) × (length (now hits) ≡ 256) × LinesNoted (width (now book)) (now q) (now rows) (scope .lines) × Typed (Book.schema (now book)) (now rows) (scope .lines) × Masks (now rows) (scope .lines) (scope .ranks) ⌝ }
-    ensures { λ n. ⌜ Indices (entries (now (book .entry))) n (now (hits .entry)) (now (hits .exit)) × ((σ : Setting) (es : List Stored) (g : Grammar) (f : Filter) → World σ es (now (d .entry)) (now (p .entry)) (now (book .entry)) (now (held .entry)) (now (sets .entry)) → Request.filter g 16 128 (linesAt (width (now (book .entry))) (now (q .entry)) (positionAt (now (rows .entry)) 0)) (λ f left rest. accept f) ≡ accept f → take n (now (hits .exit)) ≡ passing (foundAt σ es (scope .base) (scope .subset) f) (length es)) ⌝ }
+    requires { ⌜ Known (now d) (now p) (now book) (now held) (now sets) × (length (now hits) ≡ 256) × LinesNoted (width (now book)) (now q) (now rows) (scope .lines) × Typed (Book.schema (now book)) (now rows) (scope .lines) × Masks (now rows) (scope .lines) (scope .ranks) × KnownFilter (width (now book)) (now q) (positionAt (now rows) 0) ⌝ }
+    ensures { λ n. ⌜ Indices (entries (now (book .entry))) n (now (hits .entry)) (now (hits .exit)) × ((σ : Setting) (es : List Stored) (g : Grammar) (f : Filter) → World σ es (now (d .entry)) (now (p .entry)) (now (book .entry)) (now (held .entry)) (now (sets .entry)) → FilterAt g (width (now (book .entry))) (now (q .entry)) (positionAt (now (rows .entry)) 0) f → take n (now (hits .exit)) ≡ passing (foundAt σ es (scope .base) (scope .subset) f) (length es)) ⌝ }
 {
     let count = book[ENTRIES] as usize;
     let mut n: usize = 0;
@@ -141,7 +141,7 @@ pub fn search(
     query: Query,
     hits: &mut [usize; 256],
 ) -> Plan
-    requires { ⌜ Known (now d) (now p) (now book) (now held) (now sets) × Numbered (entries (now book)) (target .base) (target .missing) × (length (now hits) ≡ 256) × (length (now q) ≤ (5 * width (now book) + 1) * LINES) ⌝ }
+    requires { ⌜ KnownBase (now d) (now p) (now book) (now held) (now sets) (target .base) (target .missing) × (length (now hits) ≡ 256) × (length (now q) ≤ (5 * width (now book) + 1) * LINES) × KnownQuery (width (now book)) (now q) query ⌝ }
     ensures { λ r. ⌜ SoundPlan (entries (now (book .entry))) r (now (hits .exit)) × ((σ : Setting) (es : List Stored) (g : Grammar) (n : Name) (s : Search) → World σ es (now (d .entry)) (now (p .entry)) (now (book .entry)) (now (held .entry)) (now (sets .entry)) → Base σ es n (target .base) (target .missing) → Seeks g (width (now (book .entry))) (now (q .entry)) s query → planned σ es (s .selection) r (now (hits .exit)) ≡ answer σ (map entryOf es) n (Request.search s)) × ((σ : Setting) (es : List Stored) (g : Grammar) (s : Search) → World σ es (now (d .entry)) (now (p .entry)) (now (book .entry)) (now (held .entry)) (now (sets .entry)) → Seeks g (width (now (book .entry))) (now (q .entry)) s query → now (hits .exit) ≡ over (searchFound σ es (s .subset) (s .filter) (target .base)) (now (hits .entry))) ⌝ }
 {
     let base = target.base;

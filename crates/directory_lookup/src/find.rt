@@ -54,8 +54,8 @@ fn is_child(book: &[u64; BOOK], d: &[u8], k: usize, parent: usize, t: u64, s: u6
 
 // The number of the child of entry `parent` with the naming part `t`, `v`. The type's syntax is `s`. A child stands after its parent.
 fn child_by(book: &[u64; BOOK], d: &[u8], parent: usize, t: u64, s: u64, v: &[u8]) -> Found
-    requires { ⌜ Listed (now d) (now book) ⌝ }
-    ensures { λ r. ⌜ UpTo (entries (now (book .entry))) r × ((σ : Setting) (es : List Stored) (held : List ℕ) → Entries σ es (now (d .entry)) (now (book .entry)) held → syntaxIn (Book.schema (now (book .entry))) t ≡ At s → r ≡ childFrom (σ .schema) parent (part t (now (v .entry))) es 0) ⌝ }
+    requires { ⌜ Listed (now d) (now book) × (syntaxIn (Book.schema (now book)) t ≡ At s) ⌝ }
+    ensures { λ r. ⌜ UpTo (entries (now (book .entry))) r × ((σ : Setting) (es : List Stored) (held : List ℕ) → Entries σ es (now (d .entry)) (now (book .entry)) held → r ≡ childFrom (σ .schema) parent (part t (now (v .entry))) es 0) ⌝ }
 {
     let n = book[ENTRIES] as usize;
     let mut i = parent;

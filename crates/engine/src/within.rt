@@ -28,6 +28,7 @@ fn tighter(a: u64, b: u64) -> u64
 
 // What is asked, within the limits: read and compare as they stand, list and search with at most as many entries.
 pub fn within(asked: Asked, limits: Limits) -> Asked
+    requires { ⌜ ((G : Grammar) × (w : ℕ) × (q : Bytes) × (x : Request) × RequestNoted G w q x asked) ⌝ }
     ensures { λ r. ⌜ ((G : Grammar) (w : ℕ) (q : Bytes) (x : Request) → RequestNoted G w q x asked → RequestNoted G w q (Serve.within limits x) r) ⌝ }
 {
     if asked.operation < operation::LIST {

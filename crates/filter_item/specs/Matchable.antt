@@ -1,7 +1,7 @@
 -- What was asked for an entry before the items of a filter: FilterMatch on its types and values, a bit for each.
 use Prim.Native.Nat.{ℕ, suc, _-_, _/_, _%_, _≤_, _<_}
 use mathlib.Core.Path.{_≡_}
-use mathlib.Core.Bool.{Bool, _&&_}
+use mathlib.Core.Bool.{Bool, true, _&&_}
 use mathlib.Core.List.{List}
 use lib.ListN.{length, getD}
 use Rattle.rules.specs.Sheet.{Bytes}
@@ -9,9 +9,11 @@ use Rattle.rules.specs.Directory.{Stored}
 use Rattle.rules.specs.Permission.{FilterMatch}
 use Rattle.rules.specs.Decision.{Setting, ofType, ofValue}
 use Rattle.access_set.specs.Member.{bit}
-use Rattle.tables.specs.Book.{schema, firstAt}
+use Rattle.tables.specs.Book.{types, schema, firstAt}
 use Rattle.tables.specs.Held.{rankAt, bytesAt, typeAt}
 use Rattle.tables.specs.Sets.{grantedAt}
+use Rattle.tables.specs.World.{Entries}
+use Rattle.filter_lines.specs.Lines.{typeRank}
 
 -- bit `j` of a row of words
 unfoldable pub bitAt : List ℕ → ℕ → Bool
@@ -33,3 +35,12 @@ pub record MatchableValues (σ : Setting) (es : List Stored) (d : Bytes) (book h
 pub record MatchableAt (σ : Setting) (es : List Stored) (d : Bytes) (book held : List ℕ) (k asked types : ℕ) (values : List ℕ) : Type 0 where
   pub types-matchable : MatchableTypes σ es book (suc k) asked (length (schema book)) types
   pub values-matchable : MatchableValues σ es d book held k asked (firstAt book (suc k)) values
+
+-- the type of line `line`, if the schema has it, is asked about
+abbrev pub AskedIn : List ℕ → List ℕ → ℕ → ℕ → Type 0
+AskedIn book rows line asked = typeRank rows line < types book → bit asked (typeRank rows line) ≡ true
+
+-- the bits are those of some entries and of ranks asked about, as `P` says
+abbrev pub KnownMatchable : Bytes → List ℕ → List ℕ → ℕ → ℕ → List ℕ → (ℕ → Type 0) → Type 0
+KnownMatchable d book held k types values P =
+    (σ : Setting) × (es : List Stored) × (asked : ℕ) × Entries σ es d book held × MatchableAt σ es d book held k asked types values × P asked

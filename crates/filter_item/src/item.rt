@@ -22,7 +22,7 @@ use tables::book::SCHEMA;
 use tables::book::TYPES;
 use tables::held::HELD;
 ghost use mathlib.Core.Path.{_≡_};
-ghost use mathlib.Core.Bool.{true, _&&_};
+ghost use mathlib.Core.Bool.{_&&_};
 ghost use mathlib.Core.List.{List};
 ghost use Prim.Native.Nat.{ℕ, _<_};
 ghost use lib.ListN.{getD};
@@ -30,13 +30,12 @@ ghost use Rattle.rules.specs.Directory.{Stored, blank, entryOf};
 ghost use Rattle.rules.specs.Decision.{Setting};
 ghost use Rattle.rules.specs.FilterItem.{itemTruth};
 ghost use Rattle.access_set.specs.Member.{bit};
-ghost use Rattle.tables.specs.Book as Book;
 ghost use Rattle.tables.specs.Book.{entries, schema};
 ghost use Rattle.tables.specs.World.{Entries};
-ghost use Rattle.filter_lines.specs.Lines.{RowsPlaced, Typed, kindAt, firstAt, typeRank, valueAt, piecesAt};
+ghost use Rattle.filter_lines.specs.Lines.{RowsPlaced, Typed, kindAt, firstAt, valueAt, piecesAt};
 ghost use Rattle.filter_item.specs.Items.{assertionBy, definedBy, satisfiedIn};
 ghost use Rattle.filter_item.specs.Rows.{RowsWithin};
-ghost use Rattle.filter_item.specs.Matchable.{MatchableAt};
+ghost use Rattle.filter_item.specs.Matchable.{MatchableAt, AskedIn, KnownMatchable};
 
 // Do the value or the pieces of the item in line `k` fit the syntax `s`, and has the syntax the item's rule?
 fn defined(s: u64, q: &[u8], rows: &[u64; FILTER], lines: usize, k: usize) -> bool
@@ -124,8 +123,8 @@ pub fn item(
     lines: usize,
     line: usize,
 ) -> Truth
-    requires { ⌜ ((σ : Setting) × (es : List Stored) × Entries σ es (now d) (now book) (now held)) × (k < entries (now book)) × RowsPlaced (now q) (now rows) lines × Typed (schema (now book)) (now rows) lines × (line < lines) ⌝ }
-    ensures { λ r. ⌜ ((σ : Setting) (es : List Stored) (asked : ℕ) → Entries σ es (now (d .entry)) (now (book .entry)) (now (held .entry)) → MatchableAt σ es (now (d .entry)) (now (book .entry)) (now (held .entry)) k asked types (now (values .entry)) → (typeRank (now (rows .entry)) line < Book.types (now (book .entry)) → bit asked (typeRank (now (rows .entry)) line) ≡ true) → r ≡ itemTruth σ (entryOf (getD es k blank)) (assertionBy (kindAt (now (rows .entry)) line) (firstAt (now (rows .entry)) line) (valueAt (now (q .entry)) (now (rows .entry)) line) (piecesAt (now (q .entry)) (now (rows .entry)) lines line))) ⌝ }
+    requires { ⌜ KnownMatchable (now d) (now book) (now held) k types (now values) (AskedIn (now book) (now rows) line) × (k < entries (now book)) × RowsPlaced (now q) (now rows) lines × Typed (schema (now book)) (now rows) lines × (line < lines) ⌝ }
+    ensures { λ r. ⌜ ((σ : Setting) (es : List Stored) (asked : ℕ) → Entries σ es (now (d .entry)) (now (book .entry)) (now (held .entry)) → MatchableAt σ es (now (d .entry)) (now (book .entry)) (now (held .entry)) k asked types (now (values .entry)) → AskedIn (now (book .entry)) (now (rows .entry)) line asked → r ≡ itemTruth σ (entryOf (getD es k blank)) (assertionBy (kindAt (now (rows .entry)) line) (firstAt (now (rows .entry)) line) (valueAt (now (q .entry)) (now (rows .entry)) line) (piecesAt (now (q .entry)) (now (rows .entry)) lines line))) ⌝ }
 {
     let rank = rows[line * LINE + RANK] as usize;
     if book[TYPES] as usize <= rank {

@@ -21,7 +21,7 @@ ghost use Rattle.access_set.specs.Member.{bit};
 ghost use Rattle.tables.specs.Book.{entries, schema, firstAt};
 ghost use Rattle.tables.specs.Held.{rankAt, bytesAt, typeAt};
 ghost use Rattle.tables.specs.Sets.{grantedAt};
-ghost use Rattle.tables.specs.World.{World, Known};
+ghost use Rattle.tables.specs.World.{World, Known, KnownTypes};
 ghost use Rattle.filter_item.specs.Matchable.{MatchableTypes, MatchableValues, MatchableAt};
 
 // Where the book has the end of an entry's rows.
@@ -53,7 +53,7 @@ pub(crate) fn bit_if(b: bool, j: usize) -> u64
 
 // Is the type of rank `r` asked about, and FilterMatch granted on it in entry number `e`?
 fn type_matchable(sets: &[u64; SETS], e: usize, asked: u64, r: usize) -> bool
-    requires { ⌜ (e ≤ 256) × (r < 64) × ((d p : Bytes) × (book held : List ℕ) × Known d p book held (now sets)) ⌝ }
+    requires { ⌜ KnownTypes (now sets) e (suc r) ⌝ }
     ensures { λ x. ⌜ ((σ : Setting) (es : List Stored) (d p : Bytes) (book held : List ℕ) → World σ es d p book held (now (sets .entry)) → e ≤ length es → r < length (schema book) → x ≡ (bit asked r && grantedAt σ es e (ofType (typeAt (schema book) r)) FilterMatch)) ⌝ }
 {
     if in_word(asked, r) {
@@ -64,7 +64,7 @@ fn type_matchable(sets: &[u64; SETS], e: usize, asked: u64, r: usize) -> bool
 
 // FilterMatch on the first `n` types of the schema, of those that are asked about.
 fn matchable_types(sets: &[u64; SETS], n: usize, e: usize, asked: u64) -> u64
-    requires { ⌜ (e ≤ 256) × (n ≤ 64) × ((d p : Bytes) × (book held : List ℕ) × Known d p book held (now sets)) ⌝ }
+    requires { ⌜ KnownTypes (now sets) e n ⌝ }
     ensures { λ x. ⌜ ((σ : Setting) (es : List Stored) (d p : Bytes) (book held : List ℕ) → World σ es d p book held (now (sets .entry)) → e ≤ length es → n ≤ length (schema book) → MatchableTypes σ es book e asked n x) ⌝ }
 {
     let mut x: u64 = 0;

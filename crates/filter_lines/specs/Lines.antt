@@ -85,6 +85,10 @@ pub record LinesNoted (w : ℕ) (q : Bytes) (rows : List ℕ) (count : ℕ) : Ty
   pub unread : Bool
   pub ends : linesAt w q (positionAt rows count) ≡ cond unread broken end
 
+-- the rows are lines of some sheet
+abbrev pub KnownLines : List ℕ → ℕ → Type 0
+KnownLines rows count = (w : ℕ) × (q : Bytes) × LinesNoted w q rows count
+
 -- .. with the ranks of their types
 pub record Typed (schema rows : List ℕ) (count : ℕ) : Type 0 where
   pub rank : (k : ℕ) → k < count → typeRank rows k ≡ rankIn schema (firstAt rows k)

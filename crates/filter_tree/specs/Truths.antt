@@ -9,7 +9,7 @@ use Rattle.rules.specs.Sheet.{Bytes}
 use Rattle.rules.specs.Filter.{Assertion}
 use Rattle.rules.specs.declared.Truth.{Truth}
 use Rattle.rules.specs.declared.Truth.the-variants.{True, False, Undefined}
-use Rattle.filter_lines.specs.Lines.{kindAt, firstAt, valueAt, piecesAt}
+use Rattle.filter_lines.specs.Lines.{LinesNoted, kindAt, firstAt, valueAt, piecesAt}
 use Rattle.filter_item.specs.Items.{assertionBy}
 
 -- a truth as a number
@@ -30,3 +30,7 @@ pub record TruthAt (m : Assertion → Truth) (q : Bytes) (rows : List ℕ) (line
 -- a number for each of the first `count` of the lines
 pub record Truths (m : Assertion → Truth) (q : Bytes) (rows : List ℕ) (lines count : ℕ) (truths : List ℕ) : Type 0 where
   pub line : (k : ℕ) → k < count → TruthAt m q rows lines k (getD truths k 0)
+
+-- the rows are lines of some sheet, and the numbers the truths of their items
+abbrev pub KnownTruths : List ℕ → ℕ → List ℕ → Type 0
+KnownTruths rows lines truths = (w : ℕ) × (q : Bytes) × (m : Assertion → Truth) × LinesNoted w q rows lines × Truths m q rows lines lines truths

@@ -20,7 +20,7 @@ ghost use Rattle.tables.specs.Book.{entries, schema};
 ghost use Rattle.tables.specs.World.{Entries};
 ghost use Rattle.filter_lines.specs.Lines.{RowsPlaced, Typed};
 ghost use Rattle.filter_item.specs.Mask.{Masks};
-ghost use Rattle.filter_item.specs.Matchable.{MatchableAt};
+ghost use Rattle.filter_item.specs.Matchable.{MatchableAt, KnownMatchable};
 ghost use Rattle.filter_tree.specs.Truths.{truthNumber, truthOf, TruthAt, Truths};
 
 // A truth as a number.
@@ -63,7 +63,7 @@ fn line_truth(
     lines: usize,
     line: usize,
 ) -> u8
-    requires { ⌜ ((σ : Setting) × (es : List Stored) × Entries σ es (now d) (now book) (now held)) × (k < entries (now book)) × RowsPlaced (now q) (now rows) lines × Typed (schema (now book)) (now rows) lines × (line < lines) ⌝ }
+    requires { ⌜ KnownMatchable (now d) (now book) (now held) k types (now values) (Masks (now rows) lines) × (k < entries (now book)) × RowsPlaced (now q) (now rows) lines × Typed (schema (now book)) (now rows) lines × (line < lines) ⌝ }
     ensures { λ r. ⌜ ((σ : Setting) (es : List Stored) (asked : ℕ) → Entries σ es (now (d .entry)) (now (book .entry)) (now (held .entry)) → MatchableAt σ es (now (d .entry)) (now (book .entry)) (now (held .entry)) k asked types (now (values .entry)) → Masks (now (rows .entry)) lines asked → TruthAt (itemTruth σ (entryOf (getD es k blank))) (now (q .entry)) (now (rows .entry)) lines line r) ⌝ }
 {
     let kind = rows[line * LINE];
@@ -88,7 +88,7 @@ pub(crate) fn note_truths(
     rows: &[u64; FILTER],
     lines: usize,
 ) -> [u8; LINES]
-    requires { ⌜ ((σ : Setting) × (es : List Stored) × Entries σ es (now d) (now book) (now held)) × (k < entries (now book)) × RowsPlaced (now q) (now rows) lines × Typed (schema (now book)) (now rows) lines ⌝ }
+    requires { ⌜ KnownMatchable (now d) (now book) (now held) k types (now values) (Masks (now rows) lines) × (k < entries (now book)) × RowsPlaced (now q) (now rows) lines × Typed (schema (now book)) (now rows) lines ⌝ }
     ensures { λ r. ⌜ ((σ : Setting) (es : List Stored) (asked : ℕ) → Entries σ es (now (d .entry)) (now (book .entry)) (now (held .entry)) → MatchableAt σ es (now (d .entry)) (now (book .entry)) (now (held .entry)) k asked types (now (values .entry)) → Masks (now (rows .entry)) lines asked → Truths (itemTruth σ (entryOf (getD es k blank))) (now (q .entry)) (now (rows .entry)) lines lines r) ⌝ }
 {
     let mut truths: [u8; LINES] = [0; LINES];

@@ -18,28 +18,26 @@ use tables::book::BOOK;
 use tables::held::HELD;
 use tables::sets::SETS;
 ghost use mathlib.Core.Path.{_≡_};
-ghost use Prim.Native.Nat.{ℕ, _+_, _*_, _≤_, _<_};
+ghost use Prim.Native.Nat.{ℕ, _+_, _≤_, _<_};
 ghost use mathlib.Core.List.{List};
-ghost use lib.ListN.{length};
 ghost use Rattle.rules.specs.Sheet.{Bytes};
 ghost use Rattle.rules.specs.Directory.{Stored};
-ghost use Rattle.rules.specs.Judge.{accept, Grammar};
+ghost use Rattle.rules.specs.Judge.{Grammar};
 ghost use Rattle.rules.specs.Decision.{Setting};
 ghost use Rattle.rules.specs.Filter.{Assertion, Filter};
-ghost use Rattle.rules.specs.Request as Request;
 ghost use Rattle.rules.specs.Places.{linesAt};
 ghost use Rattle.rules.specs.FilterLines.{evaluated, evaluateLines};
 ghost use Rattle.rules.specs.declared.Truth.{Truth};
 ghost use Rattle.tables.specs.Book.{width, entries, schema};
 ghost use Rattle.tables.specs.World.{World, Known};
-ghost use Rattle.filter_lines.specs.Lines.{LinesNoted, Typed, kindAt, secondAt, positionAt};
+ghost use Rattle.filter_lines.specs.Lines.{LinesNoted, KnownLines, Typed, kindAt, secondAt, positionAt};
 ghost use Rattle.filter_item.specs.Mask.{Masks};
-ghost use Rattle.filter_tree.specs.Tree.{afterBy, matchesAt};
-ghost use Rattle.filter_tree.specs.Truths.{Truths};
+ghost use Rattle.filter_tree.specs.Tree.{afterBy, matchesAt, FilterAt, KnownFilter};
+ghost use Rattle.filter_tree.specs.Truths.{Truths, KnownTruths};
 
 // The line after the item in line `k`: a substrings item has those of its pieces.
 fn after_item(rows: &[u64], lines: usize, k: usize) -> usize
-    requires { ⌜ (lines * 6 + 6 ≤ length (now rows)) × (k < lines) ⌝ }
+    requires { ⌜ KnownLines (now rows) lines × (k < lines) ⌝ }
     ensures { λ r. ⌜ (r ≤ lines) × ((w : ℕ) (q : Bytes) → LinesNoted w q (now (rows .entry)) lines → linesAt w q (positionAt (now (rows .entry)) r) ≡ afterBy (kindAt (now (rows .entry)) k) (secondAt (now (rows .entry)) k) (linesAt w q (positionAt (now (rows .entry)) (k + 1)))) ⌝ }
 {
     let kind = rows[k * LINE];
@@ -72,7 +70,7 @@ pub struct Evaluation {
 // The truth of the filter in line `k`, at most `depth` levels deep, by the truths of the items. Every part of "and" and "or" is evaluated: its lines
 // are passed over in any case.
 pub fn evaluate(rows: &[u64], truths: &[u8], lines: usize, k: usize, depth: usize) -> Evaluation
-    requires { ⌜ (lines * 6 + 6 ≤ length (now rows)) × (k ≤ lines) ⌝ }
+    requires { ⌜ KnownTruths (now rows) lines (now truths) × (k ≤ lines) ⌝ }
     ensures { λ r. ⌜ (r .next ≤ lines) × ((w : ℕ) (q : Bytes) (m : Assertion → Truth) → LinesNoted w q (now (rows .entry)) lines → Truths m q (now (rows .entry)) lines lines (now (truths .entry)) → evaluated (r .truth) (linesAt w q (positionAt (now (rows .entry)) (r .next))) ≡ evaluateLines m depth (linesAt w q (positionAt (now (rows .entry)) k))) ⌝ }
 {
     if depth == 0 {
@@ -129,8 +127,8 @@ pub fn matches(
     asked: u64,
     k: usize,
 ) -> bool
-    requires { ⌜ Known (now d) (now p) (now book) (now held) (now sets) × LinesNoted (width (now book)) (now q) (now rows) lines × Typed (schema (now book)) (now rows) lines × (k < entries (now book)) × Masks (now rows) lines asked ⌝ }
-    ensures { λ r. ⌜ ((σ : Setting) (es : List Stored) (g : Grammar) (f : Filter) → World σ es (now (d .entry)) (now (p .entry)) (now (book .entry)) (now (held .entry)) (now (sets .entry)) → Request.filter g 16 128 (linesAt (width (now (book .entry))) (now (q .entry)) (positionAt (now (rows .entry)) 0)) (λ f left rest. accept f) ≡ accept f → r ≡ matchesAt σ es f k) ⌝ }
+    requires { ⌜ Known (now d) (now p) (now book) (now held) (now sets) × LinesNoted (width (now book)) (now q) (now rows) lines × Typed (schema (now book)) (now rows) lines × (k < entries (now book)) × Masks (now rows) lines asked × KnownFilter (width (now book)) (now q) (positionAt (now rows) 0) ⌝ }
+    ensures { λ r. ⌜ ((σ : Setting) (es : List Stored) (g : Grammar) (f : Filter) → World σ es (now (d .entry)) (now (p .entry)) (now (book .entry)) (now (held .entry)) (now (sets .entry)) → FilterAt g (width (now (book .entry))) (now (q .entry)) (positionAt (now (rows .entry)) 0) f → r ≡ matchesAt σ es f k) ⌝ }
 {
     let seen = ask(book, held, sets, d, p, k, asked);
     let truths = note_truths(book, held, d, seen.types, &seen.values, k, q, rows, lines);

@@ -45,3 +45,11 @@ pub record World (σ : Setting) (es : List Stored) (d p : Bytes) (book held sets
 -- the numbers stand for some world
 abbrev pub Known : Bytes → Bytes → List ℕ → List ℕ → List ℕ → Type 0
 Known d p book held sets = (σ : Setting) × (es : List Stored) × World σ es d p book held sets
+
+-- the sets stand for some world in which `e` is the number of an entry, or of the root
+abbrev pub KnownEntry : List ℕ → ℕ → Type 0
+KnownEntry sets e = (σ : Setting) × (es : List Stored) × (d p : Bytes) × (book held : List ℕ) × World σ es d p book held sets × (e ≤ length es)
+
+-- and whose schema has `n` types at least
+abbrev pub KnownTypes : List ℕ → ℕ → ℕ → Type 0
+KnownTypes sets e n = (σ : Setting) × (es : List Stored) × (d p : Bytes) × (book held : List ℕ) × World σ es d p book held sets × (e ≤ length es) × (n ≤ length (schema book))

@@ -8,6 +8,7 @@ use Rattle.tables.specs.Book.{entries}
 use Rattle.answer_plan.specs.declared.Plan.{Plan}
 use Rattle.answer_plan.specs.Plan.{planned}
 use Rattle.answer_plan.specs.Sound.{SoundPlan}
+use Rattle.answer_plan.specs.Laws.Sound.{base-numbered, known-at, base-at}
 use Rattle.answer_plan.specs.Laws.Outcome.{absent-sound}
 use Rattle.answer_entry.specs.Laws.Opening.{opened-none}
 use borrow.Author.Needs.{needs}
@@ -15,14 +16,14 @@ use Rattle.answer_compare.proofs.compare.Statement.{statement}
 use Rattle.answer_compare.proofs.compare.Tie as tie
 
 compare-entry-requires : tie.Need-compare-entry-requires
-compare-entry-requires c κs = (c .before .before .before .before .before .before .pre .0, c .before .before .before .before .before .before .pre .1 .found (c .before .base .given .0 .0) (c .before .base .given .1), c .before .before .before .before .before .before .pre .1 .matched)
+compare-entry-requires c κs = known-at (c .before .before .before .before .before .before .pre) _ (c .before .base .given .1)
 
 returns : tie.Need-returns
-returns c = let A = c .before .before .before .before .before .before .before .args in let E = entries (now (A .book)) in (c .compare-entry .ensures .0, λ σ es n s hits w q. c .compare-entry .ensures .1 σ es n (A .target .base) s hits w q (c .before .before .base .given .1))
+returns c = let A = c .before .before .before .before .before .before .before .args in let E = entries (now (A .book)) in (c .compare-entry .ensures .0, λ σ es n s hits w q. c .compare-entry .ensures .1 σ es n s hits w (base-at q _ (c .before .before .base .given .1)))
 
 returns-2 : tie.Need-returns-2
 unfolding answer
-returns-2 c = let A = c .before .before .before .before .before .before .args in let E = entries (now (A .book)) in (λ hits. subst (λ (r : Plan). SoundPlan E r hits) (sym (c .absent .ensures)) (absent-sound E hits 2 (A .target .missing) (c .before .before .before .before .before .before .pre .1 .matched)), λ σ es n s hits w q. ap (λ (r : Plan). planned σ es s r hits) (c .absent .ensures) ∙ opened-none σ es (w .entries .accepted) n (A .target .base) (A .target .missing) q 2 Read (compareEntry σ (A .t) (now (A .v))) s hits (c .before .enum-told .given .1))
+returns-2 c = let A = c .before .before .before .before .before .before .args in let E = entries (now (A .book)) in (λ hits. subst (λ (r : Plan). SoundPlan E r hits) (sym (c .absent .ensures)) (absent-sound E hits 2 (A .target .missing) (base-numbered (c .before .before .before .before .before .before .pre) .matched)), λ σ es n s hits w q. ap (λ (r : Plan). planned σ es s r hits) (c .absent .ensures) ∙ opened-none σ es (w .entries .accepted) n (A .target .base) (A .target .missing) q 2 Read (compareEntry σ (A .t) (now (A .v))) s hits (c .before .enum-told .given .1))
 
 pub compare-spec : {M : Type 1} → statement M
 compare-spec =

@@ -20,7 +20,7 @@ use Rattle.answer_plan.specs.Plan.{planned}
 use Rattle.answer_plan.specs.Sound.{SoundPlan}
 use Rattle.answer_plan.specs.Laws.Outcome.{refused-sound}
 use Rattle.answer_compare.specs.Compare.{compareOutcome}
-use Rattle.answer_compare.specs.Laws.Compare.{outcome-unheld, compare-sound, compared-planned, refused-compare}
+use Rattle.answer_compare.specs.Laws.Compare.{outcome-unheld, outcome-held, compare-sound, compared-planned, refused-compare}
 use borrow.Author.Needs.{needs}
 use Rattle.answer_compare.proofs.compare_open.Statement.{statement}
 use Rattle.answer_compare.proofs.compare_open.Tie as tie
@@ -53,13 +53,15 @@ outcome-of-requires : tie.Need-outcome-of-requires
 outcome-of-requires c κs = let A = c .before .before .before .before .before .before .before .args in let b = now (A .book) in let E = entries b in let k = A .k in let X = c .before .before .before .before .before .before .before .pre .0 .2 .entries in let i = c .before .before .before .row-of .result in let R = c .before .before .before .row-of .ensures in let T : i < firstAt b (suc k) = omega (arith, c .before .if1 .left, end-is b k) in let te = R .1 T in let rk = rank-within X k (c .before .before .before .before .before .before .before .pre .1) i (R .0) T in ((now (A .d), now (A .p), now (A .held), c .before .before .before .before .before .before .before .pre .0), c .before .before .before .before .before .before .before .pre .1, rk)
 
 returns-2 : tie.Need-returns-2
-returns-2 c = let A = c .before .before .before .before .before .before .before .before .before .before .before .args in let b = now (A .book) in let E = entries b in let k = A .k in let X = c .before .before .before .before .before .before .before .before .before .before .before .pre .0 .2 .entries in let i = c .before .before .before .before .before .before .before .row-of .result in let R = c .before .before .before .before .before .before .before .row-of .ensures in let T : i < firstAt b (suc k) = omega (arith, c .before .before .before .before .before .if1 .left, end-is b k) in let te = R .1 T in let rk = rank-within X k (c .before .before .before .before .before .before .before .before .before .before .before .pre .1) i (R .0) T in (λ hits. subst (λ (r : Plan). SoundPlan E r hits) (sym (c .refused2 .ensures)) (refused-sound E hits 2 _), λ σ es s hits w. ap (λ (r : Plan). planned σ es s r hits) (c .refused2 .ensures) ∙ refused-compare σ es s hits (A .t) (now (A .v)) k _ (c .before .before .before .outcome-of .ensures σ es (now (A .d)) (now (A .p)) (now (A .held)) w (ap (holds (entryOf (getD es k blank))) te ∙ R .2 σ es (now (A .d)) (now (A .p)) (now (A .sets)) w ∙ lt-ltb i (firstAt b (suc k)) T) ∙ ap (λ (x : ℕ). compareOutcome σ x (now (A .v)) (entryOf (getD es k blank))) te) (sym (c .before .before .is-result .ensures) ∙ not-true _ (c .before .if2 .taken)))
+unfolding entryOf
+returns-2 c = let A = c .before .before .before .before .before .before .before .before .before .before .before .args in let b = now (A .book) in let E = entries b in let k = A .k in let X = c .before .before .before .before .before .before .before .before .before .before .before .pre .0 .2 .entries in let i = c .before .before .before .before .before .before .before .row-of .result in let R = c .before .before .before .before .before .before .before .row-of .ensures in let T : i < firstAt b (suc k) = omega (arith, c .before .before .before .before .before .if1 .left, end-is b k) in let te = R .1 T in let rk = rank-within X k (c .before .before .before .before .before .before .before .before .before .before .before .pre .1) i (R .0) T in (λ hits. subst (λ (r : Plan). SoundPlan E r hits) (sym (c .refused2 .ensures)) (refused-sound E hits 2 _), λ σ es s hits w. ap (λ (r : Plan). planned σ es s r hits) (c .refused2 .ensures) ∙ refused-compare σ es s hits (A .t) (now (A .v)) k _ (c .before .before .before .outcome-of .ensures σ es (now (A .d)) (now (A .p)) (now (A .held)) w ∙ outcome-held σ _ (now (A .v)) (entryOf (getD es k blank)) (ap (holds (entryOf (getD es k blank))) te ∙ R .2 σ es (now (A .d)) (now (A .p)) (now (A .sets)) w ∙ lt-ltb i (firstAt b (suc k)) T) ∙ ap (λ (x : ℕ). compareOutcome σ x (now (A .v)) (entryOf (getD es k blank))) te) (sym (c .before .before .is-result .ensures) ∙ not-true _ (c .before .if2 .taken)))
 
 equal-any-requires : tie.Need-equal-any-requires
 equal-any-requires c κs = let A = c .before .before .before .before .before .before .before .before .before .before .args in let b = now (A .book) in let E = entries b in let k = A .k in let X = c .before .before .before .before .before .before .before .before .before .before .pre .0 .2 .entries in let i = c .before .before .before .before .before .before .row-of .result in let R = c .before .before .before .before .before .before .row-of .ensures in let T : i < firstAt b (suc k) = omega (arith, c .before .before .before .before .if1 .left, end-is b k) in let te = R .1 T in let rk = rank-within X k (c .before .before .before .before .before .before .before .before .before .before .pre .1) i (R .0) T in (c .before .before .before .before .before .before .before .before .before .before .pre .0, c .before .before .before .before .before .before .before .before .before .before .pre .1, rk)
 
 returns-3 : tie.Need-returns-3
-returns-3 c = let A = c .before .before .before .before .before .before .before .before .before .before .before .before .args in let b = now (A .book) in let E = entries b in let k = A .k in let X = c .before .before .before .before .before .before .before .before .before .before .before .before .pre .0 .2 .entries in let i = c .before .before .before .before .before .before .before .before .row-of .result in let R = c .before .before .before .before .before .before .before .before .row-of .ensures in let T : i < firstAt b (suc k) = omega (arith, c .before .before .before .before .before .before .if1 .left, end-is b k) in let te = R .1 T in let rk = rank-within X k (c .before .before .before .before .before .before .before .before .before .before .before .before .pre .1) i (R .0) T in (λ hits. subst (λ (r : Plan). SoundPlan E r hits) (sym (c .compared .ensures)) (compare-sound E (c .before .equal-any .result) hits), λ σ es s hits w. ap (λ (r : Plan). planned σ es s r hits) (c .compared .ensures) ∙ compared-planned σ es s hits (A .t) (now (A .v)) k (c .before .equal-any .result) (ap isResult (sym (c .before .before .before .before .outcome-of .ensures σ es (now (A .d)) (now (A .p)) (now (A .held)) w (ap (holds (entryOf (getD es k blank))) te ∙ R .2 σ es (now (A .d)) (now (A .p)) (now (A .sets)) w ∙ lt-ltb i (firstAt b (suc k)) T) ∙ ap (λ (x : ℕ). compareOutcome σ x (now (A .v)) (entryOf (getD es k blank))) te)) ∙ sym (c .before .before .before .is-result .ensures) ∙ not-false _ (c .before .before .if2 .left)) (c .before .equal-any .ensures σ es w ∙ ap (λ (x : ℕ). someValue σ (entryOf (getD es k blank)) x Compare (equal (σ .schema) x (now (A .v)))) te))
+unfolding entryOf
+returns-3 c = let A = c .before .before .before .before .before .before .before .before .before .before .before .before .args in let b = now (A .book) in let E = entries b in let k = A .k in let X = c .before .before .before .before .before .before .before .before .before .before .before .before .pre .0 .2 .entries in let i = c .before .before .before .before .before .before .before .before .row-of .result in let R = c .before .before .before .before .before .before .before .before .row-of .ensures in let T : i < firstAt b (suc k) = omega (arith, c .before .before .before .before .before .before .if1 .left, end-is b k) in let te = R .1 T in let rk = rank-within X k (c .before .before .before .before .before .before .before .before .before .before .before .before .pre .1) i (R .0) T in (λ hits. subst (λ (r : Plan). SoundPlan E r hits) (sym (c .compared .ensures)) (compare-sound E (c .before .equal-any .result) hits), λ σ es s hits w. ap (λ (r : Plan). planned σ es s r hits) (c .compared .ensures) ∙ compared-planned σ es s hits (A .t) (now (A .v)) k (c .before .equal-any .result) (ap isResult (sym (c .before .before .before .before .outcome-of .ensures σ es (now (A .d)) (now (A .p)) (now (A .held)) w ∙ outcome-held σ _ (now (A .v)) (entryOf (getD es k blank)) (ap (holds (entryOf (getD es k blank))) te ∙ R .2 σ es (now (A .d)) (now (A .p)) (now (A .sets)) w ∙ lt-ltb i (firstAt b (suc k)) T) ∙ ap (λ (x : ℕ). compareOutcome σ x (now (A .v)) (entryOf (getD es k blank))) te)) ∙ sym (c .before .before .before .is-result .ensures) ∙ not-false _ (c .before .before .if2 .left)) (c .before .equal-any .ensures σ es w ∙ ap (λ (x : ℕ). someValue σ (entryOf (getD es k blank)) x Compare (equal (σ .schema) x (now (A .v)))) te))
 
 pub compare-open-spec : {M : Type 1} → statement M
 compare-open-spec =

@@ -43,10 +43,10 @@ add-may-value : tie.Need-add-may-value
 add-may-value c = let A = c .before .before .before .before .before .before .before .before .before .args in let b = now (A .book) in let h = now (A .held) in let k = A .k in let E = c .before .before .before .before .before .before .before .before .before .pre .0 .2 .entries in let R = rank-within E k (c .before .before .before .before .before .before .before .before .before .pre .1) (A .i) (c .before .before .before .before .before .before .before .before .before .pre .3) (c .before .before .before .before .before .before .before .before .before .pre .4) in let r = rows-within E k (c .before .before .before .before .before .before .before .before .before .pre .1) in omega (arith, c .before .before .before .before .before .before .before .before .before .pre .1, E .fits .few-entries)
 
 may-value-requires : tie.Need-may-value-requires
-may-value-requires c κs = let A = c .before .before .before .before .before .before .before .before .before .args in let b = now (A .book) in let h = now (A .held) in let k = A .k in let E = c .before .before .before .before .before .before .before .before .before .pre .0 .2 .entries in let R = rank-within E k (c .before .before .before .before .before .before .before .before .before .pre .1) (A .i) (c .before .before .before .before .before .before .before .before .before .pre .3) (c .before .before .before .before .before .before .before .before .before .pre .4) in let r = rows-within E k (c .before .before .before .before .before .before .before .before .before .pre .1) in (omega (arith, c .before .before .before .before .before .before .before .before .before .pre .1, E .fits .few-entries), c .before .before .before .before .before .before .before .before .before .pre .2, omega arith, (now (A .d), h, c .before .before .before .before .before .before .before .before .before .pre .0))
+may-value-requires c κs = let A = c .before .before .before .before .before .before .before .before .before .args in let b = now (A .book) in let h = now (A .held) in let k = A .k in let E = c .before .before .before .before .before .before .before .before .before .pre .0 .2 .entries in let R = rank-within E k (c .before .before .before .before .before .before .before .before .before .pre .1) (A .i) (c .before .before .before .before .before .before .before .before .before .pre .3) (c .before .before .before .before .before .before .before .before .before .pre .4) in let r = rows-within E k (c .before .before .before .before .before .before .before .before .before .pre .1) in (omega (arith, c .before .before .before .before .before .before .before .before .before .pre .1), c .before .before .before .before .before .before .before .before .before .pre .2, omega arith, (now (A .d), h, c .before .before .before .before .before .before .before .before .before .pre .0))
 
 returns-2 : tie.Need-returns-2
-returns-2 c = let A = c .before .before .before .before .before .before .before .before .before .before .args in let b = now (A .book) in let h = now (A .held) in let k = A .k in let E = c .before .before .before .before .before .before .before .before .before .before .pre .0 .2 .entries in let R = rank-within E k (c .before .before .before .before .before .before .before .before .before .before .pre .1) (A .i) (c .before .before .before .before .before .before .before .before .before .before .pre .3) (c .before .before .before .before .before .before .before .before .before .before .pre .4) in let r = rows-within E k (c .before .before .before .before .before .before .before .before .before .before .pre .1) in λ σ es w. let n = getD es k blank .name in let t = typeAt (schema b) (A .rank) in let of = typeAt (schema b) (rankAt h (A .i)) in let B = bytesAt (now (A .d)) h (A .i) in let l : k + 1 ≤ length es = omega (arith, inside (w .entries) k (c .before .before .before .before .before .before .before .before .before .before .pre .1)) in c .may-value .ensures σ es (now (A .d)) h w l ∙ granted-next σ es k (ofValue t (now (c .before .before .before .before .bytes .result))) Compare ∙ counts-equal σ n t (now (A .v)) of (now (c .before .before .before .before .bytes .result)) (ap (typeAt (schema b)) (c .before .before .before .before .before .if1 .left)) (equal-rank (w .entries) (A .rank) (c .before .before .before .before .before .before .before .before .before .before .pre .2) (now (A .v)) (now (c .before .before .before .before .bytes .result)) ∙ sym (c .before .before .equal-by .ensures) ∙ c .before .if2 .taken) ∙ ap (λ (x : List ℕ). counts σ n t (now (A .v)) (part of x)) (c .before .before .before .before .bytes .ensures)
+returns-2 c = let A = c .before .before .before .before .before .before .before .before .before .before .args in let b = now (A .book) in let h = now (A .held) in let k = A .k in let E = c .before .before .before .before .before .before .before .before .before .before .pre .0 .2 .entries in let R = rank-within E k (c .before .before .before .before .before .before .before .before .before .before .pre .1) (A .i) (c .before .before .before .before .before .before .before .before .before .before .pre .3) (c .before .before .before .before .before .before .before .before .before .before .pre .4) in let r = rows-within E k (c .before .before .before .before .before .before .before .before .before .before .pre .1) in λ σ es w. let n = getD es k blank .name in let t = typeAt (schema b) (A .rank) in let of = typeAt (schema b) (rankAt h (A .i)) in let B = bytesAt (now (A .d)) h (A .i) in let l : k + 1 ≤ length es = omega (arith, inside (w .entries) k (c .before .before .before .before .before .before .before .before .before .before .pre .1)) in c .may-value .ensures σ es (now (A .d)) h w ∙ granted-next σ es k (ofValue t (now (c .before .before .before .before .bytes .result))) Compare ∙ counts-equal σ n t (now (A .v)) of (now (c .before .before .before .before .bytes .result)) (ap (typeAt (schema b)) (c .before .before .before .before .before .if1 .left)) (equal-rank (w .entries) (A .rank) (c .before .before .before .before .before .before .before .before .before .before .pre .2) (now (A .v)) (now (c .before .before .before .before .bytes .result)) ∙ sym (c .before .before .equal-by .ensures) ∙ c .before .if2 .taken) ∙ ap (λ (x : List ℕ). counts σ n t (now (A .v)) (part of x)) (c .before .before .before .before .bytes .ensures)
 
 returns-3 : tie.Need-returns-3
 returns-3 c = let A = c .before .before .before .before .before .before .before .before .before .args in let b = now (A .book) in let h = now (A .held) in let k = A .k in let E = c .before .before .before .before .before .before .before .before .before .pre .0 .2 .entries in let R = rank-within E k (c .before .before .before .before .before .before .before .before .before .pre .1) (A .i) (c .before .before .before .before .before .before .before .before .before .pre .3) (c .before .before .before .before .before .before .before .before .before .pre .4) in let r = rows-within E k (c .before .before .before .before .before .before .before .before .before .pre .1) in λ σ es w. let n = getD es k blank .name in let t = typeAt (schema b) (A .rank) in let of = typeAt (schema b) (rankAt h (A .i)) in let B = bytesAt (now (A .d)) h (A .i) in counts-apart σ n t (now (A .v)) of B (ap (equal (σ .schema) t (now (A .v))) (sym (c .before .before .before .bytes .ensures)) ∙ equal-rank (w .entries) (A .rank) (c .before .before .before .before .before .before .before .before .before .pre .2) (now (A .v)) (now (c .before .before .before .bytes .result)) ∙ sym (c .before .equal-by .ensures) ∙ c .if2 .left)

@@ -32,7 +32,7 @@ use Rattle.tables.specs.Held.{typeAt}
 use Rattle.tables.specs.World.{Entries}
 use Rattle.tables.specs.Laws.Book.{schema-length, type-at}
 use Rattle.access_may.specs.Laws.Schema.{syntax-ranked}
-use Rattle.answer_compare.specs.Compare.{compareOutcome, counts, comparePlan}
+use Rattle.answer_compare.specs.Compare.{compareOutcome, heldOutcome, counts, comparePlan}
 
 -- ---- the outcome, by the questions asked in order
 
@@ -45,22 +45,26 @@ module _ (σ : Setting) (t : ℕ) (v : Bytes) (e : Entry) where
       go true = refl
       go false = refl
 
-  module _ (h : holds e t ≡ true) where
-    pub outcome-inside : granted σ (e .name) (ofType t) Compare ≡ true → allowed (σ .schema) t v ≡ true → Result ≡ compareOutcome σ t v e
-    unfolding compareOutcome
-    outcome-inside g a = rw (g, h, a)
+  pub outcome-held : holds e t ≡ true → heldOutcome σ t v (e .name) ≡ compareOutcome σ t v e
+  unfolding compareOutcome heldOutcome
+  outcome-held h = rw h
 
-    pub outcome-outside : granted σ (e .name) (ofType t) Compare ≡ true → allowed (σ .schema) t v ≡ false → InvalidAttributeSyntax ≡ compareOutcome σ t v e
-    unfolding compareOutcome
-    outcome-outside g a = rw (g, h, a)
+module _ (σ : Setting) (t : ℕ) (v : Bytes) (n : Name) where
+  pub outcome-inside : granted σ n (ofType t) Compare ≡ true → allowed (σ .schema) t v ≡ true → Result ≡ heldOutcome σ t v n
+  unfolding heldOutcome
+  outcome-inside g a = rw (g, a)
 
-    pub outcome-told : granted σ (e .name) (ofType t) Compare ≡ false → granted σ (e .name) (ofType t) DiscloseOnError ≡ true → InsufficientAccessRights ≡ compareOutcome σ t v e
-    unfolding compareOutcome
-    outcome-told g a = rw (g, h, a)
+  pub outcome-outside : granted σ n (ofType t) Compare ≡ true → allowed (σ .schema) t v ≡ false → InvalidAttributeSyntax ≡ heldOutcome σ t v n
+  unfolding heldOutcome
+  outcome-outside g a = rw (g, a)
 
-    pub outcome-untold : granted σ (e .name) (ofType t) Compare ≡ false → granted σ (e .name) (ofType t) DiscloseOnError ≡ false → NoSuchAttributeOrValue ≡ compareOutcome σ t v e
-    unfolding compareOutcome
-    outcome-untold g a = rw (g, h, a)
+  pub outcome-told : granted σ n (ofType t) Compare ≡ false → granted σ n (ofType t) DiscloseOnError ≡ true → InsufficientAccessRights ≡ heldOutcome σ t v n
+  unfolding heldOutcome
+  outcome-told g a = rw (g, a)
+
+  pub outcome-untold : granted σ n (ofType t) Compare ≡ false → granted σ n (ofType t) DiscloseOnError ≡ false → NoSuchAttributeOrValue ≡ heldOutcome σ t v n
+  unfolding heldOutcome
+  outcome-untold g a = rw (g, a)
 
 -- ---- the values one by one
 

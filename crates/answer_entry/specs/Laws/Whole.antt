@@ -21,7 +21,8 @@ use Rattle.rules.specs.declared.Found.{Found}
 use Rattle.rules.specs.declared.Found.the-variants.{At, Nothing}
 use Rattle.answer_plan.specs.declared.Plan.{Plan}
 use Rattle.answer_plan.specs.Plan.{planned}
-use Rattle.answer_plan.specs.Sound.{Base, Numbered, SoundPlan}
+use Rattle.answer_plan.specs.Sound.{Base, SoundPlan}
+use Rattle.answer_plan.specs.Laws.Sound.{Numbered}
 use Rattle.answer_plan.specs.Outcome.{absentPlan}
 use Rattle.answer_plan.specs.Laws.Outcome.{absent-planned, absent-sound}
 use Rattle.tables.specs.Sets.{grantedAt}

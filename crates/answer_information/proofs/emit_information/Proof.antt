@@ -10,7 +10,7 @@ returns : tie.Need-returns
 returns c = let a = c .before .before .before .before .args in (omega arith, λ σ es s W C. root-emits (width (now (a .book))) (now (a .out)) (a .at) σ es s (a .e) (c .if1 .taken))
 
 emit-runs-requires : tie.Need-emit-runs-requires
-emit-runs-requires c κs = let P = c .before .before .before .before .before .pre in (P .0, omega (arith, c .before .if1 .left), P .1, P .2)
+emit-runs-requires c κs = let P = c .before .before .before .before .before .pre in (P .0, omega (arith, c .before .if1 .left), P .1, P .2, P .3)
 
 returns-2 : tie.Need-returns-2
 returns-2 c = c .before .before .emit-runs .ensures

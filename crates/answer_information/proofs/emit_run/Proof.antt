@@ -5,6 +5,7 @@ use Rattle.rules.specs.Directory.{nameAt}
 use Rattle.tables.specs.Book.{width}
 use Rattle.answer_information.specs.Laws.Runs.{returned-values, returned-type, returned-not}
 use Rattle.answer_information.specs.Laws.Rows.{there, ranked, type-number}
+use Rattle.answer_plan.specs.Laws.Choice.{known-choice}
 use Rattle.answer_line.specs.Laws.Emit.{emits-none, emits-same, emits-length}
 use Rattle.answer_information.specs.Information.{heldBy}
 use borrow.Author.Needs.{needs}
@@ -12,10 +13,10 @@ use Rattle.answer_information.proofs.emit_run.Statement.{statement}
 use Rattle.answer_information.proofs.emit_run.Tie as tie
 
 shown-requires : tie.Need-shown-requires
-shown-requires c κs = let X = c .before .before .before .pre .1 in let F = c .before .before .before .pre .0 .2 .entries .fits in (X .some, omega (arith, X .entry, F .few-entries), omega (arith, X .rank, F .few-types), (now (c .before .before .before .args .d), now (c .before .before .before .args .p), now (c .before .before .before .args .book), now (c .before .before .before .args .held), c .before .before .before .pre .0))
+shown-requires c κs = let P = c .before .before .before .pre in let X = P .1 in (X .some, known-choice (P .0) _ (X .entry) _ (X .rank) (P .3))
 
 emit-readable-requires : tie.Need-emit-readable-requires
-emit-readable-requires c κs = c .before .before .before .before .before .before .before .pre
+emit-readable-requires c κs = let P = c .before .before .before .before .before .before .before .pre in (P .0, P .1, P .2)
 
 returns : tie.Need-returns
 returns c = let X = c .before .before .before .before .before .before .before .before .before .before .pre .1 in

@@ -98,6 +98,7 @@ emit-run-requires c κs = let P = c .before .before .before .before .before .bef
         until = r .within;
       },
       omega (arith, P .3, R .room, L .inv .1, L .inv .2),
+      P .4,
     )
 
 loop-less : tie.Need-loop-less Inv-loop μ-loop

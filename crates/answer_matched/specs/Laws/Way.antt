@@ -5,7 +5,6 @@ use mathlib.Core.List.{List, map}
 use native.Mathlib.Omega.{arith}
 use lib.ListN.{length}
 use Rattle.rules.specs.Sheet.{Bytes, Sheet}
-use Rattle.rules.specs.Name.{Name}
 use Rattle.rules.specs.Directory.{Stored, nameAt, entryOf}
 use Rattle.rules.specs.Decision.{Setting}
 use Rattle.rules.specs.Answer.{matchedName}
@@ -35,8 +34,12 @@ descend-step σ es from last w s j n h =
 module _ (book sets : List ℕ) (d q : Bytes) (place parts : ℕ) where
   -- number `r` has the matched name
   abbrev pub Matched : ℕ → Type 0
-  Matched r = (σ : Setting) (es : List Stored) (p : Bytes) (held : List ℕ) (n : Name) → World σ es d p book held sets
-      → partsOf parts (linesAt (width book) q place) ≡ n → length n ≡ parts → (r ≤ length es) × (nameAt es r ≡ matchedName σ (map entryOf es) n (parts - 1))
+  Matched r = (σ : Setting) (es : List Stored) (p : Bytes) (held : List ℕ) → World σ es d p book held sets
+      → nameAt es r ≡ matchedName σ (map entryOf es) (partsOf parts (linesAt (width book) q place)) (parts - 1)
+
+  -- all parts of the name stand there
+  abbrev pub Whole : Type 0
+  Whole = length (partsOf parts (linesAt (width book) q place)) ≡ parts
 
   -- the way from here leads where the whole way leads
   pub record Way (left last from j : ℕ) : Type 0 where
@@ -47,16 +50,14 @@ module _ (book sets : List ℕ) (d q : Bytes) (place parts : ℕ) where
   way-start = record { leads = λ σ es p held h. refl }
 
   module _ (left last from j : ℕ) (way : Way left last from j) where
-    reached : last ≤ entries book
+    reached : Whole
         → ((σ : Setting) (es : List Stored) (p : Bytes) (held : List ℕ) → World σ es d p book held sets → descend σ es from last (partsOf left (linesAt (width book) q j)) ≡ last)
         → Matched last
-    reached l e σ es p held n h m c = (
-      omega (arith, l, h .entries .count),
-      descend-matched σ es (h .entries .accepted) n (linesAt (width book) q place) parts m c last (sym (e σ es p held h) ∙ way .leads σ es p held h),
-    )
+    reached c e σ es p held h =
+        descend-matched σ es (h .entries .accepted) _ (linesAt (width book) q place) parts refl c last (sym (e σ es p held h) ∙ way .leads σ es p held h)
 
-    pub way-end : left ≤ 0 → last ≤ entries book → Matched last
-    way-end e l = reached l (λ σ es p held h. descend-end σ es from last left (linesAt (width book) q j) e)
+    pub way-end : left ≤ 0 → Whole → Matched last
+    way-end e c = reached c (λ σ es p held h. descend-end σ es from last left (linesAt (width book) q j) e)
 
     module _ (more : 0 < left) (x : Descent) (is : (σ : Setting) (es : List Stored) (held : List ℕ) → Entries σ es d book held → x ≡ stepOf (σ .schema) es from q (takenAt (width book) q j))
       where
@@ -67,11 +68,11 @@ module _ (book sets : List ℕ) (d q : Bytes) (place parts : ℕ) where
             descend-step σ es from last (width book) q j left more
             ∙ ap (byStep last last (λ k next. descend σ es k (lastOf σ es k last) (partsOf (left - 1) (linesAt (width book) q next)))) (sym (is σ es held (h .entries)) ∙ e)
 
-        pub way-lost : x ≡ Lost → last ≤ entries book → Matched last
-        way-lost e l = reached l (turn Lost e)
+        pub way-lost : x ≡ Lost → Whole → Matched last
+        way-lost e c = reached c (turn Lost e)
 
-        pub way-ended : x ≡ Ended → last ≤ entries book → Matched last
-        way-ended e l = reached l (turn Ended e)
+        pub way-ended : x ≡ Ended → Whole → Matched last
+        way-ended e c = reached c (turn Ended e)
 
         pub way-on : (k next l : ℕ) → x ≡ To k next → k ≤ entries book
             → ((σ : Setting) (es : List Stored) (d p : Bytes) (book held : List ℕ) → World σ es d p book held sets → k ≤ length es → l ≡ lastOf σ es k last)

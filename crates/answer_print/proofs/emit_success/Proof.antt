@@ -9,7 +9,7 @@ use Rattle.answer_print.proofs.emit_success.Statement.{statement}
 use Rattle.answer_print.proofs.emit_success.Tie as tie
 
 emit-found-requires : tie.Need-emit-found-requires
-emit-found-requires c κs = let P = c .before .before .before .before .before .before .pre in (P .0, omega (arith, P .2), omega (arith, P .1 .name, P .1 .entry), omega (arith, P .1 .name, P .1 .entry))
+emit-found-requires c κs = let P = c .before .before .before .before .before .before .pre in (P .0, omega (arith, P .2), omega (arith, P .1 .name, P .1 .entry), omega (arith, P .1 .name, P .1 .entry), P .3)
 
 returns : tie.Need-returns
 returns c = let a = c .before .before .before .before .before .before .before .before .before .args in λ σ es s W C. success-read σ es s (width (now (a .book))) (now (a .out)) (a .at) (a .plan) (now (a .hits)) (c .before .before .before .before .if1 .taken) (c .before .before .emit-found .ensures .1 σ es s W C)
@@ -37,7 +37,7 @@ part-emit-matches-end c = omega (arith, c .before .before .before .before .befor
 emit-matches-requires : tie.Need-emit-matches-requires
 emit-matches-requires c κs = let P = c .before .before .before .before .before .before .before .before .before .before .before .before .pre in
     let m : length (now (c .before .before .before .before .before .before .before .before .before .before .before .before .args .hits)) ≡ 256 = search needs in
-    (P .0, P .2, omega (arith, shown-many (P .1), P .1 .shown, m), shown-below (P .1))
+    (P .0, P .2, omega (arith, shown-many (P .1), P .1 .shown, m), shown-below (P .1), P .3)
 
 returns-4 : tie.Need-returns-4
 returns-4 c = let a = c .before .before .before .before .before .before .before .before .before .before .before .before .before .before .before .args in λ σ es s W C. success-search σ es s (width (now (a .book))) (now (a .out)) (a .at) (a .plan) (now (a .hits)) (c .before .before .before .before .before .before .before .before .before .before .if1 .left) (c .before .before .before .before .before .before .before .before .if2 .left) (c .before .before .before .before .before .if3 .left) (c .before .before .emit-matches .ensures σ es s W C)

@@ -16,7 +16,7 @@ emit-success-requires c κs = let P = c .before .before .before .before .before 
     let a = c .before .before .before .before .before .before .before .before .before .before .before .before .before .args in
     let h = emits-length _ _ _ _ (c .before .before .before .before .before .emit .ensures) in
     let w = P .0 .2 .entries .fits .wide in
-    (P .0, P .1, omega (arith, h, w))
+    (P .0, P .1, omega (arith, h, w), P .2)
 
 returns : tie.Need-returns
 returns c = let a = c .before .before .before .before .before .before .before .before .before .before .before .before .before .before .before .before .args in λ σ es s W C. whole σ es s (width (now (a .book))) (now (a .out)) 0 (a .plan) (now (a .hits)) Result (c .before .before .before .before .enum-told .given .1) (c .before .before .before .before .before .before .before .before .before .before .outcome-number .ensures) (c .before .before .before .before .before .before .before .before .emit .ensures) (c .before .before .emit-success .ensures σ es s W C)

@@ -12,6 +12,7 @@ use Rattle.tables.specs.Laws.Book.{schema-length}
 use Rattle.tables.specs.Laws.World.{inside, rows-of, rows-within, rank-within}
 use Rattle.tables.specs.Laws.Held.{any-here, any-on, any-end}
 use Rattle.answer_plan.specs.Choice.{Chooses}
+use Rattle.answer_plan.specs.Laws.Choice.{known-choice}
 use Rattle.answer_read.specs.Read.{disclosing}
 use Rattle.rules.specs.Lists.{any}
 use Rattle.rules.specs.Directory.{Stored}
@@ -56,7 +57,7 @@ element-copy-out-disclosing-rank : tie.Need-element-copy-out-disclosing-rank Inv
 element-copy-out-disclosing-rank c = let A = c .before .before .before .before .args in let b = now (A .book) in let k = A .k in let E = c .before .before .before .before .pre .0 .2 .2 .entries in let r = rows-within E k (c .before .before .before .before .pre .1) in let L = c .before .loop in let T : L .i < firstAt b (suc k) = omega (arith, c .loop-test .taken, end-is b k) in omega (arith, r .1, T, E .fits .size)
 
 disclosing-rank-requires : tie.Need-disclosing-rank-requires Inv-loop μ-loop
-disclosing-rank-requires c κs = let A = c .before .before .before .before .before .args in let b = now (A .book) in let k = A .k in let E = c .before .before .before .before .before .pre .0 .2 .2 .entries in let r = rows-within E k (c .before .before .before .before .before .pre .1) in let L = c .before .before .loop in let T : L .i < firstAt b (suc k) = omega (arith, c .before .loop-test .taken, end-is b k) in (omega (arith, c .before .before .before .before .before .pre .1, E .fits .few-entries), omega (arith, rank-within E k (c .before .before .before .before .before .pre .1) (L .i) (L .inv .0) T, E .fits .few-types), (c .before .before .before .before .before .pre .0 .0, c .before .before .before .before .before .pre .0 .1, b, now (A .held), c .before .before .before .before .before .pre .0 .2))
+disclosing-rank-requires c κs = let A = c .before .before .before .before .before .args in let b = now (A .book) in let k = A .k in let E = c .before .before .before .before .before .pre .0 .2 .2 .entries in let r = rows-within E k (c .before .before .before .before .before .pre .1) in let L = c .before .before .loop in let T : L .i < firstAt b (suc k) = omega (arith, c .before .loop-test .taken, end-is b k) in known-choice (c .before .before .before .before .before .pre .0 .2) _ (omega (arith, c .before .before .before .before .before .pre .1)) _ (rank-within E k (c .before .before .before .before .before .pre .1) (L .i) (L .inv .0) T) (c .before .before .before .before .before .pre .2)
 
 returns : tie.Need-returns Inv-loop μ-loop
 returns c = let A = c .before .before .before .before .before .before .before .args in let b = now (A .book) in let k = A .k in let E = c .before .before .before .before .before .before .before .pre .0 .2 .2 .entries in let r = rows-within E k (c .before .before .before .before .before .before .before .pre .1) in let L = c .before .before .before .before .loop in let T : L .i < firstAt b (suc k) = omega (arith, c .before .before .before .loop-test .taken, end-is b k) in λ σ es s d p w ch. sym (any-here (rows-of (w .entries) k (c .before .before .before .before .before .before .before .pre .1)) (L .i) (L .inv .0) T (λ v. disclosing σ s (getD es k blank .name) (v .type)) (sym (c .before .disclosing-rank .ensures σ es s d p (now (A .book)) (now (A .held)) w ch (inside (w .entries) k (c .before .before .before .before .before .before .before .pre .1)) (omega (arith, rank-within (w .entries) k (c .before .before .before .before .before .before .before .pre .1) (L .i) (L .inv .0) T, schema-length (w .entries .fits)))) ∙ c .if1 .taken)) ∙ L .inv .2 σ es s d p w ch

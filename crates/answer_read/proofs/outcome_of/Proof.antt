@@ -15,7 +15,7 @@ returns-2 : tie.Need-returns-2
 returns-2 c = let A = c .before .before .before .before .before .args in λ σ es s w ch. outcome-some σ s (getD es (A .k) blank) (sym (c .before .readable-any .ensures σ es s w ch) ∙ c .if2 .taken)
 
 discloses-requires : tie.Need-discloses-requires
-discloses-requires c κs = let A = c .before .before .before .before .before .args in ((now (A .d), now (A .p), c .before .before .before .before .before .pre .0), c .before .before .before .before .before .pre .1)
+discloses-requires c κs = let A = c .before .before .before .before .before .args in ((now (A .d), now (A .p), c .before .before .before .before .before .pre .0), c .before .before .before .before .before .pre .1, c .before .before .before .before .before .pre .2)
 
 returns-3 : tie.Need-returns-3
 returns-3 c = let A = c .before .before .before .before .before .before .before .args in λ σ es s w ch. outcome-disclosed σ s (getD es (A .k) blank) (sym (ch .nothing) ∙ c .before .before .before .before .if1 .left) (sym (c .before .before .before .readable-any .ensures σ es s w ch) ∙ c .before .before .if2 .left) (sym (c .before .discloses .ensures σ es s (now (A .d)) (now (A .p)) w ch) ∙ c .if3 .taken)

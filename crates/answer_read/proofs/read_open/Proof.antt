@@ -12,7 +12,7 @@ use Rattle.answer_plan.specs.Plan.{planned}
 use Rattle.answer_plan.specs.Sound.{SoundPlan}
 use Rattle.answer_plan.specs.Laws.Outcome.{refused-sound}
 use Rattle.tables.specs.Book.{entries}
-use Rattle.tables.specs.Laws.World.{inside}
+use Rattle.tables.specs.Laws.World.{known-entry, inside}
 use Rattle.answer_read.specs.Laws.Read.{granted-next, read-found, read-refused, read-sound}
 use borrow.Author.Tests.{not-true, not-false}
 use borrow.Author.Needs.{needs}
@@ -26,7 +26,7 @@ add-may-entry : tie.Need-add-may-entry
 add-may-entry c = let A = c .before .before .before .before .before .args in let E = entries (now (A .book)) in omega (arith, c .before .before .before .before .before .pre .1, c .before .before .before .before .before .pre .0 .2 .entries .fits .few-entries)
 
 may-entry-requires : tie.Need-may-entry-requires
-may-entry-requires c κs = let A = c .before .before .before .before .before .args in let E = entries (now (A .book)) in (omega (arith, c .before .before .before .before .before .pre .1, c .before .before .before .before .before .pre .0 .2 .entries .fits .few-entries), omega arith, (now (A .d), now (A .p), now (A .book), now (A .held), c .before .before .before .before .before .pre .0))
+may-entry-requires c κs = (omega arith, known-entry (c .before .before .before .before .before .pre .0) _ (omega (arith, c .before .before .before .before .before .pre .1)))
 
 found-requires : tie.Need-found-requires
 found-requires c κs = let A = c .before .before .before .before .before .before .args in let E = entries (now (A .book)) in omega (arith, c .before .before .before .before .before .before .pre .1, c .before .before .before .before .before .before .pre .0 .2 .entries .fits .few-entries)

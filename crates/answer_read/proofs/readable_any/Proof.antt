@@ -48,7 +48,7 @@ loop-holds : tie.Need-loop-holds Inv-loop μ-loop
 loop-holds c = let A = c .before .before .before .before .args in let b = now (A .book) in let k = A .k in let E = c .before .before .before .before .pre .0 .2 .entries in let r = rows-within E k (c .before .before .before .before .pre .1) in (omega arith, r .0, λ σ es s w ch. let z : firstAt b k - firstAt b k ≡ 0 = omega arith in rw z)
 
 readable-row-requires : tie.Need-readable-row-requires Inv-loop μ-loop
-readable-row-requires c κs = let A = c .before .before .before .before .before .before .args in let b = now (A .book) in let k = A .k in let E = c .before .before .before .before .before .before .pre .0 .2 .entries in let r = rows-within E k (c .before .before .before .before .before .before .pre .1) in let L = c .before .loop in let T : L .i < firstAt b (suc k) = omega (arith, c .loop-test .taken, end-is b k) in (c .before .before .before .before .before .before .pre .0, c .before .before .before .before .before .before .pre .1, L .inv .0, T)
+readable-row-requires c κs = let A = c .before .before .before .before .before .before .args in let b = now (A .book) in let k = A .k in let E = c .before .before .before .before .before .before .pre .0 .2 .entries in let r = rows-within E k (c .before .before .before .before .before .before .pre .1) in let L = c .before .loop in let T : L .i < firstAt b (suc k) = omega (arith, c .loop-test .taken, end-is b k) in (c .before .before .before .before .before .before .pre .0, c .before .before .before .before .before .before .pre .1, L .inv .0, T, c .before .before .before .before .before .before .pre .2)
 
 returns : tie.Need-returns Inv-loop μ-loop
 returns c = let A = c .before .before .before .before .before .before .before .before .args in let b = now (A .book) in let k = A .k in let E = c .before .before .before .before .before .before .before .before .pre .0 .2 .entries in let r = rows-within E k (c .before .before .before .before .before .before .before .before .pre .1) in let L = c .before .before .before .loop in let T : L .i < firstAt b (suc k) = omega (arith, c .before .before .loop-test .taken, end-is b k) in λ σ es s w ch. sym (any-here (rows-of (w .entries) k (c .before .before .before .before .before .before .before .before .pre .1)) (L .i) (L .inv .0) T (readable σ s (getD es k blank .name)) (sym (c .before .readable-row .ensures σ es s w ch) ∙ c .if1 .taken)) ∙ L .inv .2 σ es s w ch

@@ -10,10 +10,9 @@ use lib.ListN.{length-set}
 use Rattle.rules.specs.Directory.{Stored}
 use Rattle.rules.specs.Decision.{Setting}
 use Rattle.rules.specs.Filter.{Filter}
-use Rattle.rules.specs.Judge.{accept, Grammar}
-use Rattle.rules.specs.Request as Request
-use Rattle.rules.specs.Places.{linesAt}
+use Rattle.rules.specs.Judge.{Grammar}
 use Rattle.filter_lines.specs.Lines.{positionAt}
+use Rattle.filter_tree.specs.Tree.{FilterAt}
 use Rattle.tables.specs.Book.{width, entries}
 use Rattle.tables.specs.World.{World}
 use Rattle.answer_entry.specs.Passing.{Indices, passing}
@@ -23,7 +22,7 @@ use Rattle.answer_search.proofs.found.Statement.{statement}
 use Rattle.answer_search.proofs.found.Tie as tie
 
 abbrev Inv-loop : tie.InvT-loop
-Inv-loop book held sets d p q rows scope hits₀ count n₀ k₀ hits n k = (k ≤ entries book) × (length hits ≡ 256) × Indices k n hits₀ hits × ((σ : Setting) (es : List Stored) (g : Grammar) (f : Filter) → World σ es d p book held sets → Request.filter g 16 128 (linesAt (width book) q (positionAt rows 0)) (λ f left rest. accept f) ≡ accept f → take n hits ≡ passing (foundAt σ es (scope .base) (scope .subset) f) k)
+Inv-loop book held sets d p q rows scope hits₀ count n₀ k₀ hits n k = (k ≤ entries book) × (length hits ≡ 256) × Indices k n hits₀ hits × ((σ : Setting) (es : List Stored) (g : Grammar) (f : Filter) → World σ es d p book held sets → FilterAt g (width book) q (positionAt rows 0) f → take n hits ≡ passing (foundAt σ es (scope .base) (scope .subset) f) k)
 
 abbrev μ-loop : tie.MeasureT-loop
 μ-loop book held sets d p q rows scope hits₀ count n₀ k₀ hits n k = entries book - k
@@ -35,7 +34,7 @@ loop-holds : tie.Need-loop-holds Inv-loop μ-loop
 loop-holds c = (omega arith, c .before .before .before .before .pre .1, no-indices 0 _, λ σ es g f w h. unfold passing in refl)
 
 found-at-requires : tie.Need-found-at-requires Inv-loop μ-loop
-found-at-requires c κs = (c .before .before .before .before .before .before .pre .0, c .loop-test .taken, c .before .before .before .before .before .before .pre .2, c .before .before .before .before .before .before .pre .3, c .before .before .before .before .before .before .pre .4)
+found-at-requires c κs = (c .before .before .before .before .before .before .pre .0, c .loop-test .taken, c .before .before .before .before .before .before .pre .2, c .before .before .before .before .before .before .pre .3, c .before .before .before .before .before .before .pre .4, c .before .before .before .before .before .before .pre .5)
 
 mul-hits : tie.Need-mul-hits Inv-loop μ-loop
 mul-hits c = omega (arith, c .before .before .before .loop .inv .2 .few, c .before .before .loop-test .taken, c .before .before .before .before .before .before .before .before .pre .0 .2 .entries .fits .few-entries)

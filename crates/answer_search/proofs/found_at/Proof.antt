@@ -4,9 +4,8 @@ use native.Mathlib.Omega.{arith}
 use lib.ListN.{length}
 use denote.Ref.{now}
 use borrow.Author.Tests.{not-true, not-false}
-use Rattle.rules.specs.Request as Request
 use Rattle.tables.specs.Book.{entries}
-use Rattle.tables.specs.Laws.World.{inside}
+use Rattle.tables.specs.Laws.World.{known-entry, inside}
 use Rattle.answer_search.specs.Laws.Hits.{found-outside, found-withheld, found-asked}
 use Rattle.answer_search.proofs.found_at.Statement.{statement}
 use Rattle.answer_search.proofs.found_at.Tie as tie
@@ -24,13 +23,13 @@ add-returnable-2 : tie.Need-add-returnable-2
 add-returnable-2 c = let A = c .before .before .before .before .before .args in let k = A .k in let K = c .before .before .before .before .before .pre .0 .2 .entries in omega (arith, c .before .before .before .before .before .pre .1, K .fits .few-entries)
 
 returnable-requires : tie.Need-returnable-requires
-returnable-requires c κs = let A = c .before .before .before .before .before .before .args in let k = A .k in let K = c .before .before .before .before .before .before .pre .0 .2 .entries in (omega (arith, c .before .before .before .before .before .before .pre .1, K .fits .few-entries), (now (A .d), now (A .p), now (A .book), now (A .held), c .before .before .before .before .before .before .pre .0))
+returnable-requires c κs = known-entry (c .before .before .before .before .before .before .pre .0) _ (omega (arith, c .before .before .before .before .before .before .pre .1))
 
 returns-2 : tie.Need-returns-2
 returns-2 c = let A = c .before .before .before .before .before .before .before .before .args in let k = A .k in let K = c .before .before .before .before .before .before .before .before .pre .0 .2 .entries in λ σ es g f w h. let l : k + 1 ≤ length es = omega (arith, inside (w .entries) k (c .before .before .before .before .before .before .before .before .pre .1)) in found-withheld σ es (A .scope .base) (A .scope .subset) f k (sym (c .before .before .before .before .within .ensures σ es (now (A .d)) (now (A .held)) (w .entries)) ∙ not-false _ (c .before .before .before .if1 .left)) (sym (c .before .returnable .ensures σ es (now (A .d)) (now (A .p)) (now (A .book)) (now (A .held)) w l) ∙ not-true _ (c .if2 .taken))
 
 matches-requires : tie.Need-matches-requires
-matches-requires c κs = (c .before .before .before .before .before .before .before .before .pre .0, c .before .before .before .before .before .before .before .before .pre .2, c .before .before .before .before .before .before .before .before .pre .3, c .before .before .before .before .before .before .before .before .pre .1, c .before .before .before .before .before .before .before .before .pre .4)
+matches-requires c κs = (c .before .before .before .before .before .before .before .before .pre .0, c .before .before .before .before .before .before .before .before .pre .2, c .before .before .before .before .before .before .before .before .pre .3, c .before .before .before .before .before .before .before .before .pre .1, c .before .before .before .before .before .before .before .before .pre .4, c .before .before .before .before .before .before .before .before .pre .5)
 
 returns-3 : tie.Need-returns-3
 returns-3 c = let A = c .before .before .before .before .before .before .before .before .before .args in let k = A .k in let K = c .before .before .before .before .before .before .before .before .before .pre .0 .2 .entries in λ σ es g f w h. let l : k + 1 ≤ length es = omega (arith, inside (w .entries) k (c .before .before .before .before .before .before .before .before .before .pre .1)) in c .matches .ensures σ es g f w h ∙ found-asked σ es (A .scope .base) (A .scope .subset) f k (sym (c .before .before .before .before .before .within .ensures σ es (now (A .d)) (now (A .held)) (w .entries)) ∙ not-false _ (c .before .before .before .before .if1 .left)) (sym (c .before .before .returnable .ensures σ es (now (A .d)) (now (A .p)) (now (A .book)) (now (A .held)) w l) ∙ not-false _ (c .before .if2 .left))

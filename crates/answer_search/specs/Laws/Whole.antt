@@ -1,10 +1,12 @@
 -- Search as a whole: the plan of the entries found stands for the answer of the rules, and so does that of an absent base.
 use Prim.Native.Nat.{ℕ, _≤_}
-use mathlib.Core.Path.{_≡_, refl, sym, ap, ap₂, _∙_}
+use mathlib.Core.Path.{_≡_, refl, sym, ap, ap₂, _∙_, subst}
 use mathlib.Core.Bool.{Bool}
 use mathlib.Core.List.{List, map}
 use lib.ListN.{length, take}
 use Rattle.rules.specs.Lists.{gather}
+use Rattle.rules.specs.Sheet.{Bytes}
+use Rattle.rules.specs.Judge.{Grammar}
 use Rattle.rules.specs.Name.{Name}
 use Rattle.rules.specs.Directory.{Stored, entryOf, entries}
 use Rattle.rules.specs.Permission.{DiscloseOnError}
@@ -26,8 +28,13 @@ use Rattle.answer_entry.specs.Laws.Passing.{over-found}
 use Rattle.answer_entry.specs.Returned.{successPlan, returnedPlan}
 use Rattle.answer_entry.specs.Laws.Returned.{returned-planned}
 use Rattle.answer_entry.specs.Laws.Whole.{directoryOf, not-root, not-present, planned-absent, there, told-disclosed}
+use Rattle.filter_tree.specs.Tree.{FilterAt}
 use Rattle.answer_search.specs.Hits.{foundAt, searchFound}
 use Rattle.answer_search.specs.Laws.Hits.{search-hits}
+
+-- a filter is read where it stands
+pub read-at : (g : Grammar) (w : ℕ) (q : Bytes) (f : Filter) {i j : ℕ} → i ≡ j → FilterAt g w q j f → FilterAt g w q i f
+read-at g w q f e h = subst (λ (k : ℕ). FilterAt g w q k f) (sym e) h
 
 module _ (σ : Setting) (es : List Stored) (ok : Accepted (σ .schema) es) (n : Name) (base : Found) (missing : ℕ) (h : Base σ es n base missing) (plan : Plan) (hits : List ℕ) where
   -- the base is absent

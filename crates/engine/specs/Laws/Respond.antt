@@ -1,6 +1,6 @@
 -- Laws for an accepted request: from what is noted of it to the reply.
 use Prim.Native.Nat.{ℕ, _+_, _-_, _≤_}
-use mathlib.Core.Path.{_≡_, sym, ap, _∙_, subst}
+use mathlib.Core.Path.{_≡_, sym, ap, ap₂, _∙_, subst}
 use mathlib.Core.List.{List, _++_, map}
 use native.Mathlib.Omega.{arith}
 use lib.ListN.{length, getD, take, replicate, length-replicate, length-append}
@@ -33,8 +33,6 @@ use Rattle.tables.specs.Sets.{SETS, Rights}
 use Rattle.tables.specs.World.{Entries, World}
 use Rattle.tables.specs.Laws.Book.{schema-length, parents-length, parent-at}
 use Rattle.tables.specs.Laws.World.{parent-is}
-use Rattle.directory_lookup.specs.Find.{UpTo}
-use Rattle.directory_lookup.specs.Laws.Find.{up-to}
 use Rattle.access_scope.specs.Scopes.{Asker, reachesBy}
 use Rattle.access_scope.specs.Laws.Resolved.{reaches-are}
 use Rattle.access_scope.specs.declared.Requester as Scopes
@@ -44,20 +42,22 @@ use Rattle.access_items.specs.Laws.Rank.{length-orderOf, ranked-order}
 use Rattle.access_covers.specs.Noted.{rightsNoted}
 use Rattle.access_covers.specs.Sources.{Sources}
 use Rattle.access_covers.specs.Laws.Covers.{rights-size, rights-noted}
-use Rattle.answer_plan.specs.Sound.{Base, Numbered}
+use Rattle.answer_plan.specs.Sound.{Base}
 use Rattle.engine.specs.Judges.{DirectoryAt}
-
-pub numbered-of : (n : ℕ) (base : Found) (missing : ℕ) → UpTo n base → missing ≤ n → Numbered n base missing
-numbered-of n base missing u h = record { found = λ b e. up-to n base b u e; matched = h }
 
 -- ---- the name asked for
 
 module _ (σ : Setting) (es : List Stored) (w : ℕ) (q : Bytes) (n : Name) (place parts : ℕ) (noted : Requests.NotedName w q n place parts) where
-  pub base-of : (base : Found) (missing : ℕ) → base ≡ walk (σ .schema) es 0 (partsOf parts (linesAt w q place)) → nameAt es missing ≡ matchedName σ (map entryOf es) n (parts - 1)
-      → Base σ es n base missing
-  base-of base missing e m = record {
+  -- all parts of the name stand there
+  pub name-whole : length (partsOf parts (linesAt w q place)) ≡ parts
+  name-whole = ap length (noted .parts) ∙ noted .count
+
+  pub base-of : (base : Found) (missing : ℕ) → base ≡ walk (σ .schema) es 0 (partsOf parts (linesAt w q place))
+      → nameAt es missing ≡ matchedName σ (map entryOf es) (partsOf parts (linesAt w q place)) (parts - 1) → missing ≤ length es → Base σ es n base missing
+  base-of base missing e m l = record {
     walked = ap (λ (k : Name). walk (σ .schema) es 0 k) (sym (noted .parts)) ∙ sym e;
-    matched = m ∙ ap (λ (k : ℕ). matchedName σ (map entryOf es) n (k - 1)) (sym (noted .count));
+    matched = m ∙ ap₂ (λ (k : Name) (j : ℕ). matchedName σ (map entryOf es) k (j - 1)) (noted .parts) (sym (noted .count));
+    within = l;
   }
 
 -- ---- the requester

@@ -11,7 +11,7 @@ use Rattle.rules.specs.Decision.{Setting, Thing, granted}
 use Rattle.tables.specs.Book.{types, entries, schema, parentAt, firstAt}
 use Rattle.tables.specs.Held.{ROWS, rankAt, placeAt, sizeAt, HeldAt}
 use Rattle.tables.specs.Sets.{grantedAt}
-use Rattle.tables.specs.World.{EntryAt, Entries}
+use Rattle.tables.specs.World.{EntryAt, Entries, World, Known, KnownEntry, KnownTypes}
 use Rattle.tables.specs.Laws.Book.{schema-length}
 use Rattle.tables.specs.Laws.Held.{row-at}
 
@@ -47,3 +47,22 @@ module _ {σ : Setting} {es : List Stored} {d : Bytes} {book held : List ℕ} (h
 
     pub bytes-within : placeAt held i + sizeAt held i ≤ length d
     bytes-within = row-at rows-of i from to .within
+
+-- ---- what is known of the sets alone
+
+module _ {d p : Bytes} {book held sets : List ℕ} (h : Known d p book held sets) (e : ℕ) (l : e ≤ entries book) where
+  pub known-entry : KnownEntry sets e
+  known-entry = (h .0, h .1, d, p, book, held, h .2, omega (arith, l, h .2 .entries .count))
+
+  pub known-types : (n : ℕ) → n ≤ types book → KnownTypes sets e n
+  known-types n m = (h .0, h .1, d, p, book, held, h .2, omega (arith, l, h .2 .entries .count), omega (arith, m, schema-length (h .2 .entries .fits)))
+
+pub entry-most : {sets : List ℕ} {e : ℕ} → KnownEntry sets e → e ≤ 256
+entry-most (σ, es, d, p, book, held, w, l) = omega (arith, l, w .entries .count, w .entries .fits .few-entries)
+
+pub types-most : {sets : List ℕ} {e n : ℕ} → KnownTypes sets e n → (e ≤ 256) × (n ≤ 64)
+types-most (σ, es, d, p, book, held, w, l, m) =
+    (omega (arith, l, w .entries .count, w .entries .fits .few-entries), omega (arith, m, schema-length (w .entries .fits), w .entries .fits .few-types))
+
+pub types-fewer : {sets : List ℕ} {e n : ℕ} → KnownTypes sets e n → (m : ℕ) → m ≤ n → KnownTypes sets e m
+types-fewer (σ, es, d, p, book, held, w, l, h) m k = (σ, es, d, p, book, held, w, l, omega (arith, h, k))

@@ -13,7 +13,7 @@ emit-entry-requires : tie.Need-emit-entry-requires
 emit-entry-requires c κs = let P = c .before .before .before .before .pre in let W = P .0 .2 in ((P .0 .0, P .0 .1, now (c .before .before .before .before .args .held), W .entries), omega (arith, P .1), P .2)
 
 emit-information-requires : tie.Need-emit-information-requires
-emit-information-requires c κs = let P = c .before .before .before .before .before .before .before .before .pre in (P .0, P .3, omega (arith, P .1, c .before .before .before .emit-entry .ensures .0))
+emit-information-requires c κs = let P = c .before .before .before .before .before .before .before .before .pre in (P .0, P .3, omega (arith, P .1, c .before .before .before .emit-entry .ensures .0), P .4)
 
 returns : tie.Need-returns
 returns c = let a = c .before .before .before .before .before .before .before .before .before .before .before .args in

@@ -38,7 +38,7 @@ emit-found-requires c κs = let P = c .before .before .before .before .before .b
     let L = c .before .before .before .loop in
     let l = c .before .before .loop-test .taken in
     let k = P .3 (L .i) l in
-    (P .0, omega (arith, L .inv .2, l, P .1, P .2), omega (arith, k), omega (arith, k))
+    (P .0, omega (arith, L .inv .2, l, P .1, P .2), omega (arith, k), omega (arith, k), P .4)
 
 add-i : tie.Need-add-i Inv-loop μ-loop
 add-i c = omega (arith, c .before .before .before .before .before .loop-test .taken, c .before .before .before .before .before .before .before .before .before .before .before .pre .2)

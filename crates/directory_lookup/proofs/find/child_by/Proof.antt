@@ -16,16 +16,16 @@ loop-holds : tie.Need-loop-holds Inv-loop μ-loop
 loop-holds c = sought-start _ _ _ _ _ _
 
 is-child-requires : tie.Need-is-child-requires Inv-loop μ-loop
-is-child-requires c κs = (c .before .before .before .before .before .pre, c .loop-test .taken)
+is-child-requires c κs = (c .before .before .before .before .before .pre .0, c .loop-test .taken)
 
 returns : tie.Need-returns Inv-loop μ-loop
-returns c = (omega (arith, c .before .before .loop-test .taken), sought-here _ _ _ _ _ _ (c .before .before .before .loop .i) (c .before .before .before .loop .inv) (c .before .before .loop-test .taken) (sym (c .before .is-child .ensures) ∙ c .if1 .taken))
+returns c = (omega (arith, c .before .before .loop-test .taken), λ σ es held h. sought-here _ _ _ _ _ _ (c .before .before .before .loop .i) (c .before .before .before .loop .inv) (c .before .before .loop-test .taken) (sym (c .before .is-child .ensures) ∙ c .if1 .taken) σ es held h (c .before .before .before .before .before .before .before .pre .1))
 
 loop-again : tie.Need-loop-again Inv-loop μ-loop
 loop-again c = sought-on _ _ _ _ _ _ (c .before .before .before .loop .i) (c .before .before .before .loop .inv) (c .before .before .loop-test .taken) (sym (c .before .is-child .ensures) ∙ c .if1 .left)
 
 returns-2 : tie.Need-returns-2 Inv-loop μ-loop
-returns-2 c = (tt, sought-end _ _ _ _ _ _ (c .before .loop .i) (c .before .loop .inv) (c .loop-test .left))
+returns-2 c = (tt, λ σ es held h. sought-end _ _ _ _ _ _ (c .before .loop .i) (c .before .loop .inv) (c .loop-test .left) σ es held h (c .before .before .before .before .before .pre .1))
 
 pub child-by-spec : {M : Type 1} → statement M
 child-by-spec =

@@ -21,6 +21,9 @@ returns c = let A = c .before .before .before .before .before .before .before .b
     replies-refused (k .result .refusal) _ (now (A .out)) (c .refused .result) (c .refused .ensures)
     (request-refuses f k₀ g q (length (now (A .out))) (k .result .refusal) (judged-refused f q (k .result) (k .ensures) (c .before .if1 .taken)))
 
+within-requires : tie.Need-within-requires
+within-requires c κs = let A = c .before .before .before .before .before .before .before .before .before .before .args in let f = A .terms .format in let k = c .before .before .judge in let J = judged-accepted f (now (A .q)) (k .result) (k .ensures) (c .if1 .left) in (requestGrammar (f .top), f .width, now (A .q), J .0, J .2)
+
 note-sets-requires : tie.Need-note-sets-requires
 note-sets-requires c κs = let A = c .before .before .before .before .before .before .before .before .before .before .before .before .args in let f = A .terms .format in let k₀ = A .terms .limits in let W = width (now (A .book)) in let q = now (A .q) in let k = c .before .before .before .before .judge in let g = c .before .before .before .before .before .before .before .before .before .before .before .before .pre .0 in let G = c .before .before .before .before .before .before .before .before .before .before .before .before .pre .1 in
     let J = judged-accepted f q (k .result) (k .ensures) (c .before .before .if1 .left) in
@@ -50,5 +53,5 @@ returns-2 c = let A = c .before .before .before .before .before .before .before 
 pub requested-spec : {M : Type 1} → statement M
 requested-spec =
     tie.close
-    (tie.spec judge-requires (λ c κs. search needs) returns (λ c κs. search needs) note-sets-requires
+    (tie.spec judge-requires (λ c κs. search needs) returns within-requires note-sets-requires
     respond-requires (λ c. search needs) returns-2)

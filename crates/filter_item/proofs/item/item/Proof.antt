@@ -27,7 +27,7 @@ returns c =
     λ σ es asked e s w. item-beyond σ es (now (A .d)) (now (A .book)) (now (A .held)) e (A .k) (omega (arith, P .1, e .count)) kind t rank v ps (P .3 .rank (A .line) (P .4)) (c .if1 .taken)
 
 satisfied-requires : tie.Need-satisfied-requires
-satisfied-requires c κs = let P = c .before .before .before .before .before .before .before .before .before .before .pre in (values-within (P .0 .2) (c .before .before .before .before .before .before .before .before .before .before .args .k) (P .1), P .2, P .4)
+satisfied-requires c κs = let P = c .before .before .before .before .before .before .before .before .before .before .pre in (values-within (P .0 .3) (c .before .before .before .before .before .before .before .before .before .before .args .k) (P .1), P .2, P .4)
 
 returns-2 : tie.Need-returns-2
 returns-2 c =

@@ -8,6 +8,7 @@ use Rattle.rules.specs.Directory.{Stored}
 use Rattle.rules.specs.Decision.{Setting}
 use Rattle.tables.specs.Book.{schema}
 use Rattle.tables.specs.World.{World}
+use Rattle.tables.specs.Laws.World.{types-most, types-fewer}
 use Rattle.filter_item.specs.Matchable.{MatchableTypes}
 use Rattle.filter_item.specs.Laws.Matchable.{Clear, clear-none, clear-on, types-none, types-on}
 use borrow.Author.Needs.{needs}
@@ -24,10 +25,10 @@ loop-holds : tie.Need-loop-holds Inv-loop μ-loop
 loop-holds c = (omega arith, clear-none, λ σ es d p book held w l m. types-none σ es book (c .args .e) (c .args .asked))
 
 type-matchable-requires : tie.Need-type-matchable-requires Inv-loop μ-loop
-type-matchable-requires c κs = let n = c .before .before .pre .1 in let t = c .loop-test .taken in (c .before .before .pre .0, omega (arith, n, t), c .before .before .pre .2)
+type-matchable-requires c κs = types-fewer (c .before .before .pre) _ (c .loop-test .taken)
 
 loop-again : tie.Need-loop-again Inv-loop μ-loop
-loop-again c = let r = c .before .before .before .loop .r in let s : r < 64 = omega (arith, c .before .before .before .before .pre .1, c .before .before .loop-test .taken) in (omega (arith, c .before .before .loop-test .taken), clear-on (c .before .before .before .loop .x) (c .bit-if .result) (c .before .type-matchable .result) r s (c .bit-if .ensures) (c .before .before .before .loop .inv .1), λ σ es d p book held w l m. types-on (c .before .before .before .loop .x) (c .bit-if .result) (c .before .type-matchable .result) r s (c .bit-if .ensures) σ es book (c .before .before .before .before .args .e) (c .before .before .before .before .args .asked) (c .before .before .before .loop .inv .1) (c .before .type-matchable .ensures σ es d p book held w l (omega (arith, m, c .before .before .loop-test .taken))) (c .before .before .before .loop .inv .2 σ es d p book held w l m))
+loop-again c = let r = c .before .before .before .loop .r in let s : r < 64 = omega (arith, types-most (c .before .before .before .before .pre) .1, c .before .before .loop-test .taken) in (omega (arith, c .before .before .loop-test .taken), clear-on (c .before .before .before .loop .x) (c .bit-if .result) (c .before .type-matchable .result) r s (c .bit-if .ensures) (c .before .before .before .loop .inv .1), λ σ es d p book held w l m. types-on (c .before .before .before .loop .x) (c .bit-if .result) (c .before .type-matchable .result) r s (c .bit-if .ensures) σ es book (c .before .before .before .before .args .e) (c .before .before .before .before .args .asked) (c .before .before .before .loop .inv .1) (c .before .type-matchable .ensures σ es d p book held w l (omega (arith, m, c .before .before .loop-test .taken))) (c .before .before .before .loop .inv .2 σ es d p book held w l m))
 
 returns : tie.Need-returns Inv-loop μ-loop
 returns c = λ σ es d p book held w l m. let z : c .before .loop .r ≡ c .before .before .args .n = omega (arith, c .before .loop .inv .0, c .loop-test .left) in subst (λ (r : ℕ). MatchableTypes σ es book (c .before .before .args .e) (c .before .before .args .asked) r (c .before .loop .x)) z (c .before .loop .inv .2 σ es d p book held w l m)

@@ -36,7 +36,7 @@ may-value-requires c κs =
     let P = c .before .before .before .before .before .before .pre in
     let A = c .before .before .before .before .before .before .args in
     let E = P .0 .2 .entries in
-    (omega (arith, P .1, E .fits .few-entries), rank-within E (A .k) (P .1) (A .i) (P .2) (P .3), omega arith, (now (A .d), now (A .held), P .0))
+    (omega (arith, P .1), rank-within E (A .k) (P .1) (A .i) (P .2) (P .3), omega arith, (now (A .d), now (A .held), P .0))
 
 returns : tie.Need-returns
 returns c =
@@ -44,7 +44,7 @@ returns c =
     let A = c .before .before .before .before .before .before .before .args in
     let t = typeAt (schema (now (A .book))) (rankAt (now (A .held)) (A .i)) in
     λ σ es w.
-    c .may-value .ensures σ es (now (A .d)) (now (A .held)) w (omega (arith, P .1, w .entries .count))
+    c .may-value .ensures σ es (now (A .d)) (now (A .held)) w
     ∙ ap₂ (λ (e : ℕ) (v : Bytes). grantedAt σ es e (ofValue t v) FilterMatch) (add-one (A .k)) (c .before .bytes .ensures)
     ∙ ap (λ (b : Bool). b && grantedAt σ es (suc (A .k)) (ofValue t (bytesAt (now (A .d)) (now (A .held)) (A .i))) FilterMatch) (sym (c .before .before .if1 .taken) ∙ c .before .before .before .in-word .ensures)
 

@@ -19,10 +19,12 @@ ask-requires : tie.Need-ask-requires
 ask-requires c κs = (c .before .before .before .pre .0, c .before .before .before .pre .3)
 
 note-truths-requires : tie.Need-note-truths-requires
-note-truths-requires c κs = ((c .before .before .before .before .before .before .pre .0 .0, c .before .before .before .before .before .before .pre .0 .1, c .before .before .before .before .before .before .pre .0 .2 .entries), c .before .before .before .before .before .before .pre .3, c .before .before .before .before .before .before .pre .1 .placed, c .before .before .before .before .before .before .pre .2)
+note-truths-requires c κs = let P = c .before .before .before .before .before .before .pre in let K = P .0 in
+    ((K .0, K .1, c .before .before .before .before .before .before .args .asked, K .2 .entries, c .before .before .ask .ensures (K .0) (K .1) (K .2), P .4), P .3, P .1 .placed, P .2)
 
 evaluate-requires : tie.Need-evaluate-requires
-evaluate-requires c κs = (c .before .before .before .before .before .before .before .before .before .pre .1 .placed .room, omega arith)
+evaluate-requires c κs = let A = c .before .before .before .before .before .before .before .before .before .args in let P = c .before .before .before .before .before .before .before .before .before .pre in let K = P .0 in
+    ((width (now (A .book)), now (A .q), itemTruth (K .0) (entryOf (getD (K .1) (A .k) blank)), P .1, c .before .before .note-truths .ensures (K .0) (K .1) (A .asked) (K .2 .entries) (c .before .before .before .before .before .ask .ensures (K .0) (K .1) (K .2)) (P .4)), omega arith)
 
 returns : tie.Need-returns
 unfolding matchesAt

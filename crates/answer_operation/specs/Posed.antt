@@ -1,0 +1,29 @@
+-- A request put to the tables: what is noted of it, what it selects, and the name that it asks for.
+use Prim.Native.Nat.{ℕ}
+use mathlib.Core.List.{List}
+use Rattle.rules.specs.Sheet.{Bytes}
+use Rattle.rules.specs.Directory.{Stored}
+use Rattle.rules.specs.Decision.{Setting}
+use Rattle.rules.specs.Judge.{Grammar}
+use Rattle.rules.specs.Request.{Request}
+use Rattle.request_sheet.specs.Noted.{RequestNoted}
+use Rattle.request_sheet.specs.declared.Asked.{Asked}
+use Rattle.tables.specs.Book.{width, schema}
+use Rattle.tables.specs.World.{World}
+use Rattle.answer_plan.specs.declared.Choice.{Choice}
+use Rattle.answer_plan.specs.Choice.{Chooses}
+use Rattle.answer_plan.specs.Sound.{Base}
+use Rattle.answer_choice.specs.Selected.{selectionOf}
+use Rattle.answer_entry.specs.declared.Target.{Target}
+
+-- the request `x` in a world, `G` being the grammar of requests
+pub record Posed (σ : Setting) (es : List Stored) (G : Grammar) (x : Request) (d p q : Bytes) (book held sets : List ℕ) (asked : Asked) (target : Target) (choice : Choice) : Type 0 where
+  pub world : World σ es d p book held sets
+  pub noted : RequestNoted G (width book) q x asked
+  pub chosen : Chooses (schema book) (selectionOf (x .operation)) choice
+  pub named : Base σ es (x .base) (target .base) (target .missing)
+
+-- some request is
+abbrev pub KnownRequest : Bytes → Bytes → Bytes → List ℕ → List ℕ → List ℕ → Asked → Target → Choice → Type 0
+KnownRequest d p q book held sets asked target choice =
+    (σ : Setting) × (es : List Stored) × (G : Grammar) × (x : Request) × Posed σ es G x d p q book held sets asked target choice
