@@ -27,7 +27,7 @@ ghost use Rattle.tables.specs.Book as Book;
 ghost use Rattle.tables.specs.Held.{ROWS, typeAt};
 ghost use Rattle.tables.specs.World.{World, Known};
 ghost use Rattle.answer_line.specs.Emit.{Emits};
-ghost use Rattle.answer_line.specs.Room.{farthest, lineRoom, informationRoom};
+ghost use Rattle.answer_line.specs.Room.{answerRoom, lineRoom, informationRoom};
 ghost use Rattle.answer_plan.specs.Plan.{informationAt};
 ghost use Rattle.answer_plan.specs.Choice.{Chooses, KnownChoice, KnownChoiceAt};
 ghost use Rattle.answer_information.specs.Information as Information;
@@ -64,7 +64,7 @@ fn emit_run(
     e: usize,
     run: Run,
 ) -> usize
-    requires { ⌜ Known (now d) (now p) (now book) (now held) (now sets) × RunOf (now book) e run × (at + (run .end - run .first + 1) * lineRoom ≤ farthest) × KnownChoice (Book.schema (now book)) choice ⌝ }
+    requires { ⌜ Known (now d) (now p) (now book) (now held) (now sets) × RunOf (now book) e run × (at + (run .end - run .first + 1) * lineRoom ≤ answerRoom) × KnownChoice (Book.schema (now book)) choice ⌝ }
     ensures { λ r. ⌜ (r ≤ at + (run .end - run .first + 1) * lineRoom) × ((σ : Setting) (es : List Stored) (s : Selection) → World σ es (now (d .entry)) (now (p .entry)) (now (book .entry)) (now (held .entry)) (now (sets .entry)) → Chooses (Book.schema (now (book .entry))) s choice → Emits (width (now (book .entry))) (now (out .entry)) at (returned σ s (nameAt es e) (heldBy (now (d .entry)) (now (book .entry)) (now (held .entry)) run)) (now (out .exit)) r) ⌝ }
 {
     if shown(sets, choice, e, run.rank) {
@@ -114,7 +114,7 @@ fn emit_runs(
     choice: Choice,
     e: usize,
 ) -> usize
-    requires { ⌜ Known (now d) (now p) (now book) (now held) (now sets) × (1 ≤ e) × (e ≤ entries (now book)) × (at + informationRoom ≤ farthest) × KnownChoice (Book.schema (now book)) choice ⌝ }
+    requires { ⌜ Known (now d) (now p) (now book) (now held) (now sets) × (1 ≤ e) × (e ≤ entries (now book)) × (at + informationRoom ≤ answerRoom) × KnownChoice (Book.schema (now book)) choice ⌝ }
     ensures { λ r. ⌜ (r ≤ at + informationRoom) × ((σ : Setting) (es : List Stored) (s : Selection) → World σ es (now (d .entry)) (now (p .entry)) (now (book .entry)) (now (held .entry)) (now (sets .entry)) → Chooses (Book.schema (now (book .entry))) s choice → Emits (width (now (book .entry))) (now (out .entry)) at (informationAt σ es s e) (now (out .exit)) r) ⌝ }
 {
     let end = book[FIRST + e] as usize;
@@ -144,7 +144,7 @@ pub fn emit_information(
     choice: Choice,
     e: usize,
 ) -> usize
-    requires { ⌜ Known (now d) (now p) (now book) (now held) (now sets) × (e ≤ entries (now book)) × (at + informationRoom ≤ farthest) × KnownChoice (Book.schema (now book)) choice ⌝ }
+    requires { ⌜ Known (now d) (now p) (now book) (now held) (now sets) × (e ≤ entries (now book)) × (at + informationRoom ≤ answerRoom) × KnownChoice (Book.schema (now book)) choice ⌝ }
     ensures { λ r. ⌜ (r ≤ at + informationRoom) × ((σ : Setting) (es : List Stored) (s : Selection) → World σ es (now (d .entry)) (now (p .entry)) (now (book .entry)) (now (held .entry)) (now (sets .entry)) → Chooses (Book.schema (now (book .entry))) s choice → Emits (width (now (book .entry))) (now (out .entry)) at (informationAt σ es s e) (now (out .exit)) r) ⌝ }
 {
     if e == 0 {

@@ -21,7 +21,7 @@ ghost use Rattle.tables.specs.Book.{width, types, entries, schema};
 ghost use Rattle.tables.specs.Held.{ROWS, typeAt};
 ghost use Rattle.tables.specs.World.{World, Known};
 ghost use Rattle.answer_line.specs.Emit.{Emits};
-ghost use Rattle.answer_line.specs.Room.{farthest, lineRoom};
+ghost use Rattle.answer_line.specs.Room.{answerRoom, lineRoom};
 ghost use Rattle.answer_information.specs.Information.{RunOf, rowValues, readable, Counted};
 
 // The place after the values written so far, and how many they are.
@@ -41,7 +41,7 @@ fn emit_value(
     rank: usize,
     v: &[u8],
 ) -> Written
-    requires { ⌜ ((d : Bytes) × (held : List ℕ) × Known d (now p) (now book) held (now sets)) × (1 ≤ e) × (e ≤ entries (now book)) × (rank < types (now book)) × (length (now v) ≤ 65536) × (st .next + lineRoom ≤ farthest) × (st .count ≤ ROWS) ⌝ }
+    requires { ⌜ ((d : Bytes) × (held : List ℕ) × Known d (now p) (now book) held (now sets)) × (1 ≤ e) × (e ≤ entries (now book)) × (rank < types (now book)) × (length (now v) ≤ 65536) × (st .next + lineRoom ≤ answerRoom) × (st .count ≤ ROWS) ⌝ }
     ensures { λ r. ⌜ (r .next ≤ st .next + lineRoom) × (r .count ≤ st .count + 1) × ((σ : Setting) (es : List Stored) (d : Bytes) (held : List ℕ) → World σ es d (now (p .entry)) (now (book .entry)) held (now (sets .entry)) → Counted (width (now (book .entry))) (now (out .entry)) st (readable σ (nameAt es e) (typeAt (schema (now (book .entry))) rank) (now (v .entry) ∷ [])) (now (out .exit)) r) ⌝ }
 {
     if may_value(book, sets, p, e, rank, v, READ) {
@@ -66,7 +66,7 @@ fn emit_values(
     e: usize,
     run: Run,
 ) -> Written
-    requires { ⌜ Known (now d) (now p) (now book) (now held) (now sets) × RunOf (now book) e run × (at + (run .end - run .first) * lineRoom ≤ farthest) ⌝ }
+    requires { ⌜ Known (now d) (now p) (now book) (now held) (now sets) × RunOf (now book) e run × (at + (run .end - run .first) * lineRoom ≤ answerRoom) ⌝ }
     ensures { λ r. ⌜ (r .next ≤ at + (run .end - run .first) * lineRoom) × ((σ : Setting) (es : List Stored) → World σ es (now (d .entry)) (now (p .entry)) (now (book .entry)) (now (held .entry)) (now (sets .entry)) → Counted (width (now (book .entry))) (now (out .entry)) (record { next = at; count = 0 }) (readable σ (nameAt es e) (typeAt (schema (now (book .entry))) (run .rank)) (rowValues (now (d .entry)) (now (held .entry)) (run .first) (run .end - run .first))) (now (out .exit)) r) ⌝ }
 {
     let mut st = Written { next: at, count: 0 };
@@ -92,7 +92,7 @@ pub(crate) fn emit_readable(
     e: usize,
     run: Run,
 ) -> usize
-    requires { ⌜ Known (now d) (now p) (now book) (now held) (now sets) × RunOf (now book) e run × (at + (run .end - run .first + 1) * lineRoom ≤ farthest) ⌝ }
+    requires { ⌜ Known (now d) (now p) (now book) (now held) (now sets) × RunOf (now book) e run × (at + (run .end - run .first + 1) * lineRoom ≤ answerRoom) ⌝ }
     ensures { λ r. ⌜ (r ≤ at + (run .end - run .first + 1) * lineRoom) × ((σ : Setting) (es : List Stored) → World σ es (now (d .entry)) (now (p .entry)) (now (book .entry)) (now (held .entry)) (now (sets .entry)) → Emits (width (now (book .entry))) (now (out .entry)) at (valueLines (typeAt (schema (now (book .entry))) (run .rank)) (readable σ (nameAt es e) (typeAt (schema (now (book .entry))) (run .rank)) (rowValues (now (d .entry)) (now (held .entry)) (run .first) (run .end - run .first)))) (now (out .exit)) r) ⌝ }
 {
     let w = book[WIDTH] as usize;

@@ -1,9 +1,6 @@
--- The most bytes that each part of an answer has. A function that writes a part is called where the part ends before `farthest`, so that every place is
--- a number of 64 bits.
-use Prim.Native.Nat.{ℕ, _+_, _*_, _/_, _^_}
-
-abbrev pub farthest : ℕ
-farthest = 2 ^ 62
+-- The most bytes that each part of an answer has, and the whole of it. A function that writes a part is called where the part ends within the room of the
+-- whole, which is below 2 ^ 64: so every place is a number of 64 bits.
+use Prim.Native.Nat.{ℕ, _+_, _*_, _/_}
 
 -- a line: five columns of at most 18 bytes, bytes that stand on a sheet of at most 65,536, and its end
 abbrev pub lineRoom : ℕ
@@ -20,3 +17,7 @@ informationRoom = (65536 / 31 + 1) * (2 * lineRoom)
 -- an entry found
 abbrev pub foundRoom : ℕ
 foundRoom = nameRoom + informationRoom
+
+-- an answer: K 30, and 256 entries found at most
+abbrev pub answerRoom : ℕ
+answerRoom = lineRoom + 256 * foundRoom

@@ -7,7 +7,7 @@ ghost use lib.ListN.{length};
 ghost use Rattle.rules.specs.Sheet.{line};
 ghost use Rattle.sheet_kind.specs.Kinds.{numberOf};
 ghost use Rattle.answer_line.specs.Emit.{Emits};
-ghost use Rattle.answer_line.specs.Room.{farthest};
+ghost use Rattle.answer_line.specs.Room.{answerRoom};
 
 // One line from `at` on where it fits, else nothing; the place after it in either case.
 pub fn emit(
@@ -20,7 +20,7 @@ pub fn emit(
     c: u64,
     bytes: &[u8],
 ) -> usize
-    requires { ⌜ (1 ≤ w) × (w ≤ 18) × (at + length (now bytes) ≤ farthest) ⌝ }
+    requires { ⌜ (1 ≤ w) × (w ≤ 18) × (at + length (now bytes) ≤ answerRoom) ⌝ }
     ensures { λ r. ⌜ Emits w (now (out .entry)) at (line (numberOf kind) a b c (now (bytes .entry)) ∷ []) (now (out .exit)) r ⌝ }
 {
     let end = at + (5 * w + 1 + bytes.len());

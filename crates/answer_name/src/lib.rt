@@ -20,12 +20,12 @@ ghost use Rattle.sheet_kind.specs.declared.Kind.the-variants.{Child};
 ghost use Rattle.tables.specs.Book.{width, entries};
 ghost use Rattle.tables.specs.World.{Entries, Listed};
 ghost use Rattle.answer_line.specs.Emit.{Emits};
-ghost use Rattle.answer_line.specs.Room.{farthest, lineRoom, nameRoom};
+ghost use Rattle.answer_line.specs.Room.{answerRoom, lineRoom, nameRoom};
 ghost use Rattle.answer_name.specs.Name.{namingLine};
 
 // A line of a kind with the naming part of the entry of index `k`, its bytes a part of the directory `d`.
 fn emit_part(out: &mut [u8], at: usize, book: &[u64; BOOK], d: &[u8], k: usize, kind: Kind) -> usize
-    requires { ⌜ Listed (now d) (now book) × (at + lineRoom ≤ farthest) × (k < entries (now book)) ⌝ }
+    requires { ⌜ Listed (now d) (now book) × (at + lineRoom ≤ answerRoom) × (k < entries (now book)) ⌝ }
     ensures { λ r. ⌜ (r ≤ at + lineRoom) × ((σ : Setting) (es : List Stored) (held : List ℕ) → Entries σ es (now (d .entry)) (now (book .entry)) held → Emits (width (now (book .entry))) (now (out .entry)) at (namingLine (numberOf kind) (getD es k blank) ∷ []) (now (out .exit)) r) ⌝ }
 {
     let w = book[WIDTH] as usize;
@@ -43,7 +43,7 @@ fn emit_part(out: &mut [u8], at: usize, book: &[u64; BOOK], d: &[u8], k: usize, 
 
 // The K 32 line of the entry of index `k`: its naming part.
 pub fn emit_child(out: &mut [u8], at: usize, book: &[u64; BOOK], d: &[u8], k: usize) -> usize
-    requires { ⌜ Listed (now d) (now book) × (at + lineRoom ≤ farthest) × (k < entries (now book)) ⌝ }
+    requires { ⌜ Listed (now d) (now book) × (at + lineRoom ≤ answerRoom) × (k < entries (now book)) ⌝ }
     ensures { λ r. ⌜ (r ≤ at + lineRoom) × ((σ : Setting) (es : List Stored) (held : List ℕ) → Entries σ es (now (d .entry)) (now (book .entry)) held → Emits (width (now (book .entry))) (now (out .entry)) at (namingLine (numberOf Child) (getD es k blank) ∷ []) (now (out .exit)) r) ⌝ }
 {
     emit_part(out, at, book, d, k, Kind::Child)
@@ -65,7 +65,7 @@ pub fn depth(book: &[u64; BOOK], e: usize) -> usize
 
 // The K 9 lines of the full name of entry number `e`, from depth 1 down; the root has none.
 pub fn emit_name(out: &mut [u8], at: usize, book: &[u64; BOOK], d: &[u8], e: usize) -> usize
-    requires { ⌜ Listed (now d) (now book) × (at + e * lineRoom ≤ farthest) × (e ≤ entries (now book)) ⌝ }
+    requires { ⌜ Listed (now d) (now book) × (at + e * lineRoom ≤ answerRoom) × (e ≤ entries (now book)) ⌝ }
     ensures { λ r. ⌜ (r ≤ at + e * lineRoom) × ((σ : Setting) (es : List Stored) (held : List ℕ) → Entries σ es (now (d .entry)) (now (book .entry)) held → Emits (width (now (book .entry))) (now (out .entry)) at (nameLines (nameAt es e)) (now (out .exit)) r) ⌝ }
 {
     if e == 0 {
@@ -78,7 +78,7 @@ pub fn emit_name(out: &mut [u8], at: usize, book: &[u64; BOOK], d: &[u8], e: usi
 
 // The K 33 line of entry number `e`, with the number of parts of its full name, and the name.
 pub fn emit_entry(out: &mut [u8], at: usize, book: &[u64; BOOK], d: &[u8], e: usize) -> usize
-    requires { ⌜ Listed (now d) (now book) × (at + nameRoom ≤ farthest) × (e ≤ entries (now book)) ⌝ }
+    requires { ⌜ Listed (now d) (now book) × (at + nameRoom ≤ answerRoom) × (e ≤ entries (now book)) ⌝ }
     ensures { λ r. ⌜ (r ≤ at + nameRoom) × ((σ : Setting) (es : List Stored) (held : List ℕ) → Entries σ es (now (d .entry)) (now (book .entry)) held → Emits (width (now (book .entry))) (now (out .entry)) at (entryLines (nameAt es e)) (now (out .exit)) r) ⌝ }
 {
     let parts = depth(book, e);

@@ -33,7 +33,7 @@ ghost use Rattle.tables.specs.Book as Book;
 ghost use Rattle.tables.specs.Book.{width};
 ghost use Rattle.tables.specs.World.{World, Known};
 ghost use Rattle.answer_line.specs.Emit.{Emits};
-ghost use Rattle.answer_line.specs.Room.{farthest, foundRoom};
+ghost use Rattle.answer_line.specs.Room.{answerRoom, foundRoom};
 ghost use Rattle.answer_plan.specs.Plan.{successLines, planned};
 ghost use Rattle.answer_plan.specs.Sound.{SoundPlan};
 ghost use Rattle.answer_plan.specs.Choice.{Chooses, KnownChoice};
@@ -64,7 +64,7 @@ fn emit_success(
     hits: &[usize; 256],
     choice: Choice,
 ) -> usize
-    requires { ⌜ Known (now d) (now p) (now book) (now held) (now sets) × SoundPlan (Book.entries (now book)) plan (now hits) × (at + 256 * foundRoom ≤ farthest) × KnownChoice (Book.schema (now book)) choice ⌝ }
+    requires { ⌜ Known (now d) (now p) (now book) (now held) (now sets) × SoundPlan (Book.entries (now book)) plan (now hits) × (at + 256 * foundRoom ≤ answerRoom) × KnownChoice (Book.schema (now book)) choice ⌝ }
     ensures { λ r. ⌜ ((σ : Setting) (es : List Stored) (s : Selection) → World σ es (now (d .entry)) (now (p .entry)) (now (book .entry)) (now (held .entry)) (now (sets .entry)) → Chooses (Book.schema (now (book .entry))) s choice → Emits (width (now (book .entry))) (now (out .entry)) at (successLines σ es s plan (now (hits .entry))) (now (out .exit)) r) ⌝ }
 {
     if plan.operation == operation::READ {
