@@ -1,4 +1,5 @@
-// Search: the entries of the subset that the filter is true of, by number. The filter's lines are read once; permissions are asked before it is judged.
+// Search: the entries of the subset that the filter is true of, by number. The filter's lines are read once; it is judged of an entry only after the
+// permissions on the entry, as `matches` demands.
 use access_may::may_entry;
 use answer_entry::Target;
 use answer_entry::returnable;
@@ -6,6 +7,7 @@ use answer_entry::returned;
 use answer_plan::Plan;
 use answer_plan::absent;
 use directory_lookup::climb::climbs;
+use filter_item::extent::Extent;
 use filter_item::mask::mask;
 use filter_lines::lines::FILTER;
 use filter_lines::lines::note;
@@ -38,12 +40,13 @@ ghost use Rattle.rules.specs.Answer.{answer};
 ghost use Rattle.rules.specs.Numbers.{withinNumber};
 ghost use Rattle.tables.specs.Book.{width, entries};
 ghost use Rattle.tables.specs.Book as Book;
-ghost use Rattle.tables.specs.World.{World, Entries, Known};
+ghost use Rattle.tables.specs.World.{World, Entries};
 ghost use Rattle.answer_plan.specs.Plan.{planned};
 ghost use Rattle.answer_plan.specs.Sound.{Base, KnownBase, SoundPlan};
 ghost use Rattle.answer_entry.specs.Passing.{Indices, passing, over};
 ghost use Rattle.filter_lines.specs.Lines.{LINES, LinesNoted, Typed, positionAt};
 ghost use Rattle.filter_item.specs.Mask.{Masks};
+ghost use Rattle.filter_item.specs.Candidate.{Searched};
 ghost use Rattle.filter_tree.specs.Tree.{FilterAt, KnownFilter};
 ghost use Rattle.answer_search.specs.Hits.{foundAt, searchFound};
 ghost use Rattle.answer_search.specs.Query.{Seeks, KnownQuery};
@@ -53,14 +56,6 @@ pub struct Query {
     pub limit: u64,
     pub subset: u64,
     pub filter: usize,
-}
-
-// Where it is sought: the base's number, the subset, and of the filter how many lines it has and the ranks of its types.
-pub struct Extent {
-    pub base: usize,
-    pub subset: u64,
-    pub lines: usize,
-    pub ranks: u64,
 }
 
 // Is the entry of index `k` in the subset of base number `b`?
@@ -86,19 +81,19 @@ fn found_at(
     p: &[u8],
     q: &[u8],
     rows: &[u64; FILTER],
-    scope: Extent,
+    extent: Extent,
     k: usize,
 ) -> bool
-    requires { ⌜ Known (now d) (now p) (now book) (now held) (now sets) × (k < entries (now book)) × LinesNoted (width (now book)) (now q) (now rows) (scope .lines) × Typed (Book.schema (now book)) (now rows) (scope .lines) × Masks (now rows) (scope .lines) (scope .ranks) × KnownFilter (width (now book)) (now q) (positionAt (now rows) 0) ⌝ }
-    ensures { λ r. ⌜ ((σ : Setting) (es : List Stored) (g : Grammar) (f : Filter) → World σ es (now (d .entry)) (now (p .entry)) (now (book .entry)) (now (held .entry)) (now (sets .entry)) → FilterAt g (width (now (book .entry))) (now (q .entry)) (positionAt (now (rows .entry)) 0) f → r ≡ foundAt σ es (scope .base) (scope .subset) f k) ⌝ }
+    requires { ⌜ Searched (now d) (now p) (now book) (now held) (now sets) extent × (k < entries (now book)) × LinesNoted (width (now book)) (now q) (now rows) (extent .lines) × Typed (Book.schema (now book)) (now rows) (extent .lines) × Masks (now rows) (extent .lines) (extent .ranks) × KnownFilter (width (now book)) (now q) (positionAt (now rows) 0) ⌝ }
+    ensures { λ r. ⌜ ((σ : Setting) (es : List Stored) (g : Grammar) (f : Filter) → World σ es (now (d .entry)) (now (p .entry)) (now (book .entry)) (now (held .entry)) (now (sets .entry)) → FilterAt g (width (now (book .entry))) (now (q .entry)) (positionAt (now (rows .entry)) 0) f → r ≡ foundAt σ es (extent .base) (extent .subset) f k) ⌝ }
 {
-    if !within(book, scope.base, scope.subset, k) {
+    if !within(book, extent.base, extent.subset, k) {
         return false;
     }
-    if !returnable(sets, k + 1, k + 1 == scope.base) {
+    if !returnable(sets, k + 1, k + 1 == extent.base) {
         return false;
     }
-    matches(book, held, sets, d, p, q, rows, scope.lines, scope.ranks, k)
+    matches(book, held, sets, d, p, q, rows, extent, k)
 }
 
 // Notes the indices of the entries that search returns, in order; how many they are.
@@ -110,17 +105,17 @@ fn found(
     p: &[u8],
     q: &[u8],
     rows: &[u64; FILTER],
-    scope: Extent,
+    extent: Extent,
     hits: &mut [usize; 256],
 ) -> usize
-    requires { ⌜ Known (now d) (now p) (now book) (now held) (now sets) × (length (now hits) ≡ 256) × LinesNoted (width (now book)) (now q) (now rows) (scope .lines) × Typed (Book.schema (now book)) (now rows) (scope .lines) × Masks (now rows) (scope .lines) (scope .ranks) × KnownFilter (width (now book)) (now q) (positionAt (now rows) 0) ⌝ }
-    ensures { λ n. ⌜ Indices (entries (now (book .entry))) n (now (hits .entry)) (now (hits .exit)) × ((σ : Setting) (es : List Stored) (g : Grammar) (f : Filter) → World σ es (now (d .entry)) (now (p .entry)) (now (book .entry)) (now (held .entry)) (now (sets .entry)) → FilterAt g (width (now (book .entry))) (now (q .entry)) (positionAt (now (rows .entry)) 0) f → take n (now (hits .exit)) ≡ passing (foundAt σ es (scope .base) (scope .subset) f) (length es)) ⌝ }
+    requires { ⌜ Searched (now d) (now p) (now book) (now held) (now sets) extent × (length (now hits) ≡ 256) × LinesNoted (width (now book)) (now q) (now rows) (extent .lines) × Typed (Book.schema (now book)) (now rows) (extent .lines) × Masks (now rows) (extent .lines) (extent .ranks) × KnownFilter (width (now book)) (now q) (positionAt (now rows) 0) ⌝ }
+    ensures { λ n. ⌜ Indices (entries (now (book .entry))) n (now (hits .entry)) (now (hits .exit)) × ((σ : Setting) (es : List Stored) (g : Grammar) (f : Filter) → World σ es (now (d .entry)) (now (p .entry)) (now (book .entry)) (now (held .entry)) (now (sets .entry)) → FilterAt g (width (now (book .entry))) (now (q .entry)) (positionAt (now (rows .entry)) 0) f → take n (now (hits .exit)) ≡ passing (foundAt σ es (extent .base) (extent .subset) f) (length es)) ⌝ }
 {
     let count = book[ENTRIES] as usize;
     let mut n: usize = 0;
     let mut k: usize = 0;
     while k < count {
-        if found_at(book, held, sets, d, p, q, rows, scope, k) {
+        if found_at(book, held, sets, d, p, q, rows, extent, k) {
             hits[n] = k;
             n += 1;
         }
@@ -156,13 +151,13 @@ pub fn search(
         query.filter,
         &mut rows,
     );
-    let scope = Extent {
+    let extent = Extent {
         base: b,
         subset: query.subset,
         lines,
         ranks: mask(&rows, lines),
     };
-    let count = found(book, held, sets, d, p, q, &rows, scope, hits);
+    let count = found(book, held, sets, d, p, q, &rows, extent, hits);
     let open = may_entry(sets, b, DISCLOSE_ON_ERROR);
     returned(operation::SEARCH, target.missing, open, query.limit, count)
 }

@@ -1,4 +1,5 @@
 pub mod Matchable
+pub mod Candidate
 pub mod Mask
 pub mod Rows
 pub mod Items

@@ -39,8 +39,3 @@ pub record MatchableAt (σ : Setting) (es : List Stored) (d : Bytes) (book held 
 -- the type of line `line`, if the schema has it, is asked about
 abbrev pub AskedIn : List ℕ → List ℕ → ℕ → ℕ → Type 0
 AskedIn book rows line asked = typeRank rows line < types book → bit asked (typeRank rows line) ≡ true
-
--- the bits are those of some entries and of ranks asked about, as `P` says
-abbrev pub KnownMatchable : Bytes → List ℕ → List ℕ → ℕ → ℕ → List ℕ → (ℕ → Type 0) → Type 0
-KnownMatchable d book held k types values P =
-    (σ : Setting) × (es : List Stored) × (asked : ℕ) × Entries σ es d book held × MatchableAt σ es d book held k asked types values × P asked

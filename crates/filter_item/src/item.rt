@@ -1,4 +1,5 @@
 // The truth of one item for an entry. Undefined goes before all else; what is not held is false.
+use super::extent::Extent;
 use super::matchable::END;
 use super::matchable::in_word;
 use super::rows::RowsSought;
@@ -30,12 +31,13 @@ ghost use Rattle.rules.specs.Directory.{Stored, blank, entryOf};
 ghost use Rattle.rules.specs.Decision.{Setting};
 ghost use Rattle.rules.specs.FilterItem.{itemTruth};
 ghost use Rattle.access_set.specs.Member.{bit};
-ghost use Rattle.tables.specs.Book.{entries, schema};
+ghost use Rattle.tables.specs.Book.{schema};
 ghost use Rattle.tables.specs.World.{Entries};
 ghost use Rattle.filter_lines.specs.Lines.{RowsPlaced, Typed, kindAt, firstAt, valueAt, piecesAt};
 ghost use Rattle.filter_item.specs.Items.{assertionBy, definedBy, satisfiedIn};
 ghost use Rattle.filter_item.specs.Rows.{RowsWithin};
-ghost use Rattle.filter_item.specs.Matchable.{MatchableAt, AskedIn, KnownMatchable};
+ghost use Rattle.filter_item.specs.Matchable.{MatchableAt, AskedIn};
+ghost use Rattle.filter_item.specs.Candidate.{Admitted};
 
 // Do the value or the pieces of the item in line `k` fit the syntax `s`, and has the syntax the item's rule?
 fn defined(s: u64, q: &[u8], rows: &[u64; FILTER], lines: usize, k: usize) -> bool
@@ -110,22 +112,23 @@ fn satisfied(
     some_containing(held, values, d, sought, q, rows, lines, k)
 }
 
-// The truth of the item in line `line` for the entry of index `k`. `types` and `values` are which of its types and values FilterMatch is granted on.
+// The truth of the item in line `line` for the entry of index `k`, a candidate of the search. `types` and `values` are which of its types and values FilterMatch is granted on.
 pub fn item(
     book: &[u64; BOOK],
     held: &[u64; HELD],
     d: &[u8],
     types: u64,
     values: &[u64; 34],
+    extent: Extent,
     k: usize,
     q: &[u8],
     rows: &[u64; FILTER],
-    lines: usize,
     line: usize,
 ) -> Truth
-    requires { ⌜ KnownMatchable (now d) (now book) (now held) k types (now values) (AskedIn (now book) (now rows) line) × (k < entries (now book)) × RowsPlaced (now q) (now rows) lines × Typed (schema (now book)) (now rows) lines × (line < lines) ⌝ }
-    ensures { λ r. ⌜ ((σ : Setting) (es : List Stored) (asked : ℕ) → Entries σ es (now (d .entry)) (now (book .entry)) (now (held .entry)) → MatchableAt σ es (now (d .entry)) (now (book .entry)) (now (held .entry)) k asked types (now (values .entry)) → AskedIn (now (book .entry)) (now (rows .entry)) line asked → r ≡ itemTruth σ (entryOf (getD es k blank)) (assertionBy (kindAt (now (rows .entry)) line) (firstAt (now (rows .entry)) line) (valueAt (now (q .entry)) (now (rows .entry)) line) (piecesAt (now (q .entry)) (now (rows .entry)) lines line))) ⌝ }
+    requires { ⌜ Admitted (now d) (now book) (now held) extent k types (now values) × AskedIn (now book) (now rows) line (extent .ranks) × RowsPlaced (now q) (now rows) (extent .lines) × Typed (schema (now book)) (now rows) (extent .lines) × (line < extent .lines) ⌝ }
+    ensures { λ r. ⌜ ((σ : Setting) (es : List Stored) (asked : ℕ) → Entries σ es (now (d .entry)) (now (book .entry)) (now (held .entry)) → MatchableAt σ es (now (d .entry)) (now (book .entry)) (now (held .entry)) k asked types (now (values .entry)) → AskedIn (now (book .entry)) (now (rows .entry)) line asked → r ≡ itemTruth σ (entryOf (getD es k blank)) (assertionBy (kindAt (now (rows .entry)) line) (firstAt (now (rows .entry)) line) (valueAt (now (q .entry)) (now (rows .entry)) line) (piecesAt (now (q .entry)) (now (rows .entry)) (extent .lines) line))) ⌝ }
 {
+    let lines = extent.lines;
     let rank = rows[line * LINE + RANK] as usize;
     if book[TYPES] as usize <= rank {
         return Truth::Undefined;

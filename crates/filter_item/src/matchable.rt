@@ -1,4 +1,5 @@
 // FilterMatch on the types and values of an entry, asked once, before the items of a filter.
+use super::extent::Extent;
 use access_may::may_type;
 use access_may::may_value;
 use tables::book::BOOK;
@@ -23,6 +24,7 @@ ghost use Rattle.tables.specs.Held.{rankAt, bytesAt, typeAt};
 ghost use Rattle.tables.specs.Sets.{grantedAt};
 ghost use Rattle.tables.specs.World.{World, Known, KnownTypes};
 ghost use Rattle.filter_item.specs.Matchable.{MatchableTypes, MatchableValues, MatchableAt};
+ghost use Rattle.filter_item.specs.Candidate.{Candidate};
 
 // Where the book has the end of an entry's rows.
 pub(crate) const END: usize = FIRST + 1;
@@ -124,21 +126,21 @@ fn matchable_values(
     values
 }
 
-// FilterMatch on the types and values of the entry of index `k`, for the ranks whose bits are set in `asked`.
+// FilterMatch on the types and values of the entry of index `k`, a candidate of the search, for the types of the filter.
 pub fn ask(
     book: &[u64; BOOK],
     held: &[u64; HELD],
     sets: &[u64; SETS],
     d: &[u8],
     p: &[u8],
+    extent: Extent,
     k: usize,
-    asked: u64,
 ) -> Matchable
-    requires { ⌜ Known (now d) (now p) (now book) (now held) (now sets) × (k < entries (now book)) ⌝ }
-    ensures { λ r. ⌜ ((σ : Setting) (es : List Stored) → World σ es (now (d .entry)) (now (p .entry)) (now (book .entry)) (now (held .entry)) (now (sets .entry)) → MatchableAt σ es (now (d .entry)) (now (book .entry)) (now (held .entry)) k asked (r .types) (r .values)) ⌝ }
+    requires { ⌜ Candidate (now d) (now p) (now book) (now held) (now sets) extent k ⌝ }
+    ensures { λ r. ⌜ ((σ : Setting) (es : List Stored) → World σ es (now (d .entry)) (now (p .entry)) (now (book .entry)) (now (held .entry)) (now (sets .entry)) → MatchableAt σ es (now (d .entry)) (now (book .entry)) (now (held .entry)) k (extent .ranks) (r .types) (r .values)) ⌝ }
 {
     Matchable {
-        types: matchable_types(sets, book[TYPES] as usize, k + 1, asked),
-        values: matchable_values(book, held, sets, d, p, k, asked),
+        types: matchable_types(sets, book[TYPES] as usize, k + 1, extent.ranks),
+        values: matchable_values(book, held, sets, d, p, k, extent.ranks),
     }
 }

@@ -1,4 +1,5 @@
 // The truths of a filter's items for an entry, found one after the other and noted by a number for each line, before the filter is evaluated.
+use filter_item::extent::Extent;
 use filter_item::item::item;
 use filter_lines::joins;
 use filter_lines::lines::FILTER;
@@ -16,11 +17,12 @@ ghost use lib.ListN.{getD};
 ghost use Rattle.rules.specs.Directory.{Stored, blank, entryOf};
 ghost use Rattle.rules.specs.Decision.{Setting};
 ghost use Rattle.rules.specs.FilterItem.{itemTruth};
-ghost use Rattle.tables.specs.Book.{entries, schema};
+ghost use Rattle.tables.specs.Book.{schema};
 ghost use Rattle.tables.specs.World.{Entries};
 ghost use Rattle.filter_lines.specs.Lines.{RowsPlaced, Typed};
 ghost use Rattle.filter_item.specs.Mask.{Masks};
-ghost use Rattle.filter_item.specs.Matchable.{MatchableAt, KnownMatchable};
+ghost use Rattle.filter_item.specs.Matchable.{MatchableAt};
+ghost use Rattle.filter_item.specs.Candidate.{Admitted};
 ghost use Rattle.filter_tree.specs.Truths.{truthNumber, truthOf, TruthAt, Truths};
 
 // A truth as a number.
@@ -57,14 +59,14 @@ fn line_truth(
     d: &[u8],
     types: u64,
     values: &[u64; 34],
+    extent: Extent,
     k: usize,
     q: &[u8],
     rows: &[u64; FILTER],
-    lines: usize,
     line: usize,
 ) -> u8
-    requires { ⌜ KnownMatchable (now d) (now book) (now held) k types (now values) (Masks (now rows) lines) × (k < entries (now book)) × RowsPlaced (now q) (now rows) lines × Typed (schema (now book)) (now rows) lines × (line < lines) ⌝ }
-    ensures { λ r. ⌜ ((σ : Setting) (es : List Stored) (asked : ℕ) → Entries σ es (now (d .entry)) (now (book .entry)) (now (held .entry)) → MatchableAt σ es (now (d .entry)) (now (book .entry)) (now (held .entry)) k asked types (now (values .entry)) → Masks (now (rows .entry)) lines asked → TruthAt (itemTruth σ (entryOf (getD es k blank))) (now (q .entry)) (now (rows .entry)) lines line r) ⌝ }
+    requires { ⌜ Admitted (now d) (now book) (now held) extent k types (now values) × Masks (now rows) (extent .lines) (extent .ranks) × RowsPlaced (now q) (now rows) (extent .lines) × Typed (schema (now book)) (now rows) (extent .lines) × (line < extent .lines) ⌝ }
+    ensures { λ r. ⌜ ((σ : Setting) (es : List Stored) (asked : ℕ) → Entries σ es (now (d .entry)) (now (book .entry)) (now (held .entry)) → MatchableAt σ es (now (d .entry)) (now (book .entry)) (now (held .entry)) k asked types (now (values .entry)) → Masks (now (rows .entry)) (extent .lines) asked → TruthAt (itemTruth σ (entryOf (getD es k blank))) (now (q .entry)) (now (rows .entry)) (extent .lines) line r) ⌝ }
 {
     let kind = rows[line * LINE];
     if joins(kind) {
@@ -73,7 +75,7 @@ fn line_truth(
     if is(kind, Kind::Not) {
         return 0;
     }
-    truth_number(item(book, held, d, types, values, k, q, rows, lines, line))
+    truth_number(item(book, held, d, types, values, extent, k, q, rows, line))
 }
 
 // The truth of the item in each line, for the entry of index `k`.
@@ -83,18 +85,19 @@ pub(crate) fn note_truths(
     d: &[u8],
     types: u64,
     values: &[u64; 34],
+    extent: Extent,
     k: usize,
     q: &[u8],
     rows: &[u64; FILTER],
-    lines: usize,
 ) -> [u8; LINES]
-    requires { ⌜ KnownMatchable (now d) (now book) (now held) k types (now values) (Masks (now rows) lines) × (k < entries (now book)) × RowsPlaced (now q) (now rows) lines × Typed (schema (now book)) (now rows) lines ⌝ }
-    ensures { λ r. ⌜ ((σ : Setting) (es : List Stored) (asked : ℕ) → Entries σ es (now (d .entry)) (now (book .entry)) (now (held .entry)) → MatchableAt σ es (now (d .entry)) (now (book .entry)) (now (held .entry)) k asked types (now (values .entry)) → Masks (now (rows .entry)) lines asked → Truths (itemTruth σ (entryOf (getD es k blank))) (now (q .entry)) (now (rows .entry)) lines lines r) ⌝ }
+    requires { ⌜ Admitted (now d) (now book) (now held) extent k types (now values) × Masks (now rows) (extent .lines) (extent .ranks) × RowsPlaced (now q) (now rows) (extent .lines) × Typed (schema (now book)) (now rows) (extent .lines) ⌝ }
+    ensures { λ r. ⌜ ((σ : Setting) (es : List Stored) (asked : ℕ) → Entries σ es (now (d .entry)) (now (book .entry)) (now (held .entry)) → MatchableAt σ es (now (d .entry)) (now (book .entry)) (now (held .entry)) k asked types (now (values .entry)) → Masks (now (rows .entry)) (extent .lines) asked → Truths (itemTruth σ (entryOf (getD es k blank))) (now (q .entry)) (now (rows .entry)) (extent .lines) (extent .lines) r) ⌝ }
 {
+    let lines = extent.lines;
     let mut truths: [u8; LINES] = [0; LINES];
     let mut line: usize = 0;
     while line < lines {
-        truths[line] = line_truth(book, held, d, types, values, k, q, rows, lines, line);
+        truths[line] = line_truth(book, held, d, types, values, extent, k, q, rows, line);
         line += 1;
     }
     truths

@@ -4,6 +4,7 @@ use super::items::truth_at;
 use super::truth::is_true;
 use super::truth::joined;
 use super::truth::negated;
+use filter_item::extent::Extent;
 use filter_item::matchable::ask;
 use filter_lines::joins;
 use filter_lines::lines::FILTER;
@@ -28,10 +29,11 @@ ghost use Rattle.rules.specs.Filter.{Assertion, Filter};
 ghost use Rattle.rules.specs.Places.{linesAt};
 ghost use Rattle.rules.specs.FilterLines.{evaluated, evaluateLines};
 ghost use Rattle.rules.specs.declared.Truth.{Truth};
-ghost use Rattle.tables.specs.Book.{width, entries, schema};
-ghost use Rattle.tables.specs.World.{World, Known};
+ghost use Rattle.tables.specs.Book.{width, schema};
+ghost use Rattle.tables.specs.World.{World};
 ghost use Rattle.filter_lines.specs.Lines.{LinesNoted, KnownLines, Typed, kindAt, secondAt, positionAt};
 ghost use Rattle.filter_item.specs.Mask.{Masks};
+ghost use Rattle.filter_item.specs.Candidate.{Candidate};
 ghost use Rattle.filter_tree.specs.Tree.{afterBy, matchesAt, FilterAt, KnownFilter};
 ghost use Rattle.filter_tree.specs.Truths.{Truths, KnownTruths};
 
@@ -62,14 +64,20 @@ fn after_item(rows: &[u64], lines: usize, k: usize) -> usize
 }
 
 // The truth of a filter, and the line after it.
-pub struct Evaluation {
+pub(crate) struct Evaluation {
     pub truth: Truth,
     pub next: usize,
 }
 
 // The truth of the filter in line `k`, at most `depth` levels deep, by the truths of the items. Every part of "and" and "or" is evaluated: its lines
 // are passed over in any case.
-pub fn evaluate(rows: &[u64], truths: &[u8], lines: usize, k: usize, depth: usize) -> Evaluation
+pub(crate) fn evaluate(
+    rows: &[u64],
+    truths: &[u8],
+    lines: usize,
+    k: usize,
+    depth: usize,
+) -> Evaluation
     requires { ⌜ KnownTruths (now rows) lines (now truths) × (k ≤ lines) ⌝ }
     ensures { λ r. ⌜ (r .next ≤ lines) × ((w : ℕ) (q : Bytes) (m : Assertion → Truth) → LinesNoted w q (now (rows .entry)) lines → Truths m q (now (rows .entry)) lines lines (now (truths .entry)) → evaluated (r .truth) (linesAt w q (positionAt (now (rows .entry)) (r .next))) ≡ evaluateLines m depth (linesAt w q (positionAt (now (rows .entry)) k))) ⌝ }
 {
@@ -114,7 +122,7 @@ pub fn evaluate(rows: &[u64], truths: &[u8], lines: usize, k: usize, depth: usiz
     }
 }
 
-// Is the filter, whose lines are `rows`, true for the entry of index `k`? `asked` is the mask of the ranks that occur in it.
+// Is the filter, whose lines are `rows`, true for the entry of index `k`? The entry is a candidate of the search: its own permissions come first.
 pub fn matches(
     book: &[u64; BOOK],
     held: &[u64; HELD],
@@ -123,16 +131,15 @@ pub fn matches(
     p: &[u8],
     q: &[u8],
     rows: &[u64; FILTER],
-    lines: usize,
-    asked: u64,
+    extent: Extent,
     k: usize,
 ) -> bool
-    requires { ⌜ Known (now d) (now p) (now book) (now held) (now sets) × LinesNoted (width (now book)) (now q) (now rows) lines × Typed (schema (now book)) (now rows) lines × (k < entries (now book)) × Masks (now rows) lines asked × KnownFilter (width (now book)) (now q) (positionAt (now rows) 0) ⌝ }
+    requires { ⌜ Candidate (now d) (now p) (now book) (now held) (now sets) extent k × LinesNoted (width (now book)) (now q) (now rows) (extent .lines) × Typed (schema (now book)) (now rows) (extent .lines) × Masks (now rows) (extent .lines) (extent .ranks) × KnownFilter (width (now book)) (now q) (positionAt (now rows) 0) ⌝ }
     ensures { λ r. ⌜ ((σ : Setting) (es : List Stored) (g : Grammar) (f : Filter) → World σ es (now (d .entry)) (now (p .entry)) (now (book .entry)) (now (held .entry)) (now (sets .entry)) → FilterAt g (width (now (book .entry))) (now (q .entry)) (positionAt (now (rows .entry)) 0) f → r ≡ matchesAt σ es f k) ⌝ }
 {
-    let seen = ask(book, held, sets, d, p, k, asked);
-    let truths = note_truths(book, held, d, seen.types, &seen.values, k, q, rows, lines);
-    let whole = evaluate(rows, &truths, lines, 0, 16);
+    let open = ask(book, held, sets, d, p, extent, k);
+    let truths = note_truths(book, held, d, open.types, &open.values, extent, k, q, rows);
+    let whole = evaluate(rows, &truths, extent.lines, 0, 16);
     let truth = whole.truth;
     is_true(truth)
 }

@@ -3,7 +3,7 @@ use native.Mathlib.Omega.{arith}
 use denote.Ref.{now}
 use mathlib.Core.List.{List}
 use Rattle.tables.specs.Book.{width, entries, schema}
-use mathlib.Core.Path.{subst}
+use mathlib.Core.Path.{_∙_, subst}
 use Rattle.tables.specs.Laws.World.{known-entry}
 use Rattle.answer_plan.specs.Laws.Sound.{base-known, base-numbered}
 use Rattle.answer_entry.specs.Laws.Whole.{none-sound, some-sound}
@@ -33,7 +33,7 @@ mask-requires : tie.Need-mask-requires
 mask-requires c κs = c .before .note .ensures .0 .placed .few
 
 found-requires : tie.Need-found-requires
-found-requires c κs = let A = c .before .before .before .before .before .before .before .before .before .before .before .before .before .before .before .args in let b = now (A .book) in let K = c .before .before .before .before .before .before .before .before .before .before .before .before .before .before .before .pre .0 .3 .entries in (base-known (c .before .before .before .before .before .before .before .before .before .before .before .before .before .before .before .pre .0), c .before .before .before .before .before .before .before .before .before .before .before .before .before .before .before .pre .1, c .before .before .before .before .note .ensures .0, (subst (λ (x : List ℕ). Typed x (c .before .before .before .before .note .last .1 .1 .1 .1 .0) (c .before .before .before .before .note .result)) (c .before .before .before .before .before .before .before .schema .ensures) (c .before .before .before .before .note .ensures .1)), c .before .before .mask .ensures, (let Q = c .before .before .before .before .before .before .before .before .before .before .before .before .before .before .before .pre .3 in (Q .0, Q .1 .filter, read-at (Q .0) (width b) (now (A .q)) (Q .1 .filter) (c .before .before .before .before .note .ensures .2) (Q .2 .reads))))
+found-requires c κs = let A = c .before .before .before .before .before .before .before .before .before .before .before .before .before .before .before .args in let b = now (A .book) in let K = c .before .before .before .before .before .before .before .before .before .before .before .before .before .before .before .pre .0 .3 .entries in (let S = c .before .before .before .before .before .before .before .before .before .before .before .before .before .before .before .pre .0 in record { setting = S .0; stored = S .1; world = S .3; base = S .2; walked = S .4 .walked ∙ c .before .before .before .before .before .before .before .before .before .before .base .given .1 }, c .before .before .before .before .before .before .before .before .before .before .before .before .before .before .before .pre .1, c .before .before .before .before .note .ensures .0, (subst (λ (x : List ℕ). Typed x (c .before .before .before .before .note .last .1 .1 .1 .1 .0) (c .before .before .before .before .note .result)) (c .before .before .before .before .before .before .before .schema .ensures) (c .before .before .before .before .note .ensures .1)), c .before .before .mask .ensures, (let Q = c .before .before .before .before .before .before .before .before .before .before .before .before .before .before .before .pre .3 in (Q .0, Q .1 .filter, read-at (Q .0) (width b) (now (A .q)) (Q .1 .filter) (c .before .before .before .before .note .ensures .2) (Q .2 .reads))))
 
 may-entry-requires : tie.Need-may-entry-requires
 may-entry-requires c κs = let K = c .before .before .before .before .before .before .before .before .before .before .before .before .before .before .before .before .pre .0 in (omega arith, known-entry (base-known K) _ (base-numbered K .found _ (c .before .before .before .before .before .before .before .before .before .before .before .base .given .1)))

@@ -1,6 +1,6 @@
 -- Laws of `Hits`: the tests of the rules at an index, and the hits as indices that pass.
 use Prim.Native.Nat.{ℕ, suc, _+_, _<_}
-use mathlib.Core.Path.{_≡_, refl, ap, _∙_}
+use mathlib.Core.Path.{_≡_, refl, ap, ap₂, _∙_}
 use mathlib.Core.Bool.{Bool, true, false, _&&_, and-assoc}
 use mathlib.Core.List.{List, map}
 use native.Mathlib.Numerals.{add-one}
@@ -54,6 +54,16 @@ module _ (σ : Setting) (es : List Stored) (b subset : ℕ) (f : Filter) (k : �
   found-asked e h = rw (e, ← add-one k, h)
 
 -- ---- they are the tests of the rules
+
+next-number : (σ : Setting) (es : List Stored) (b k : ℕ) → returnableAt σ es (k + 1) (eqb (k + 1) b) ≡ true → returnableAt σ es (suc k) (eqb (suc k) b) ≡ true
+next-number σ es b k h = rw (← add-one k) h
+
+-- #103: an entry within the subset that may be returned is a candidate
+pub candidate-asked : (σ : Setting) (es : List Stored) (ok : Accepted (σ .schema) es) (n : Name) (b : ℕ) (walked : walk (σ .schema) es 0 n ≡ At b) (k : ℕ) → k < length es → (subset : ℕ)
+    → withinNumber es subset b (suc k) ≡ true → returnableAt σ es (k + 1) (eqb (k + 1) b) ≡ true → Answer.candidate σ n subset (entryOf (getD es k blank)) ≡ true
+unfolding returnableAt browsableAt grantedAt
+candidate-asked σ es ok n b walked k l subset e h =
+    candidate-number σ es ok n b walked k l subset ∙ ap₂ (λ (x y : Bool). x && y) e (next-number σ es b k h)
 
 module _ (σ : Setting) (es : List Stored) (ok : Accepted (σ .schema) es) (n : Name) (b : ℕ) (walked : walk (σ .schema) es 0 n ≡ At b) (r : Search) where
   found-at : (k : ℕ) → k < length es → Answer.found σ n r (entryOf (getD es k blank)) ≡ foundAt σ es b (r .subset) (r .filter) k

@@ -27,7 +27,7 @@ use Rattle.tables.specs.Book.{types, schema, firstAt}
 use Rattle.tables.specs.Held.{rankAt, bytesAt, typeAt, ValueAt}
 use Rattle.tables.specs.Sets.{grantedAt}
 use Rattle.tables.specs.World.{Entries}
-use Rattle.tables.specs.Laws.Book.{schema-length, type-at}
+use Rattle.tables.specs.Laws.Book.{end-is, schema-length, type-at}
 use Rattle.filter_item.specs.Matchable.{bitAt, MatchableAt}
 use Rattle.filter_item.specs.Rows.{someFrom, matchableAt, heldRow, someRow}
 use Rattle.filter_item.specs.Items.{assertionBy, definedBy, passesBy, satisfiedIn}
@@ -153,12 +153,17 @@ module _ (σ : Setting) (es : List Stored) (d : Bytes) (book held : List ℕ) (n
           swap false true = refl
           swap false false = refl
 
-      pub item-undecidable : (bit types place && definedBy syntax kind ps v) ≡ false → Undefined ≡ found
-      item-undecidable h = undecided (sym swapped ∙ h)
+      -- `b` is whether the item is decidable, `c` whether it is satisfied, as the code found it
+      pub item-undecidable : (b : Bool) → b ≡ (bit types place && definedBy syntax kind ps v) → b ≡ false → Undefined ≡ found
+      item-undecidable b e h = undecided (sym swapped ∙ sym e ∙ h)
 
-      pub item-told : (bit types place && definedBy syntax kind ps v) ≡ true → truth (satisfiedIn d held values (firstAt book k) (firstAt book (suc k)) place syntax kind ps v) ≡ found
+      told : (bit types place && definedBy syntax kind ps v) ≡ true → truth (satisfiedIn d held values (firstAt book k) (firstAt book (suc k)) place syntax kind ps v) ≡ found
       unfolding entryOf
-      item-told h =
+      told h =
           ap truth (satisfied-in σ es d book held noted k l place known asked types values seen wanted syntax kind ps v)
           ∙ ap (λ (x : ℕ). truth (satisfiedBy σ (record { name = getD es k blank .name; held = heldOf (getD es k blank .values) }) syntax kind x ps v)) type-is
           ∙ sym (item-decided σ (getD es k blank .name) (getD es k blank .values) (schema book) (noted .schema-is) kind t v ps syntax with-syntax (sym swapped ∙ h))
+
+      pub item-told : (b c : Bool) (r : Truth) → b ≡ (bit types place && definedBy syntax kind ps v) → b ≡ true
+          → c ≡ satisfiedIn d held values (firstAt book k) (getD book (1097 + k) 0) place syntax kind ps v → r ≡ truth c → r ≡ found
+      item-told b c r e h s q = q ∙ ap truth (s ∙ ap (λ (end : ℕ). satisfiedIn d held values (firstAt book k) end place syntax kind ps v) (end-is book k)) ∙ told (sym e ∙ h)

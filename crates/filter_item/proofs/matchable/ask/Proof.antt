@@ -3,15 +3,16 @@ use native.Mathlib.Omega.{arith}
 use Rattle.tables.specs.Laws.Book.{schema-length}
 use Rattle.tables.specs.Laws.World.{known-types}
 use Rattle.filter_item.specs.Laws.Matchable.{types-full}
+use Rattle.filter_item.specs.Laws.Candidate.{searched-known}
 use borrow.Author.Needs.{needs}
 use Rattle.filter_item.proofs.matchable.ask.Statement.{statement}
 use Rattle.filter_item.proofs.matchable.ask.Tie as tie
 
 matchable-types-requires : tie.Need-matchable-types-requires
-matchable-types-requires c κs = known-types (c .before .before .before .pre .0) _ (omega (arith, c .before .before .before .pre .1)) _ (omega arith)
+matchable-types-requires c κs = let C = c .before .before .before .pre in known-types (searched-known (C .search)) _ (omega (arith, C .within)) _ (omega arith)
 
 returns : tie.Need-returns
-returns c = λ σ es w. record { types-matchable = types-full σ es (now (c .before .before .before .before .before .args .book)) (c .before .before .before .before .before .args .k) (c .before .before .before .before .before .args .asked) (c .before .matchable-types .result) (w .entries .fits) (c .before .matchable-types .ensures σ es (now (c .before .before .before .before .before .args .d)) (now (c .before .before .before .before .before .args .p)) (now (c .before .before .before .before .before .args .book)) (now (c .before .before .before .before .before .args .held)) w (omega (arith, c .before .before .before .before .before .pre .1, w .entries .count)) (omega (arith, schema-length (w .entries .fits)))); values-matchable = c .matchable-values .ensures σ es w }
+returns c = λ σ es w. record { types-matchable = types-full σ es (now (c .before .before .before .before .before .args .book)) (c .before .before .before .before .before .args .k) (c .before .before .before .before .before .args .extent .ranks) (c .before .matchable-types .result) (w .entries .fits) (c .before .matchable-types .ensures σ es (now (c .before .before .before .before .before .args .d)) (now (c .before .before .before .before .before .args .p)) (now (c .before .before .before .before .before .args .book)) (now (c .before .before .before .before .before .args .held)) w (omega (arith, c .before .before .before .before .before .pre .within, w .entries .count)) (omega (arith, schema-length (w .entries .fits)))); values-matchable = c .matchable-values .ensures σ es w }
 
 pub ask-spec : {M : Type 1} → statement M
 ask-spec =

@@ -18,11 +18,11 @@ returns-2 : tie.Need-returns-2
 returns-2 c = λ σ es asked e s m. record { told = λ ne g. absurd (ne (is-kind (c .before .is .ensures) (c .if2 .taken))) }
 
 item-requires : tie.Need-item-requires
-item-requires c κs = let P = c .before .before .before .before .before .before .before .pre in let A = c .before .before .before .before .before .before .before .args in let E = P .0 .3 in
-    ((P .0 .0, P .0 .1, P .0 .2, E, P .0 .4, λ l. P .0 .5 .rank (typeRank (now (A .rows)) (A .line)) (omega (arith, l, E .fits .few-types)) ∙ occurs-own (now (A .rows)) (A .lines) (A .line) (P .4) (operator-none (now (A .rows)) (A .line) (sym (c .before .before .before .joins .ensures) ∙ c .before .before .if1 .left) (not-kind (c .before .is .ensures) (c .if2 .left)))), P .1, P .2, P .3, P .4)
+item-requires c κs = let P = c .before .before .before .before .before .before .before .pre in let A = c .before .before .before .before .before .before .before .args in let E = P .0 .candidate .search .world .entries in
+    (P .0, (λ l. P .1 .rank (typeRank (now (A .rows)) (A .line)) (omega (arith, l, E .fits .few-types)) ∙ occurs-own (now (A .rows)) (A .extent .lines) (A .line) (P .4) (operator-none (now (A .rows)) (A .line) (sym (c .before .before .before .joins .ensures) ∙ c .before .before .if1 .left) (not-kind (c .before .is .ensures) (c .if2 .left)))), P .2, P .3, P .4)
 
 returns-3 : tie.Need-returns-3
-returns-3 c = λ σ es asked e s m. record { told = λ ne g. ap truthOf (c .truth-number .ensures) ∙ truth-number _ ∙ c .before .item .ensures σ es asked e s (λ l. m .rank (typeRank (now (c .before .before .before .before .before .before .before .before .before .args .rows)) (c .before .before .before .before .before .before .before .before .before .args .line)) (omega (arith, l, e .fits .few-types)) ∙ occurs-own (now (c .before .before .before .before .before .before .before .before .before .args .rows)) (c .before .before .before .before .before .before .before .before .before .args .lines) (c .before .before .before .before .before .before .before .before .before .args .line) (c .before .before .before .before .before .before .before .before .before .pre .4) (operator-none (now (c .before .before .before .before .before .before .before .before .before .args .rows)) (c .before .before .before .before .before .before .before .before .before .args .line) g ne)) }
+returns-3 c = λ σ es asked e s m. record { told = λ ne g. ap truthOf (c .truth-number .ensures) ∙ truth-number _ ∙ c .before .item .ensures σ es asked e s (λ l. m .rank (typeRank (now (c .before .before .before .before .before .before .before .before .before .args .rows)) (c .before .before .before .before .before .before .before .before .before .args .line)) (omega (arith, l, e .fits .few-types)) ∙ occurs-own (now (c .before .before .before .before .before .before .before .before .before .args .rows)) (c .before .before .before .before .before .before .before .before .before .args .extent .lines) (c .before .before .before .before .before .before .before .before .before .args .line) (c .before .before .before .before .before .before .before .before .before .pre .4) (operator-none (now (c .before .before .before .before .before .before .before .before .before .args .rows)) (c .before .before .before .before .before .before .before .before .before .args .line) g ne)) }
 
 pub line-truth-spec : {M : Type 1} → statement M
 line-truth-spec =

@@ -16,19 +16,31 @@ use Rattle.filter_tree.proofs.tree.matches.Statement.{statement}
 use Rattle.filter_tree.proofs.tree.matches.Tie as tie
 
 ask-requires : tie.Need-ask-requires
-ask-requires c κs = (c .before .before .before .pre .0, c .before .before .before .pre .3)
+ask-requires c κs = c .before .before .before .pre .0
 
 note-truths-requires : tie.Need-note-truths-requires
-note-truths-requires c κs = let P = c .before .before .before .before .before .before .pre in let K = P .0 in
-    ((K .0, K .1, c .before .before .before .before .before .before .args .asked, K .2 .entries, c .before .before .ask .ensures (K .0) (K .1) (K .2), P .4), P .3, P .1 .placed, P .2)
+note-truths-requires c κs =
+    let P = c .before .before .before .before .before .before .pre in
+    let A = c .before .before .before .before .before .before .args in
+    let S = P .0 .search in (
+      record {
+        permissions = now (A .p);
+        sets = now (A .sets);
+        candidate = P .0;
+        matchable = c .before .before .ask .ensures (S .setting) (S .stored) (S .world);
+      },
+      P .3,
+      P .1 .placed,
+      P .2,
+    )
 
 evaluate-requires : tie.Need-evaluate-requires
-evaluate-requires c κs = let A = c .before .before .before .before .before .before .before .before .before .args in let P = c .before .before .before .before .before .before .before .before .before .pre in let K = P .0 in
-    ((width (now (A .book)), now (A .q), itemTruth (K .0) (entryOf (getD (K .1) (A .k) blank)), P .1, c .before .before .note-truths .ensures (K .0) (K .1) (A .asked) (K .2 .entries) (c .before .before .before .before .before .ask .ensures (K .0) (K .1) (K .2)) (P .4)), omega arith)
+evaluate-requires c κs = let A = c .before .before .before .before .before .before .before .before .before .args in let P = c .before .before .before .before .before .before .before .before .before .pre in let S = P .0 .search in
+    ((width (now (A .book)), now (A .q), itemTruth (S .setting) (entryOf (getD (S .stored) (A .k) blank)), P .1, c .before .before .note-truths .ensures (S .setting) (S .stored) (A .extent .ranks) (S .world .entries) (c .before .before .before .before .before .ask .ensures (S .setting) (S .stored) (S .world)) (P .3)), omega arith)
 
 returns : tie.Need-returns
 unfolding matchesAt
-returns c = λ σ es g f w read. c .is-true .ensures ∙ ap isTrue (ap (λ (r : Evaluated). r .truth) (c .before .evaluate .ensures .1 (width (now (c .before .before .before .before .before .before .before .before .before .before .before .args .book))) (now (c .before .before .before .before .before .before .before .before .before .before .before .args .q)) (itemTruth σ (entryOf (getD es (c .before .before .before .before .before .before .before .before .before .before .before .args .k) blank))) (c .before .before .before .before .before .before .before .before .before .before .before .pre .1) (c .before .before .before .before .note-truths .ensures σ es (c .before .before .before .before .before .before .before .before .before .before .before .args .asked) (w .entries) (c .before .before .before .before .before .before .before .ask .ensures σ es w) (c .before .before .before .before .before .before .before .before .before .before .before .pre .4))) ∙ whole-read g (itemTruth σ (entryOf (getD es (c .before .before .before .before .before .before .before .before .before .before .before .args .k) blank))) (linesAt (width (now (c .before .before .before .before .before .before .before .before .before .before .before .args .book))) (now (c .before .before .before .before .before .before .before .before .before .before .before .args .q)) (positionAt (now (c .before .before .before .before .before .before .before .before .before .before .before .args .rows)) 0)) f read)
+returns c = λ σ es g f w read. c .is-true .ensures ∙ ap isTrue (ap (λ (r : Evaluated). r .truth) (c .before .evaluate .ensures .1 (width (now (c .before .before .before .before .before .before .before .before .before .before .before .args .book))) (now (c .before .before .before .before .before .before .before .before .before .before .before .args .q)) (itemTruth σ (entryOf (getD es (c .before .before .before .before .before .before .before .before .before .before .before .args .k) blank))) (c .before .before .before .before .before .before .before .before .before .before .before .pre .1) (c .before .before .before .before .note-truths .ensures σ es (c .before .before .before .before .before .before .before .before .before .before .before .args .extent .ranks) (w .entries) (c .before .before .before .before .before .before .before .ask .ensures σ es w) (c .before .before .before .before .before .before .before .before .before .before .before .pre .3))) ∙ whole-read g (itemTruth σ (entryOf (getD es (c .before .before .before .before .before .before .before .before .before .before .before .args .k) blank))) (linesAt (width (now (c .before .before .before .before .before .before .before .before .before .before .before .args .book))) (now (c .before .before .before .before .before .before .before .before .before .before .before .args .q)) (positionAt (now (c .before .before .before .before .before .before .before .before .before .before .before .args .rows)) 0)) f read)
 
 pub matches-spec : {M : Type 1} → statement M
 matches-spec =
