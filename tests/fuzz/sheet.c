@@ -48,7 +48,7 @@ static void person(struct sheet *dir, unsigned parent, const char *name, const c
     sheet_line(dir, 2, parent, 2, 0, name);
     sheet_line(dir, 3, 1, 0, 0, "o");
     sheet_line(dir, 3, 2, 0, 0, name);
-    sheet_line(dir, 3, 2, 0, 0, "banana");
+    sheet_line(dir, 3, 2, 0, 0, " ba  nana ");
     sheet_line(dir, 3, 3, 0, 0, number);
 }
 
@@ -84,7 +84,7 @@ static void directories_init(void) {
         snprintf(value, sizeof value, "%064u", number);
         sheet_line(&dir[5], 3, 1, 0, 0, value);
     }
-    sheet_line(&dir[5], 3, 2, 0, 0, "ann");
+    sheet_line(&dir[5], 3, 2, 0, 0, "ann  ");
 }
 
 static void item(struct sheet *perm, unsigned precedence, unsigned grants, unsigned what,
@@ -166,7 +166,7 @@ static void requests_init(void) {
     sheet_line(&req[7], 26, 1, 0, 0, "");
     search(&req[8], 0, 0);
     sheet_line(&req[8], 27, 2, 3, 0, "");
-    sheet_line(&req[8], 28, 0, 0, 0, "ba");
+    sheet_line(&req[8], 28, 0, 0, 0, "ba  ");
     sheet_line(&req[8], 28, 1, 0, 0, "N");
     sheet_line(&req[8], 28, 2, 0, 0, "a");
     search(&req[9], 0, 0);

@@ -31,7 +31,8 @@ someRow d held values first end rank test = someFrom (λ i. matchableAt held val
 abbrev pub besideBy : ℕ → Bool → Bytes → Bytes → Bool
 besideBy s least v u = cond least (not (isLess (order s u v))) (not (isLess (order s v u)))
 
--- the bytes of the rows from `first` to `end` are parts of the directory
+-- the bytes of the rows from `first` to `end` are parts of the directory, and few
 pub record RowsWithin (d : Bytes) (held : List ℕ) (first end : ℕ) : Type 0 where
   pub room : end ≤ 2115
   pub part : (i : ℕ) → first ≤ i → i < end → placeAt held i + sizeAt held i ≤ length d
+  pub short : (i : ℕ) → first ≤ i → i < end → sizeAt held i ≤ 64

@@ -2,10 +2,11 @@
 use Prim.Native.Nat.{ℕ, zero, suc, _+_, _-_, _*_, _/_, _≤_, _<_}
 use mathlib.Core.Path.{_≡_}
 use mathlib.Core.Bool.{Bool, cond}
-use mathlib.Core.List.{List, [], _∷_}
+use mathlib.Core.List.{List, [], _∷_, map}
 use lib.ListN.{length, getD, take, drop, set}
 use Rattle.rules.specs.Sheet.{Bytes, end, broken}
-use Rattle.rules.specs.Value.{Piece}
+use Rattle.rules.specs.Value.{Piece, text, folded, matches}
+use Rattle.rules.specs.Laws.Value.{compared}
 use Rattle.rules.specs.Places.{linesAt}
 use Rattle.sheet_line.specs.Line.{takenAt}
 use Rattle.sheet_line.specs.declared.Line.{Line}
@@ -51,6 +52,10 @@ unfoldable pub piecesIn : Bytes → List ℕ → ℕ → ℕ → List Piece
 piecesIn q rows k zero = []
 piecesIn q rows k (suc n) = record { place = firstAt rows k; bytes = valueAt q rows k } ∷ piecesIn q rows (k + 1) n
 
+-- all pieces stand in a text without stray blanks, in order and without overlap
+unfoldable pub piecesStand : Bytes → List Piece → Bool
+piecesStand v ps = matches (map (compared text) ps) (folded text v)
+
 -- the lesser of two numbers
 unfoldable pub lesser : ℕ → ℕ → ℕ
 lesser zero b = 0
@@ -61,12 +66,13 @@ lesser (suc a) (suc b) = suc (lesser a b)
 abbrev pub piecesAt : Bytes → List ℕ → ℕ → ℕ → List Piece
 piecesAt q rows lines k = piecesIn q rows (k + 1) (lesser (secondAt rows k) (lines - (k + 1)))
 
--- the bytes of the first `count` lines lie on the sheet
+-- the bytes of the first `count` lines lie on the sheet, and are few
 pub record RowsPlaced (q : Bytes) (rows : List ℕ) (count : ℕ) : Type 0 where
   pub room : count * 6 + 6 ≤ length rows
   pub few : count ≤ LINES
   pub begins : (k : ℕ) → k < count → placeAt rows k < nextAt rows k
   pub within : (k : ℕ) → k < count → nextAt rows k ≤ length q
+  pub short : (k : ℕ) → k < count → nextAt rows k ≤ placeAt rows k + 65
 
 -- the line that row `k` notes; its C and its length are not noted
 abbrev pub lineAt : List ℕ → ℕ → ℕ → ℕ → Line

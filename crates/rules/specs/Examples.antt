@@ -1,4 +1,4 @@
--- Document 01, "Examples": the eleven starred ones as one table with one theorem, and 12 and 13 as far as they compute quickly.
+-- Document 01, "Examples": the eleven starred ones as one table with one theorem, and 12 and 13 as far as they compute quickly. Of document 02: #102's.
 -- The others are run by a program.
 use mathlib.Core.Path.{_≡_, refl}
 use Prim.Native.Nat.{ℕ, zero, suc, _+_, _/_, _%_}
@@ -29,7 +29,7 @@ use Rattle.rules.specs.Serve.{serve, serveAt, ground, tighter, capped, w
 use Rattle.rules.specs.declared.Truth.{Truth}
 use Rattle.rules.specs.declared.Truth.the-variants.{True, False, Undefined}
 use Rattle.rules.specs.declared.Order.{Order}
-use Rattle.rules.specs.declared.Order.the-variants.{Less}
+use Rattle.rules.specs.declared.Order.the-variants.{Less, Equal, Greater}
 
 -- the bytes of a text of ASCII characters
 abbrev pub bytesOf : String → Bytes
@@ -127,7 +127,7 @@ table =
 
 pub starred : All table
 unfolding table conjunction disjunction granted Decision.allGrant Decision.highest Decision.rank Decision.explicit Decision.applies Decision.baseCovers Decision.whoFits Decision.whatCovers Decision.names
-    Decision.levelFits Name.covers Name.sameName Name.samePart Name.equal Name.ofSyntax Value.same Value.identical order contains Value.matches Value.used Value.find Value.begins Value.normal Value.small
+    Decision.levelFits Name.covers Name.sameName Name.samePart Name.equal Name.ofSyntax Value.same Value.identical order contains Value.matches Value.used Value.find Value.begins Value.normal Value.folded Value.tidied Value.shorten Value.trim Sheet.strip Value.normalPiece Value.small
     fits Value.sized Value.printable Value.integerOf Sheet.numeral Sheet.digits Value.orderBytes
 starred = (refl, (refl, (refl, (refl, (refl, (refl, (refl, (refl, (refl, (refl, (refl, (refl, (refl, tt)))))))))))))
 
@@ -189,7 +189,7 @@ pub example-13 : serve directory permissions request 65536 ≡ accept printed
 unfolding directory permissions request printed serveAt ground tighter capped within respond fitting
     Sheet.strip Sheet.digits Sheet.numeral Sheet.columnOf Sheet.whole Sheet.frontOf Sheet.linesWithin Sheet.lines Sheet.leading Sheet.column Sheet.numbers Sheet.lineBytes Sheet.print
     Columns.takes Columns.directoryForms Columns.permissionForms Columns.requestForms Columns.inForm
-    Value.integerOf Value.small Value.printable Value.sized fits Value.normal Value.identical Value.same
+    Value.integerOf Value.small Value.printable Value.sized fits Value.normal Value.folded Value.tidied Value.shorten Value.trim Value.identical Value.same
     Name.ofSyntax Name.known Name.allowed Name.equal Name.samePart Name.sameName Name.covers Name.childOf
     Judge.fold Judge.misplaced Judge.due Judge.dueLines Judge.nameOf
     Directory.nameAt Directory.entriesOf Directory.typeLine Directory.lacksNaming Directory.clashes Directory.entryLine Directory.valueLine Directory.step Directory.finish Directory.directoryOf Directory.hold
@@ -202,6 +202,46 @@ unfolding directory permissions request printed serveAt ground tighter capped wi
     Answer.outcome Answer.nameLines Answer.entryLines Answer.valueLines Answer.limited Answer.selected Answer.typeLines Answer.information Answer.inSubset Answer.candidate Answer.found Answer.matchedName
     Answer.noSuchObject Answer.returned Answer.disclosed Answer.searchHit Answer.searchHits Answer.answer
 example-13 = refl
+
+-- ---- #102: blanks in text
+
+unfoldable pub blanks : List Example
+blanks =
+    -- "drop blanks at both ends and take a run inside as one"
+    compared text "Ann" " ANN  " Equal
+    ∷ compared text "Room  7" "room 7" Equal
+    ∷ compared text "Room7" "Room 7" Greater
+    -- "a value of nothing but blanks counts as one blank"
+    ∷ compared text "   " " " Equal
+    ∷ compared text "   " "a" Less
+    -- "in substrings the stored value is treated so"
+    ∷ contained ("l  k" ∷ []) "Hotel   Krone" true
+    ∷ contained ("lK" ∷ []) "Hotel Krone" false
+    -- "a piece only has its runs shortened": it keeps a blank at its ends
+    ∷ contained ("l  " ∷ []) "Hotel Krone" true
+    ∷ contained ("e " ∷ []) "Hotel Krone " false
+    ∷ []
+
+pub blanks-hold : All blanks
+unfolding blanks order contains Value.matches Value.used Value.find Value.begins Value.normal Value.normalPiece Value.folded Value.tidied Value.shorten Value.trim Sheet.strip Value.small Value.orderBytes
+blanks-hold = (refl, (refl, (refl, (refl, (refl, (refl, (refl, (refl, (refl, tt)))))))))
+
+-- "siblings "Ann" and "Ann " now give 5", and the naming value "Ann" is held as "Ann "
+unfoldable pub twins : Bytes
+twins = sheetOf (
+    "     1     3     1     0     0"
+    ∷ "     2     0     3     0     3Ann"
+    ∷ "     3     3     0     0     4Ann "
+    ∷ "     2     0     3     0     4Ann "
+    ∷ [])
+
+pub twins-refused : refusalOf (Directory.directoryOf narrow twins) ≡ 5
+unfolding twins
+    Sheet.strip Sheet.digits Sheet.numeral Sheet.columnOf Sheet.whole Sheet.frontOf Sheet.linesWithin Sheet.lines
+    Columns.takes Columns.directoryForms Columns.inForm Value.integerOf Value.small Value.printable Value.sized fits Value.normal Value.folded Value.tidied Value.shorten Value.trim Value.identical Value.same
+    Name.ofSyntax Name.known Name.allowed Name.equal Name.samePart Judge.fold
+    Directory.nameAt Directory.entriesOf Directory.typeLine Directory.lacksNaming Directory.clashes Directory.entryLine Directory.valueLine Directory.step Directory.finish Directory.directoryOf
+twins-refused = refl
 
 -- ---- of example 12
 
@@ -226,7 +266,7 @@ flat n = print (narrow .width) (entriesTo (λ k. 0) n)
 pub depths : (refusalOf (Directory.directoryOf narrow (chain 8)) ≡ 0) × (refusalOf (Directory.directoryOf narrow (chain 9)) ≡ 3)
 unfolding chain
     Sheet.strip Sheet.digits Sheet.numeral Sheet.columnOf Sheet.whole Sheet.frontOf Sheet.linesWithin Sheet.lines Sheet.leading Sheet.column Sheet.numbers Sheet.lineBytes Sheet.print
-    Columns.takes Columns.directoryForms Columns.inForm Value.integerOf Value.small Value.printable Value.sized fits Value.normal Value.identical Value.same
+    Columns.takes Columns.directoryForms Columns.inForm Value.integerOf Value.small Value.printable Value.sized fits Value.normal Value.folded Value.tidied Value.shorten Value.trim Value.identical Value.same
     Name.ofSyntax Name.known Name.allowed Name.equal Name.samePart Judge.fold
     Directory.nameAt Directory.entriesOf Directory.typeLine Directory.lacksNaming Directory.clashes Directory.entryLine Directory.valueLine Directory.step Directory.finish Directory.directoryOf
 depths = (refl, refl)
@@ -253,7 +293,7 @@ pub limits : (serve (flat 2) open′ listTwo 65536
 unfolding flat open′ listTwo serveAt ground tighter capped within respond fitting
     Sheet.strip Sheet.digits Sheet.numeral Sheet.columnOf Sheet.whole Sheet.frontOf Sheet.linesWithin Sheet.lines Sheet.leading Sheet.column Sheet.numbers Sheet.lineBytes Sheet.print
     Columns.takes Columns.directoryForms Columns.permissionForms Columns.requestForms Columns.inForm
-    Value.integerOf Value.small Value.printable Value.sized fits Value.normal Value.identical Value.same
+    Value.integerOf Value.small Value.printable Value.sized fits Value.normal Value.folded Value.tidied Value.shorten Value.trim Value.identical Value.same
     Name.ofSyntax Name.known Name.allowed Name.equal Name.samePart Name.sameName Name.covers Name.childOf
     Judge.fold Judge.misplaced Judge.due Judge.dueLines Judge.nameOf
     Directory.nameAt Directory.entriesOf Directory.typeLine Directory.lacksNaming Directory.clashes Directory.entryLine Directory.valueLine Directory.step Directory.finish Directory.directoryOf Directory.hold
@@ -282,7 +322,7 @@ pub stored-name : serve (flat 1) open′ readCapitals 65536
 unfolding flat open′ readCapitals serveAt ground tighter capped within respond fitting
     Sheet.strip Sheet.digits Sheet.numeral Sheet.columnOf Sheet.whole Sheet.frontOf Sheet.linesWithin Sheet.lines Sheet.leading Sheet.column Sheet.numbers Sheet.lineBytes Sheet.print
     Columns.takes Columns.directoryForms Columns.permissionForms Columns.requestForms Columns.inForm
-    Value.integerOf Value.small Value.printable Value.sized fits Value.normal Value.identical Value.same
+    Value.integerOf Value.small Value.printable Value.sized fits Value.normal Value.folded Value.tidied Value.shorten Value.trim Value.identical Value.same
     Name.ofSyntax Name.known Name.allowed Name.equal Name.samePart Name.sameName Name.covers Name.childOf
     Judge.fold Judge.misplaced Judge.due Judge.dueLines Judge.nameOf
     Directory.nameAt Directory.entriesOf Directory.typeLine Directory.lacksNaming Directory.clashes Directory.entryLine Directory.valueLine Directory.step Directory.finish Directory.directoryOf Directory.hold

@@ -2,6 +2,7 @@ pub mod Tests
 pub mod Lists
 pub mod Sheet
 pub mod Value
+pub mod Blanks
 pub mod Name
 pub mod Judge
 pub mod Directory

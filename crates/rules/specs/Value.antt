@@ -1,4 +1,4 @@
--- Document 01, "Values": the three syntaxes, by their numbers in K 1.
+-- Document 01, "Values": the three syntaxes, by their numbers in K 1. Text is compared with #102's blanks (document 02).
 use Prim.Native.Nat.{ℕ, _+_, _-_}
 use mathlib.Core.Bool.{Bool, true, false, _&&_, not, cond}
 use mathlib.Core.List.{List, [], _∷_, map}
@@ -6,8 +6,8 @@ use lib.Dec.{leb, ltb, eqb}
 use lib.ListN.{length, drop}
 use lib.IntN.{ℤ, pos, negℤ}
 use lib.Signed.{ltZ}
-use Rattle.rules.specs.Lists.{all}
-use Rattle.rules.specs.Sheet.{Bytes, numeral}
+use Rattle.rules.specs.Lists.{all, isEmpty}
+use Rattle.rules.specs.Sheet.{Bytes, numeral, strip}
 use Rattle.rules.specs.declared.Column.{Column}
 use Rattle.rules.specs.declared.Column.the-variants.{Number, Malformed}
 use Rattle.rules.specs.declared.Found.{Found}
@@ -55,6 +55,31 @@ small b = cond (leb 65 b) (cond (leb b 90) (b + 32) b) b
 unfoldable pub printable : ℕ → Bool
 printable b = leb 32 b && leb b 126
 
+-- ---- blanks in text: byte 32
+
+abbrev pub blankFirst : Bytes → Bool
+blankFirst [] = false
+blankFirst (b ∷ bs) = eqb b 32
+
+-- #102: "take a run inside as one"
+unfoldable pub shorten : Bytes → Bytes
+shorten [] = []
+shorten (b ∷ bs) = cond (eqb b 32 && blankFirst bs) (shorten bs) (b ∷ shorten bs)
+
+-- #102: "drop blanks at both ends": those at the end; `strip` drops those at the beginning
+unfoldable pub trim : Bytes → Bytes
+trim [] = []
+trim (b ∷ bs) = cond (eqb b 32 && isEmpty (trim bs)) [] (b ∷ trim bs)
+
+-- #102: "a value of nothing but blanks counts as one blank"
+abbrev pub orBlank : Bytes → Bytes
+orBlank [] = 32 ∷ []
+orBlank (b ∷ bs) = b ∷ bs
+
+-- #102: a text with the blanks that count
+unfoldable pub tidied : Bytes → Bytes
+tidied v = orBlank (shorten (trim (strip v)))
+
 -- ---- what a syntax allows
 
 unfoldable pub sized : Bytes → Bool
@@ -68,9 +93,13 @@ fits s v =
 
 -- ---- equality
 
--- the form by which values of a syntax are equal: text without case, others as they stand
+-- text without case, others as they stand
+unfoldable pub folded : ℕ → Bytes → Bytes
+folded s v = cond (eqb s text) (map small v) v
+
+-- the form by which values of a syntax are equal and ordered: text without case and with #102's blanks, others as they stand
 unfoldable pub normal : ℕ → Bytes → Bytes
-normal s v = cond (eqb s text) (map small v) v
+normal s v = folded s (cond (eqb s text) (tidied v) v)
 
 -- byte for byte
 unfoldable pub identical : Bytes → Bytes → Bool
@@ -154,6 +183,10 @@ unfoldable pub matches : List Piece → Bytes → Bool
 matches [] v = true
 matches (p ∷ ps) v = byFound (used (p .place) (p .bytes) v) (λ n. matches ps (drop n v))
 
--- "without case"
+-- #102: "a piece only has its runs shortened": it keeps a blank at its ends
+unfoldable pub normalPiece : ℕ → Bytes → Bytes
+normalPiece s p = folded s (cond (eqb s text) (shorten p) p)
+
+-- "without case"; #102: "in substrings the stored value is treated so", as in equality
 unfoldable pub contains : ℕ → List Piece → Bytes → Bool
-contains s ps v = matches (map (λ p. record { place = p .place; bytes = normal s (p .bytes) }) ps) (normal s v)
+contains s ps v = matches (map (λ p. record { place = p .place; bytes = normalPiece s (p .bytes) }) ps) (normal s v)

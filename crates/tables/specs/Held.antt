@@ -50,6 +50,7 @@ pub record ValueAt (schema : List ℕ) (d : Bytes) (v : Part) (h : List ℕ) (i 
   pub rank : rankAt h i < length schema
   pub type : typeAt schema (rankAt h i) ≡ v .type
   pub within : placeAt h i + sizeAt h i ≤ length d
+  pub short : sizeAt h i ≤ 64
   pub value : bytesAt d h i ≡ v .value
 
 -- the rows from `first` to `end` are the values `vs`

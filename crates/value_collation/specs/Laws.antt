@@ -1,2 +1,2 @@
-pub mod Normal
+pub mod Fold
 pub mod Compare

@@ -1,3 +1,3 @@
-pub mod Normal
+pub mod Fold
 pub mod Compare
 pub mod Laws

@@ -8,15 +8,15 @@ ghost use mathlib.Core.Bool.{not};
 ghost use Prim.Native.Nat.{_+_, _≤_};
 ghost use lib.Dec.{eqb};
 ghost use lib.ListN.{length, getD, drop};
-ghost use Rattle.rules.specs.Value.{text, normal, begins, find};
+ghost use Rattle.rules.specs.Value.{text, folded, begins, find};
 ghost use Rattle.rules.specs.Value as Value;
-ghost use Rattle.value_collation.specs.Normal as Normal;
+ghost use Rattle.value_collation.specs.Fold as Fold;
 ghost use Rattle.value_substring.specs.Pieces as Pieces;
 
 // Whether `p` stands at `at`.
 pub fn stands(v: &[u8], at: usize, p: &[u8]) -> bool
     requires { ⌜ at ≤ length (now v) ⌝ }
-    ensures { λ r. ⌜ r ≡ begins (drop at (normal text (now (v .entry)))) (normal text (now (p .entry))) ⌝ }
+    ensures { λ r. ⌜ r ≡ begins (drop at (folded text (now (v .entry)))) (folded text (now (p .entry))) ⌝ }
 {
     common(TEXT, &v[at..], p) == p.len()
 }
@@ -24,7 +24,7 @@ pub fn stands(v: &[u8], at: usize, p: &[u8]) -> bool
 // Whether four bytes are all other than the small letter `b`.
 fn absent(v: &[u8], i: usize, b: u8) -> bool
     requires { ⌜ i + 4 ≤ length (now v) ⌝ }
-    ensures { λ r. ⌜ r ≡ Normal.four (λ k. not (eqb (Value.small (getD (now (v .entry)) k 0)) b)) i ⌝ }
+    ensures { λ r. ⌜ r ≡ Fold.four (λ k. not (eqb (Value.small (getD (now (v .entry)) k 0)) b)) i ⌝ }
 {
     ((small(v[i]) != b) & (small(v[i + 1]) != b))
         & ((small(v[i + 2]) != b) & (small(v[i + 3]) != b))
@@ -33,7 +33,7 @@ fn absent(v: &[u8], i: usize, b: u8) -> bool
 // Towards the first `b` from `from` on, by four bytes at a time.
 fn leap(v: &[u8], from: usize, b: u8) -> usize
     requires { ⌜ from ≤ length (now v) ⌝ }
-    ensures { λ r. ⌜ Pieces.Sought b (normal text (now (v .entry))) from r ⌝ }
+    ensures { λ r. ⌜ Pieces.Sought b (folded text (now (v .entry))) from r ⌝ }
 {
     let mut i = from;
     while 4 <= v.len() - i {
@@ -48,7 +48,7 @@ fn leap(v: &[u8], from: usize, b: u8) -> usize
 // The first `b` from `from` on, or the end.
 fn seek(v: &[u8], from: usize, b: u8) -> usize
     requires { ⌜ from ≤ length (now v) ⌝ }
-    ensures { λ r. ⌜ r ≡ from + Pieces.seek b (drop from (normal text (now (v .entry)))) ⌝ }
+    ensures { λ r. ⌜ r ≡ from + Pieces.seek b (drop from (folded text (now (v .entry)))) ⌝ }
 {
     let mut i = leap(v, from, b);
     while i < v.len() {
@@ -63,7 +63,7 @@ fn seek(v: &[u8], from: usize, b: u8) -> usize
 // A piece anywhere: its first place.
 pub fn any(v: &[u8], from: usize, p: &[u8]) -> Found
     requires { ⌜ from ≤ length (now v) ⌝ }
-    ensures { λ r. ⌜ r ≡ find (normal text (now (p .entry))) (drop from (normal text (now (v .entry)))) 0 ⌝ }
+    ensures { λ r. ⌜ r ≡ find (folded text (now (p .entry))) (drop from (folded text (now (v .entry)))) 0 ⌝ }
 {
     if p.len() == 0 {
         return Found::At(0);

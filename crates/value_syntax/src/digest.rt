@@ -1,4 +1,6 @@
 // A number that equal values share and few others do, so that bytes are compared only where the numbers agree.
+use value_blank::tidied;
+use value_blank::tidy;
 use value_collation::small;
 ghost use mathlib.Core.Path.{_≡_};
 ghost use Prim.Native.Nat.{_<_, _^_};
@@ -20,10 +22,9 @@ fn stirred(h: u64, w: u64) -> u64
     x ^ (x / 536870912)
 }
 
-// The bytes mixed into `seed`, four at a time and then those left one by one. Letters count without case, so that equal values have
-// one digest in every syntax.
-pub fn digest(seed: u64, v: &[u8]) -> u64
-    ensures { λ r. ⌜ r ≡ Digest.digest seed (now (v .entry)) ⌝ }
+// The bytes mixed into `seed`, four at a time and then those left one by one.
+fn mixed(seed: u64, v: &[u8]) -> u64
+    ensures { λ r. ⌜ r ≡ Digest.mixed seed (now (v .entry)) ⌝ }
 {
     let mut h = seed;
     let mut i: usize = 0;
@@ -36,4 +37,19 @@ pub fn digest(seed: u64, v: &[u8]) -> u64
         i += 1;
     }
     h % 4294967296
+}
+
+// The digest of a value: letters count without case, and blanks as in text, so that equal values have one digest in every syntax.
+pub fn digest(seed: u64, v: &[u8]) -> u64
+    ensures { λ r. ⌜ r ≡ Digest.digest seed (now (v .entry)) ⌝ }
+{
+    if v.len() <= 64 {
+        if tidy(v) {
+            return mixed(seed, v);
+        }
+    }
+    let t = tidied(v);
+    let n = t.length;
+    let bytes = t.bytes;
+    mixed(seed, &bytes[0..n])
 }

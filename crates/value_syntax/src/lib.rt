@@ -12,6 +12,8 @@ ghost use mathlib.Core.Path.{_≡_};
 ghost use Prim.Native.Nat.{_≤_};
 ghost use lib.ListN.{length, drop};
 ghost use Rattle.rules.specs.Value as Value;
+ghost use Rattle.rules.specs.Value.{text, folded, normalPiece};
+ghost use Rattle.value_text.specs.Walk.{isEqual};
 
 // Whether the syntax allows the value.
 pub fn fits(syntax: u64, v: &[u8]) -> bool
@@ -30,10 +32,24 @@ pub fn fits(syntax: u64, v: &[u8]) -> bool
     true
 }
 
+// Equal?
+fn equal(order: Order) -> bool
+    ensures { λ r. ⌜ r ≡ isEqual order ⌝ }
+{
+    match order {
+        Order::Equal => true,
+        Order::Less => false,
+        Order::Greater => false,
+    }
+}
+
 // The equality matching rule: whether two values that the syntax allows are equal.
 pub fn same(syntax: u64, v: &[u8], w: &[u8]) -> bool
     ensures { λ r. ⌜ r ≡ Value.same syntax (now (v .entry)) (now (w .entry)) ⌝ }
 {
+    if syntax == TEXT {
+        return equal(value_text::order_text(v, w));
+    }
     if v.len() != w.len() {
         return false;
     }
@@ -54,6 +70,9 @@ pub fn order(syntax: u64, v: &[u8], w: &[u8]) -> Order
     if syntax == INTEGER {
         return value_integer::order_integers(value_integer::integer(v), value_integer::integer(w));
     }
+    if syntax == TEXT {
+        return value_text::order_text(v, w);
+    }
     value_collation::order_bytes(syntax, v, w)
 }
 
@@ -64,11 +83,10 @@ pub fn searchable(syntax: u64) -> bool
     syntax == TEXT
 }
 
-// The substrings rule, a piece at a time: how many bytes of a text are used, from `from` on, up to the piece's end.
-// Its place is 0 initial, 1 any, 2 final.
-pub fn piece_end(v: &[u8], from: usize, place: u64, p: &[u8]) -> Found
+// How many bytes of a text are used, from `from` on, up to the end of a piece that has no runs.
+fn end_of(v: &[u8], from: usize, place: u64, p: &[u8]) -> Found
     requires { ⌜ from ≤ length (now v) ⌝ }
-    ensures { λ r. ⌜ r ≡ Value.used place (Value.normal Value.text (now (p .entry))) (drop from (Value.normal Value.text (now (v .entry)))) ⌝ }
+    ensures { λ r. ⌜ r ≡ Value.used place (folded text (now (p .entry))) (drop from (folded text (now (v .entry)))) ⌝ }
 {
     if place == 0 {
         if value_substring::stands(v, from, p) {
@@ -86,4 +104,19 @@ pub fn piece_end(v: &[u8], from: usize, place: u64, p: &[u8]) -> Found
         return Found::At(v.len() - from);
     }
     Found::Nothing
+}
+
+// The substrings rule, a piece at a time: how many bytes of a text without stray blanks are used, from `from` on, up to the piece's end.
+// Its place is 0 initial, 1 any, 2 final. Of the piece only the runs are shortened.
+pub fn piece_end(v: &[u8], from: usize, place: u64, p: &[u8]) -> Found
+    requires { ⌜ (from ≤ length (now v)) × (length (now p) ≤ 64) ⌝ }
+    ensures { λ r. ⌜ r ≡ Value.used place (normalPiece text (now (p .entry))) (drop from (folded text (now (v .entry)))) ⌝ }
+{
+    if value_blank::run(p) {
+        let t = value_blank::shortened(p);
+        let n = t.length;
+        let bytes = t.bytes;
+        return end_of(v, from, place, &bytes[0..n]);
+    }
+    end_of(v, from, place, p)
 }

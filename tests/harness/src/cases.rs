@@ -118,7 +118,7 @@ fn at_the_limits(random: &mut Random) -> Case {
             asked = limits::search_with(FilterLines::Present(1), selected);
         }
         _ => {
-            // An entry whose naming value and held value differ in letters alone.
+            // An entry whose naming value and held value differ in letters or blanks alone.
             let held = variant(random, 1, b"Ann");
             let mut entry = EntryLines::bare(0, 2, b"Ann");
             entry.values[0].1 = held;

@@ -4,8 +4,10 @@
 use crate::random::Random;
 use crate::requests::requester;
 use crate::shown::{shown, Requester};
-use crate::values::{value, variant};
-use crate::world::{add_value, entry, free_part, item, some_value, stored_name, world, World};
+use crate::values::{equal, fits, value, variant};
+use crate::world::{
+    add_value, entry, free_part, item, rewrite, some_value, stored_name, world, World,
+};
 use peer::builder::{DirectorySheet, EntryLines, ItemLines, PermissionSheet, Thing, User};
 use peer::directory::Directory;
 
@@ -26,8 +28,8 @@ pub fn pair(random: &mut Random) -> Option<Pair> {
     if one.types.is_empty() {
         return None;
     }
-    hide(random, &one, &mut permissions);
     let requester = Requester { level: *random.pick(&[0, 1, 2]), name: requester(random, &one) };
+    hide(random, &one, &requester, &mut permissions);
     let before = shown(&one, &permissions, &requester);
     let mut other = one.clone();
     let mut changes = Vec::new();
@@ -46,15 +48,20 @@ pub fn pair(random: &mut Random) -> Option<Pair> {
     (other != one).then_some(Pair { one, other, permissions, requester, changes })
 }
 
-/// Adds items that hide entries, types or values.
-fn hide(random: &mut Random, directory: &DirectorySheet, permissions: &mut PermissionSheet) {
+/// Adds items that hide entries, types or values from the requester.
+fn hide(
+    random: &mut Random,
+    directory: &DirectorySheet,
+    requester: &Requester,
+    permissions: &mut PermissionSheet,
+) {
     for _ in 0..random.between(1, 5) {
         let &(kind, syntax) = random.pick(&directory.types);
-        let what = match random.below(8) {
+        let what = match random.below(10) {
             0..=3 => Thing::Entry,
             4 => Thing::Type(kind),
             5 => Thing::ValuesOf(kind),
-            6 => match some_value(random, directory) {
+            6..=8 => match some_value(random, directory) {
                 Some((kind, value)) => Thing::Value(kind, value),
                 None => Thing::Value(kind, value(random, syntax)),
             },
@@ -72,7 +79,7 @@ fn hide(random: &mut Random, directory: &DirectorySheet, permissions: &mut Permi
             grants: false,
             subtree: random.percent(60),
             base,
-            who: User::All,
+            who: from_whom(random, directory, requester),
             what,
             mask,
         });
@@ -91,6 +98,20 @@ fn hide(random: &mut Random, directory: &DirectorySheet, permissions: &mut Permi
     }
 }
 
+/// All users, or the requester in other writing, if the schema allows the name.
+fn from_whom(random: &mut Random, directory: &DirectorySheet, requester: &Requester) -> User {
+    let mut name = requester.name.clone();
+    rewrite(random, directory, &mut name);
+    let allowed = name
+        .iter()
+        .all(|(kind, value)| directory.syntax(*kind).is_some_and(|syntax| fits(syntax, value)));
+    match random.below(6) {
+        0 if allowed => User::Named(name),
+        1 if allowed => User::AtOrBelow(name),
+        _ => User::All,
+    }
+}
+
 /// The ways in which a directory is changed.
 #[derive(Clone, Copy, Debug, PartialEq, Eq, PartialOrd, Ord)]
 pub enum Change {
@@ -100,7 +121,7 @@ pub enum Change {
     AddValue,
     RemoveValue,
     ReplaceValue,
-    OtherLetters,
+    OtherWriting,
     RemoveType,
     OrderOfValues,
     OrderOfEntries,
@@ -114,7 +135,7 @@ impl Change {
         Change::AddValue,
         Change::RemoveValue,
         Change::ReplaceValue,
-        Change::OtherLetters,
+        Change::OtherWriting,
         Change::RemoveType,
         Change::OrderOfValues,
         Change::OrderOfEntries,
@@ -156,7 +177,7 @@ impl Change {
                 let value = value(random, held_syntax);
                 add_value(random, entry, held_kind, held_syntax, value);
             }
-            Change::OtherLetters => entry.values[place].1 = variant(random, held_syntax, &held),
+            Change::OtherWriting => entry.values[place].1 = variant(random, held_syntax, &held),
             Change::RemoveType => entry.values.retain(|(kind, _)| *kind != held_kind),
             Change::OrderOfValues => {
                 let other = random.below(entry.values.len());
@@ -193,7 +214,7 @@ fn insert(random: &mut Random, permissions: &PermissionSheet, directory: &mut Di
             let child = directory.entries.iter().position(|entry| {
                 entry.parent == above
                     && entry.naming.0 == *kind
-                    && entry.naming.1.eq_ignore_ascii_case(value)
+                    && equal(directory.syntax(*kind).unwrap_or_default(), &entry.naming.1, value)
             });
             match child {
                 Some(index) => above = index as u32 + 1,

@@ -2,7 +2,7 @@
 //! kinds, selections with repeats, unknown types and unfit values.
 
 use crate::random::Random;
-use crate::values::{unfit, value, variant, TEXT};
+use crate::values::{other_letters, unfit, value, variant, TEXT};
 use crate::world::{free_part, some_value, stored_name, user_name};
 use peer::builder::{DirectorySheet, FilterLines, Name, OperationLines, RequestSheet, Selected};
 
@@ -226,8 +226,14 @@ fn substrings(random: &mut Random, directory: &DirectorySheet) -> FilterLines {
             1 if random.percent(30) => unfit(random, TEXT),
             _ => cut(random, &source, &mut start, place),
         };
-        let piece = if piece.is_empty() { b"a".to_vec() } else { piece };
-        pieces.push((place as u32, variant(random, TEXT, &piece)));
+        let mut piece = if piece.is_empty() { b"a".to_vec() } else { piece };
+        if random.percent(25) {
+            // Blanks at its ends make it another piece.
+            piece = variant(random, TEXT, &piece);
+        } else {
+            other_letters(random, &mut piece);
+        }
+        pieces.push((place as u32, piece));
     }
     FilterLines::Substrings(kind, pieces)
 }

@@ -1,6 +1,7 @@
 //! The answer sheet.
 
 use crate::directory::{Directory, Number};
+use crate::fault::{planted, Fault};
 use crate::sheet::{write_line, HEAD};
 
 /// Column B of line 30.
@@ -26,6 +27,7 @@ impl Answer {
     }
 
     pub fn line(&mut self, kind: u32, a: u32, b: u32, bytes: &[u8]) {
+        let bytes = if planted(Fault::BlanksDroppedInAnswers) { bytes.trim_ascii() } else { bytes };
         write_line(&mut self.sheet, kind, a, b, 0, bytes);
     }
 

@@ -97,7 +97,7 @@ impl<'d, 'a> Judge<'d, 'a> {
                 if planted(Fault::ItemValueByBytes) {
                     named.bytes == value.bytes
                 } else {
-                    named == value
+                    named.equals_under(Fault::ItemValueCountsBlanks, value)
                 }
             };
             *mask = KNOWN

@@ -140,7 +140,8 @@ impl<'a> Directory<'a> {
         }
         lineage[above] = number as u16;
         let naming = Part::new(&self.schema, line.b, line.bytes).ok_or(Reason::NotInSchema)?;
-        if self.child(parent, &naming).is_some() && !self.clash_planted(parent, &naming) {
+        let twin = self.child(parent, &naming, Fault::SiblingsCountBlanks);
+        if twin.is_some() && !self.clash_planted(parent, &naming) {
             return Err(Reason::Twice);
         }
         if planted(Fault::SiblingsAcrossTypes)
@@ -184,7 +185,7 @@ impl<'a> Directory<'a> {
                     if planted(Fault::ValuesTwiceByBytes) {
                         other.bytes == value.bytes
                     } else {
-                        *other == value
+                        other.equals_under(Fault::ValuesTwiceCountBlanks, &value)
                     }
                 });
                 if twice {
@@ -211,7 +212,7 @@ impl<'a> Directory<'a> {
             if planted(Fault::NamingByBytes) {
                 value.bytes == entry.naming.value.bytes
             } else {
-                *value == entry.naming.value
+                value.equals_under(Fault::NamingCountsBlanks, &entry.naming.value)
             }
         });
         if among {
@@ -259,8 +260,9 @@ impl<'a> Directory<'a> {
         })
     }
 
-    pub fn child(&self, parent: Number, part: &Part) -> Option<Number> {
-        self.children(parent).find(|&number| self.entry(number).naming == *part)
+    /// The child of a name; if the fault is planted, blanks count.
+    fn child(&self, parent: Number, part: &Part, fault: Fault) -> Option<Number> {
+        self.children(parent).find(|&number| self.entry(number).naming.equals_under(fault, part))
     }
 
     /// The entries that the beginnings of a name lead to, as far as they exist.
@@ -268,7 +270,7 @@ impl<'a> Directory<'a> {
         let mut path = Vec::with_capacity(MAX_DEPTH);
         let mut parent = ROOT;
         for part in name {
-            match part.and_then(|part| self.child(parent, part)) {
+            match part.and_then(|part| self.child(parent, part, Fault::NamesCountBlanks)) {
                 Some(number) => path.push(number),
                 None => break,
             }

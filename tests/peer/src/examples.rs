@@ -93,10 +93,10 @@ fn example_9_integers_are_ordered_by_number() {
 #[test]
 fn example_10_pieces_do_not_overlap() {
     let text = |bytes| Value::new(Syntax::Text, bytes).unwrap();
-    let ana = Piece { place: Place::Any, text: text(b"ana") };
-    assert!(substrings(&text(b"banana"), &[ana]));
-    assert!(!substrings(&text(b"banana"), &[ana, ana]));
-    assert!(substrings(&text(b"bananAna"), &[ana, ana]));
+    let ana = |count| vec![Piece::new(Place::Any, &text(b"ana")); count];
+    assert!(substrings(&text(b"banana"), &ana(1)));
+    assert!(!substrings(&text(b"banana"), &ana(2)));
+    assert!(substrings(&text(b"bananAna"), &ana(2)));
 }
 
 #[test]

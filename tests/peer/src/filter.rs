@@ -41,7 +41,7 @@ pub enum Assertion<'a> {
     AtLeast(Value<'a>),
     AtMost(Value<'a>),
     Present,
-    Substrings(Vec<Piece<'a>>),
+    Substrings(Vec<Piece>),
 }
 
 impl Filter<'_> {
@@ -138,7 +138,7 @@ impl Assertion<'_> {
 
     fn fits(&self, value: &Value) -> bool {
         match self {
-            Assertion::Equality(wanted) => value == wanted,
+            Assertion::Equality(wanted) => value.equals_under(Fault::EqualityCountsBlanks, wanted),
             Assertion::AtLeast(bound) => {
                 let strictly = planted(Fault::AtLeastIsAbove);
                 match value.compare(bound) {

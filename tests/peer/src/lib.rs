@@ -1,4 +1,4 @@
-//! A second implementation of the hotel directory server, written from document 01 alone.
+//! A second implementation of the hotel directory server, written from documents 01 and 02 alone.
 //!
 //! Each sheet is decoded once into vectors; the items of the permission sheet that can concern
 //! the requester are kept in the order in which they decide, and those that cover an entry are
@@ -17,6 +17,7 @@ pub mod permissions;
 pub mod request;
 pub mod schema;
 pub mod sheet;
+pub mod text;
 pub mod value;
 
 #[cfg(test)]

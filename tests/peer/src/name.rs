@@ -1,5 +1,6 @@
 //! Names: parts from depth 1 down.
 
+use crate::fault::Fault;
 use crate::schema::{Schema, Slot};
 use crate::value::Value;
 
@@ -14,6 +15,10 @@ impl<'a> Part<'a> {
         let slot = schema.slot(number)?;
         Some(Part { slot, value: schema.value(slot, bytes)? })
     }
+
+    pub fn equals_under(&self, fault: Fault, other: &Part) -> bool {
+        self.slot == other.slot && self.value.equals_under(fault, &other.value)
+    }
 }
 
 /// A name in a request. A part that the schema does not allow is `None` and equals no part.
@@ -22,5 +27,7 @@ pub type Asked<'a> = Vec<Option<Part<'a>>>;
 /// Whether the asked name begins with `name`.
 pub fn begins_with(asked: &[Option<Part>], name: &[Part]) -> bool {
     asked.len() >= name.len()
-        && asked.iter().zip(name).all(|(part, wanted)| part.as_ref() == Some(wanted))
+        && asked.iter().zip(name).all(|(part, wanted)| {
+            part.is_some_and(|part| part.equals_under(Fault::UsersCountBlanks, wanted))
+        })
 }

@@ -156,7 +156,7 @@ impl Service<'_, '_> {
         };
         let unjudged = planted(Fault::CompareValuesUnjudged);
         let equal = self.directory.places_of(entry, slot).any(|place| {
-            self.directory.values[place] == part.value
+            self.directory.values[place].equals_under(Fault::CompareCountsBlanks, &part.value)
                 && (self.judge.of_value(slot, place) & COMPARE != 0 || unjudged)
         });
         let mut answer = self.answer(Outcome::Result);

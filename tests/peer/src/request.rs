@@ -231,7 +231,7 @@ impl<'a> Reader<'a, '_> {
                 return Err(Reason::OutOfOrder);
             }
             match text.and_then(|slot| self.schema.value(slot, piece.bytes)) {
-                Some(text) => pieces.push(Piece { place, text }),
+                Some(text) => pieces.push(Piece::new(place, &text)),
                 None => all_fit = planted(Fault::UnfitPieceIgnored),
             }
         }

@@ -1,6 +1,7 @@
 //! Syntaxes and matching rules.
 
 use crate::fault::{planted, Fault};
+use crate::text::{self, normal, without_blanks};
 use std::cmp::Ordering;
 
 #[derive(Clone, Copy, Debug, PartialEq, Eq)]
@@ -33,8 +34,11 @@ pub struct Value<'a> {
 impl<'a> Value<'a> {
     pub fn new(syntax: Syntax, bytes: &'a [u8]) -> Option<Self> {
         let key = match syntax {
+            Syntax::Octets if planted(Fault::OctetsDropBlanks) && !bytes.is_empty() => {
+                hash(without_blanks(bytes))
+            }
             Syntax::Octets if fits_octets(bytes) => hash(bytes.iter().copied()),
-            Syntax::Text if fits_text(bytes) => hash(bytes.iter().map(u8::to_ascii_lowercase)),
+            Syntax::Text if fits_text(bytes) => hash(normal(bytes)),
             Syntax::Integer => integer(bytes)? as u64,
             _ => return None,
         };
@@ -49,18 +53,24 @@ impl<'a> Value<'a> {
     pub fn compare(&self, other: &Value) -> Option<Ordering> {
         match self.syntax {
             Syntax::Octets => planted(Fault::OctetsOrdered).then(|| self.bytes.cmp(other.bytes)),
-            Syntax::Text if planted(Fault::TextOrderByCase) => Some(self.bytes.cmp(other.bytes)),
-            Syntax::Text => Some(
-                self.bytes
-                    .iter()
-                    .map(u8::to_ascii_lowercase)
-                    .cmp(other.bytes.iter().map(u8::to_ascii_lowercase)),
-            ),
+            Syntax::Text if planted(Fault::TextOrderByCase) => {
+                Some(without_blanks(self.bytes).cmp(without_blanks(other.bytes)))
+            }
+            Syntax::Text if planted(Fault::OrderCountsBlanks) => {
+                Some(self.bytes.to_ascii_lowercase().cmp(&other.bytes.to_ascii_lowercase()))
+            }
+            Syntax::Text => Some(normal(self.bytes).cmp(normal(other.bytes))),
             Syntax::Integer if planted(Fault::IntegerOrderByBytes) => {
                 Some(self.bytes.cmp(other.bytes))
             }
             Syntax::Integer => Some((self.key as i64).cmp(&(other.key as i64))),
         }
+    }
+
+    /// Equality; if the fault is planted, blanks in text count as in document 01.
+    pub fn equals_under(&self, fault: Fault, other: &Value) -> bool {
+        let counted = self.syntax == Syntax::Text && planted(fault);
+        self == other && (!counted || self.bytes.eq_ignore_ascii_case(other.bytes))
     }
 }
 
@@ -68,8 +78,11 @@ impl PartialEq for Value<'_> {
     fn eq(&self, other: &Self) -> bool {
         self.key == other.key
             && match self.syntax {
+                Syntax::Octets if planted(Fault::OctetsDropBlanks) => true,
                 Syntax::Octets => self.bytes == other.bytes,
-                Syntax::Text => self.bytes.eq_ignore_ascii_case(other.bytes),
+                Syntax::Text => {
+                    self.bytes == other.bytes || normal(self.bytes).eq(normal(other.bytes))
+                }
                 Syntax::Integer => true,
             }
     }
@@ -83,7 +96,8 @@ fn fits_octets(bytes: &[u8]) -> bool {
 
 fn fits_text(bytes: &[u8]) -> bool {
     let highest = if planted(Fault::Text127Accepted) { 127 } else { 126 };
-    !bytes.is_empty() && bytes.iter().all(|byte| (32..=highest).contains(byte))
+    let blank = planted(Fault::BlanksAloneUnfit) && bytes.trim_ascii().is_empty();
+    !bytes.is_empty() && !blank && bytes.iter().all(|byte| (32..=highest).contains(byte))
 }
 
 /// FNV-1a.
@@ -133,33 +147,39 @@ pub enum Place {
     Final,
 }
 
-/// One piece of a substrings assertion; its bytes fit text.
-#[derive(Clone, Copy, Debug)]
-pub struct Piece<'a> {
-    pub place: Place,
-    pub text: Value<'a>,
+/// One piece of a substrings assertion.
+#[derive(Clone, Debug)]
+pub struct Piece {
+    place: Place,
+    /// In the form in which it is looked for.
+    text: Vec<u8>,
+}
+
+impl Piece {
+    pub fn new(place: Place, value: &Value) -> Self {
+        Piece { place, text: text::piece(value.bytes) }
+    }
 }
 
 /// The pieces appear in order without overlap, each placed leftmost.
 pub fn substrings(value: &Value, pieces: &[Piece]) -> bool {
-    let mut rest = value.bytes;
+    let stored: Vec<u8> = if planted(Fault::StoredBlanksCount) {
+        value.bytes.to_ascii_lowercase()
+    } else {
+        normal(value.bytes).collect()
+    };
+    let mut rest = &stored[..];
     for piece in pieces {
-        let wanted = piece.text.bytes;
+        let wanted = &piece.text[..];
         let place = match piece.place {
             Place::Initial if planted(Fault::InitialFloats) => Place::Any,
             Place::Final if planted(Fault::FinalFloats) => Place::Any,
             place => place,
         };
         let found = match place {
-            _ if wanted.len() > rest.len() => None,
-            Place::Initial => rest[..wanted.len()].eq_ignore_ascii_case(wanted).then_some(0),
-            Place::Any => {
-                rest.windows(wanted.len().max(1)).position(|part| part.eq_ignore_ascii_case(wanted))
-            }
-            Place::Final => {
-                let start = rest.len() - wanted.len();
-                rest[start..].eq_ignore_ascii_case(wanted).then_some(start)
-            }
+            Place::Initial => rest.starts_with(wanted).then_some(0),
+            Place::Any => rest.windows(wanted.len().max(1)).position(|part| part == wanted),
+            Place::Final => rest.ends_with(wanted).then(|| rest.len() - wanted.len()),
         };
         let taken = if planted(Fault::PiecesOverlap) { 1.min(wanted.len()) } else { wanted.len() };
         match found {

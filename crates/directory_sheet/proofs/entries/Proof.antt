@@ -1,6 +1,6 @@
 -- The entries before the position are noted, with their values and the rows of these; `taken` stands there.
 use Rattle.directory_schema.proofs.Lines.{not-line}
-use Rattle.directory_sheet.specs.Laws.Entries.{EntriesRead, answer-refused, standing-start, standing-refused, standing-room, standing-begun, standing-lost, standing-on, standing-short, standing-ended}
+use Rattle.directory_sheet.specs.Laws.Entries.{EntriesRead, answer-refused, standing-start, standing-refused, standing-room, standing-asked, standing-lost, standing-on, standing-further, standing-short, standing-ended}
 use Rattle.directory_ruling.specs.Mark.{Mark, Room, heads}
 use Rattle.directory_ruling.specs.Laws.Rulings.{line-within}
 use Rattle.sheet_line.specs.Laws.{taken-fits-line}
@@ -11,11 +11,30 @@ use mathlib.Core.Option.{Option, none}
 use mathlib.Core.List.{List, []}
 use mathlib.Core.Path.{sym, ap, _∙_}
 use native.Mathlib.Omega.{arith}
-use Prim.Native.Nat.{_-_, _≤_, _<_}
+use Prim.Native.Nat.{ℕ, _+_, _*_, _-_, _≤_, _<_}
+use mir.Syntax.{w64}
+use mir.Val.{Fits}
 use denote.Ref.{now}
 use borrow.Author.Needs.{needs}
 use Rattle.directory_sheet.proofs.entries.Statement.{statement}
 use Rattle.directory_sheet.proofs.entries.Tie as tie
+
+-- numbers made of a place below 256
+module _ {n : ℕ} (h : n < 256) where
+  within-next : n < 257
+  within-next = omega arith
+
+  next-within : n + 1 < 257
+  next-within = omega arith
+
+  next-fits : Fits w64 (n + 1)
+  next-fits = omega arith
+
+  place-fits : Fits w64 (n * 8)
+  place-fits = omega arith
+
+  next-place-fits : Fits w64 ((n + 1) * 8)
+  next-place-fits = omega arith
 
 abbrev Inv-loop : tie.InvT-loop
 Inv-loop s f schema from held₀ notes₀ depths₀ marks₀ n₀ lacks₀ at₀ taken₀ held notes depths marks n lacks at taken = (complete : List Stored) × (current : Option Stored) × (ms : List Mark) × EntriesRead f s schema notes depths marks held n lacks at taken complete current ms
@@ -40,70 +59,69 @@ entry-line-requires c κs = let st = c .before .before .before .before .before .
 
 returns-3 : tie.Need-returns-3 Inv-loop μ-loop
 returns-3 c = let L = c .before .before .before .before .before .before .before .before .before .before .loop in
-    answer-refused _ _ (L .inv .3 .ready .sheet) _ _ _ (c .refused2 .ensures) (standing-refused (L .inv .3) (c .before .before .before .before .before .before .before .before .taken .given .1) (c .before .before .before .before .entry-line .ensures (L .inv .2) (L .inv .3 .ready)) (c .before .before .if2 .taken))
+    answer-refused _ _ (L .inv .3 .ready .sheet) _ _ _ (c .refused2 .ensures) (standing-refused (L .inv .3) (c .before .before .before .before .before .before .before .before .taken .given .1) (c .before .before .before .before .entry-line .ensures) (c .before .before .if2 .taken))
 
 -- where the entry line was taken: room for the entry and for its mark
 room : (c : tie.Else2 Inv-loop μ-loop) → let L = c .before .before .before .before .before .before .before .before .loop in let x = c .before .before .before .before .before .before .taken .given .0 .0 in
     (L .notes .count < 256) × (x .a ≤ L .notes .count) × (getD (L .depths) (x .a) 0 < 8) × (L .n < heads) × Room (L .marks) (L .n) (c .before .before .entry-line .result)
-room c = standing-room (c .before .before .before .before .before .before .before .before .loop .inv .3) (c .before .before .before .before .before .before .taken .given .1) (c .before .before .entry-line .ensures (c .before .before .before .before .before .before .before .before .loop .inv .2) (c .before .before .before .before .before .before .before .before .loop .inv .3 .ready)) (c .if2 .left)
+room c = standing-room (c .before .before .before .before .before .before .before .before .loop .inv .3) (c .before .before .before .before .before .before .taken .given .1) (c .before .before .entry-line .ensures) (c .if2 .left)
 
 note-requires : tie.Need-note-requires Inv-loop μ-loop
 note-requires c κs = room (c .before) .4
 
 add-values : tie.Need-add-values Inv-loop μ-loop
-add-values c = omega (arith, room (c .before .before) .0)
+add-values c = next-fits (room (c .before .before) .0)
 
 mul-notes : tie.Need-mul-notes Inv-loop μ-loop
-mul-notes c = omega (arith, room (c .before .before) .0)
+mul-notes c = place-fits (room (c .before .before) .0)
 
 element-copy-out-notes : tie.Need-element-copy-out-notes Inv-loop μ-loop
-element-copy-out-notes c = omega (arith, room (c .before .before) .0, c .before .before .before .before .before .before .before .before .before .before .loop .inv .3 .sized .first)
+element-copy-out-notes c = within-next (room (c .before .before) .0)
 
 add-values-2 : tie.Need-add-values-2 Inv-loop μ-loop
 add-values-2 c = omega (arith, room (c .before .before .before) .3)
 
 values-requires : tie.Need-values-requires Inv-loop μ-loop
-values-requires c κs = record { complete = _; entry = _; all = _; begun = (standing-begun (c .before .before .before .before .before .before .before .before .before .before .before .before .before .loop .inv .3) (c .before .before .before .before .before .before .before .before .before .before .before .taken .given .1) (c .before .before .before .before .before .before .before .entry-line .ensures (c .before .before .before .before .before .before .before .before .before .before .before .before .before .loop .inv .2) (c .before .before .before .before .before .before .before .before .before .before .before .before .before .loop .inv .3 .ready)) (c .before .before .before .before .before .if2 .left) (c .before .before .before .note .ensures)) }
+values-requires c κs = standing-asked (c .before .before .before .before .before .before .before .before .before .before .before .before .before .loop .inv .3) (c .before .before .before .before .before .before .before .before .before .before .before .taken .given .1) (c .before .before .before .before .before .before .before .entry-line .ensures) (c .before .before .before .before .before .if2 .left) (c .before .before .before .note .ensures)
 
 returns-4 : tie.Need-returns-4 Inv-loop μ-loop
-returns-4 c = answer-refused _ _ (c .before .before .before .before .before .before .before .before .before .before .before .before .before .before .before .before .before .before .loop .inv .3 .ready .sheet) _ _ _ (c .refused3 .ensures)
-    (standing-lost (c .before .before .before .before .before .before .before .before .before .before .before .before .before .before .before .before .before .before .loop .inv .3) (c .before .before .before .before .before .before .before .before .before .before .before .before .before .before .before .before .taken .given .1) (c .before .before .before .before .before .before .before .before .before .before .before .before .entry-line .ensures (c .before .before .before .before .before .before .before .before .before .before .before .before .before .before .before .before .before .before .loop .inv .2) (c .before .before .before .before .before .before .before .before .before .before .before .before .before .before .before .before .before .before .loop .inv .3 .ready)) (c .before .before .before .before .before .before .before .before .before .before .if2 .left) (c .before .before .before .before .values .ensures _ _ _ (standing-begun (c .before .before .before .before .before .before .before .before .before .before .before .before .before .before .before .before .before .before .loop .inv .3) (c .before .before .before .before .before .before .before .before .before .before .before .before .before .before .before .before .taken .given .1) (c .before .before .before .before .before .before .before .before .before .before .before .before .entry-line .ensures (c .before .before .before .before .before .before .before .before .before .before .before .before .before .before .before .before .before .before .loop .inv .2) (c .before .before .before .before .before .before .before .before .before .before .before .before .before .before .before .before .before .before .loop .inv .3 .ready)) (c .before .before .before .before .before .before .before .before .before .before .if2 .left) (c .before .before .before .before .before .before .before .before .note .ensures))) (c .before .before .if3 .taken))
+returns-4 c = answer-refused _ _ (c .before .before .before .before .before .before .before .before .before .before .before .before .before .before .before .before .before .before .loop .inv .3 .ready .sheet) _ _ _ (c .refused3 .ensures) (standing-lost (c .before .before .before .before .before .before .before .before .before .before .before .before .before .before .before .before .before .before .loop .inv .3) (c .before .before .before .before .before .before .before .before .before .before .before .before .before .before .before .before .taken .given .1) (c .before .before .before .before .before .before .before .before .before .before .before .before .entry-line .ensures) (c .before .before .before .before .before .before .before .before .before .before .if2 .left) (c .before .before .before .before .before .before .before .before .note .ensures) (c .before .before .before .before .values .ensures) (c .before .before .if3 .taken))
 
 mul-notes-2 : tie.Need-mul-notes-2 Inv-loop μ-loop
-mul-notes-2 c = omega (arith, room (c .before .before .before .before .before .before .before .before) .0)
+mul-notes-2 c = place-fits (room (c .before .before .before .before .before .before .before .before) .0)
 
 element-write-notes : tie.Need-element-write-notes Inv-loop μ-loop
-element-write-notes c = omega (arith, room (c .before .before .before .before .before .before .before .before) .0, c .before .before .before .before .before .before .before .before .before .before .before .before .before .before .before .before .loop .inv .3 .sized .at)
+element-write-notes c = room (c .before .before .before .before .before .before .before .before) .0
 
 mul-notes-3 : tie.Need-mul-notes-3 Inv-loop μ-loop
-mul-notes-3 c = omega (arith, room (c .before .before .before .before .before .before .before .before) .0)
+mul-notes-3 c = place-fits (room (c .before .before .before .before .before .before .before .before) .0)
 
 element-write-notes-2 : tie.Need-element-write-notes-2 Inv-loop μ-loop
-element-write-notes-2 c = omega (arith, room (c .before .before .before .before .before .before .before .before) .0, c .before .before .before .before .before .before .before .before .before .before .before .before .before .before .before .before .loop .inv .3 .sized .parents)
+element-write-notes-2 c = room (c .before .before .before .before .before .before .before .before) .0
 
 mul-notes-4 : tie.Need-mul-notes-4 Inv-loop μ-loop
-mul-notes-4 c = omega (arith, room (c .before .before .before .before .before .before .before .before) .0)
+mul-notes-4 c = place-fits (room (c .before .before .before .before .before .before .before .before) .0)
 
 element-write-notes-3 : tie.Need-element-write-notes-3 Inv-loop μ-loop
-element-write-notes-3 c = omega (arith, room (c .before .before .before .before .before .before .before .before) .0, c .before .before .before .before .before .before .before .before .before .before .before .before .before .before .before .before .loop .inv .3 .sized .naming)
+element-write-notes-3 c = room (c .before .before .before .before .before .before .before .before) .0
 
 mul-notes-5 : tie.Need-mul-notes-5 Inv-loop μ-loop
-mul-notes-5 c = omega (arith, room (c .before .before .before .before .before .before .before .before) .0)
+mul-notes-5 c = place-fits (room (c .before .before .before .before .before .before .before .before) .0)
 
 element-write-notes-4 : tie.Need-element-write-notes-4 Inv-loop μ-loop
-element-write-notes-4 c = omega (arith, room (c .before .before .before .before .before .before .before .before) .0, c .before .before .before .before .before .before .before .before .before .before .before .before .before .before .before .before .loop .inv .3 .sized .lengths)
+element-write-notes-4 c = room (c .before .before .before .before .before .before .before .before) .0
 
 add-notes : tie.Need-add-notes Inv-loop μ-loop
-add-notes c = omega (arith, room (c .before .before .before .before .before .before .before .before) .0)
+add-notes c = next-fits (room (c .before .before .before .before .before .before .before .before) .0)
 
 mul-notes-6 : tie.Need-mul-notes-6 Inv-loop μ-loop
-mul-notes-6 c = omega (arith, room (c .before .before .before .before .before .before .before .before) .0)
+mul-notes-6 c = next-place-fits (room (c .before .before .before .before .before .before .before .before) .0)
 
 element-write-notes-5 : tie.Need-element-write-notes-5 Inv-loop μ-loop
-element-write-notes-5 c = omega (arith, room (c .before .before .before .before .before .before .before .before) .0, c .before .before .before .before .before .before .before .before .before .before .before .before .before .before .before .before .loop .inv .3 .sized .first)
+element-write-notes-5 c = next-within (room (c .before .before .before .before .before .before .before .before) .0)
 
 add-notes-2 : tie.Need-add-notes-2 Inv-loop μ-loop
-add-notes-2 c = omega (arith, room (c .before .before .before .before .before .before .before .before) .0)
+add-notes-2 c = next-fits (room (c .before .before .before .before .before .before .before .before) .0)
 
 mul-depths : tie.Need-mul-depths Inv-loop μ-loop
 mul-depths c = omega (arith, room (c .before .before .before .before .before .before .before .before) .0, room (c .before .before .before .before .before .before .before .before) .1)
@@ -115,20 +133,19 @@ add-depths : tie.Need-add-depths Inv-loop μ-loop
 add-depths c = omega (arith, room (c .before .before .before .before .before .before .before .before) .2)
 
 add-depths-2 : tie.Need-add-depths-2 Inv-loop μ-loop
-add-depths-2 c = omega (arith, room (c .before .before .before .before .before .before .before .before) .0)
+add-depths-2 c = next-fits (room (c .before .before .before .before .before .before .before .before) .0)
 
 mul-depths-2 : tie.Need-mul-depths-2 Inv-loop μ-loop
-mul-depths-2 c = omega (arith, room (c .before .before .before .before .before .before .before .before) .0)
+mul-depths-2 c = next-place-fits (room (c .before .before .before .before .before .before .before .before) .0)
 
 array-write-depths : tie.Need-array-write-depths Inv-loop μ-loop
-array-write-depths c = omega (arith, room (c .before .before .before .before .before .before .before .before) .0, c .before .before .before .before .before .before .before .before .before .before .before .before .before .before .before .before .loop .inv .3 .sized .levels)
+array-write-depths c = next-within (room (c .before .before .before .before .before .before .before .before) .0)
 
 loop-less : tie.Need-loop-less Inv-loop μ-loop
-loop-less c = let v = (c .before .before .before .values .ensures _ _ _ (standing-begun (c .before .before .before .before .before .before .before .before .before .before .before .before .before .before .before .before .before .loop .inv .3) (c .before .before .before .before .before .before .before .before .before .before .before .before .before .before .before .taken .given .1) (c .before .before .before .before .before .before .before .before .before .before .before .entry-line .ensures (c .before .before .before .before .before .before .before .before .before .before .before .before .before .before .before .before .before .loop .inv .2) (c .before .before .before .before .before .before .before .before .before .before .before .before .before .before .before .before .before .loop .inv .3 .ready)) (c .before .before .before .before .before .before .before .before .before .if2 .left) (c .before .before .before .before .before .before .before .note .ensures))) .ended (c .before .if3 .left) .read in
-    let f = taken-fits-line _ (now (c .before .before .before .before .before .before .before .before .before .before .before .before .before .before .before .before .before .before .before .before .args .s)) (c .before .before .before .before .before .before .before .before .before .before .before .before .before .before .before .before .before .loop .at) (sym (c .before .before .before .before .before .before .before .before .before .before .before .before .before .before .before .before .before .loop .inv .3 .stands) ∙ c .before .before .before .before .before .before .before .before .before .before .before .before .before .before .before .taken .given .1) in omega (arith, v .start, v .within, f .place, f .next)
+loop-less c = standing-further (c .before .before .before .before .before .before .before .before .before .before .before .before .before .before .before .before .before .loop .inv .3) (c .before .before .before .before .before .before .before .before .before .before .before .before .before .before .before .taken .given .1) (c .before .before .before .before .before .before .before .before .before .before .before .entry-line .ensures) (c .before .before .before .before .before .before .before .before .before .if2 .left) (c .before .before .before .before .before .before .before .note .ensures) (c .before .before .before .values .ensures) (c .before .if3 .left)
 
 loop-again : tie.Need-loop-again Inv-loop μ-loop
-loop-again c = (_, _, _, standing-on (c .before .before .before .before .before .before .before .before .before .before .before .before .before .before .before .before .before .loop .inv .3) (c .before .before .before .before .before .before .before .before .before .before .before .before .before .before .before .taken .given .1) (c .before .before .before .before .before .before .before .before .before .before .before .entry-line .ensures (c .before .before .before .before .before .before .before .before .before .before .before .before .before .before .before .before .before .loop .inv .2) (c .before .before .before .before .before .before .before .before .before .before .before .before .before .before .before .before .before .loop .inv .3 .ready)) (c .before .before .before .before .before .before .before .before .before .if2 .left) ((c .before .before .before .values .ensures _ _ _ (standing-begun (c .before .before .before .before .before .before .before .before .before .before .before .before .before .before .before .before .before .loop .inv .3) (c .before .before .before .before .before .before .before .before .before .before .before .before .before .before .before .taken .given .1) (c .before .before .before .before .before .before .before .before .before .before .before .entry-line .ensures (c .before .before .before .before .before .before .before .before .before .before .before .before .before .before .before .before .before .loop .inv .2) (c .before .before .before .before .before .before .before .before .before .before .before .before .before .before .before .before .before .loop .inv .3 .ready)) (c .before .before .before .before .before .before .before .before .before .if2 .left) (c .before .before .before .before .before .before .before .note .ensures))) .ended (c .before .if3 .left)))
+loop-again c = standing-on (c .before .before .before .before .before .before .before .before .before .before .before .before .before .before .before .before .before .loop .inv .3) (c .before .before .before .before .before .before .before .before .before .before .before .before .before .before .before .taken .given .1) (c .before .before .before .before .before .before .before .before .before .before .before .entry-line .ensures) (c .before .before .before .before .before .before .before .before .before .if2 .left) (c .before .before .before .before .before .before .before .note .ensures) (c .before .before .before .values .ensures) (c .before .if3 .left)
 
 pub entries-spec : {M : Type 1} → statement M
 entries-spec =

@@ -1,5 +1,5 @@
 -- Laws of `Entries`: what is known of the sheet before each line after the K 1 lines that is no value line, and what such a line makes of it.
-use Prim.Native.Nat.{ℕ, zero, suc, _+_, _*_, _≤_, _<_}
+use Prim.Native.Nat.{ℕ, zero, suc, _+_, _*_, _-_, _≤_, _<_}
 use mathlib.Core.Path.{_≡_, refl, sym, ap, ap₂, _∙_, subst}
 use mathlib.Core.Logic.{inl, inr}
 use mathlib.Core.Bool.{Bool, true, false, _&&_, not}
@@ -36,14 +36,14 @@ use Rattle.tables.specs.Held.{noneHeld}
 use Rattle.directory_ruling.specs.Mark.{Mark, mark, MarkWithin, Room, withMark, tableOf, lastIn, heads, tableLength}
 use Rattle.directory_ruling.specs.Twins.{Named}
 use Rattle.directory_ruling.specs.Laws.Twins.{any-snoc, named-start, named-entry, valued-none}
-use Rattle.directory_ruling.specs.Rulings.{Ready, markOf, reading}
+use Rattle.directory_ruling.specs.Rulings.{Ready, Decides, markOf, reading}
 use Rattle.directory_ruling.specs.Laws.Rulings.{line-within, ready-room, ready-more}
 use Rattle.directory_ruling.specs.declared.Ruling.{Ruling}
 use Rattle.directory_entry.specs.EntryLine.{depthCount, entryRuling}
 use Rattle.directory_entry.specs.Laws.EntryLine.{Elsewhere, EntriesCounted, EntryTaken, EntryOutcome, entry-outcome}
 use Rattle.directory_values.specs.declared.Current.{Current}
 use Rattle.directory_values.specs.declared.ValueLines.{ValueLines}
-use Rattle.directory_values.specs.Values.{Begun, ValuesEnded, ValuesJudged}
+use Rattle.directory_values.specs.Values.{Begun, ValuesAsked, ValuesEnded, ValuesJudged, ValuesAnswered}
 use Rattle.directory_values.specs.Laws.Values.{values-all}
 use Rattle.directory_schema.specs.declared.TypeLines.{TypeLines}
 use Rattle.directory_sheet.specs.Judged.{nothingNoted, NothingAfter, EntryNoted, DirectoryNoted, DirectoryJudged}
@@ -160,7 +160,7 @@ module _ (ks : List ℕ) (es : List Stored) (d : Stored) (vs : List Part) where
 
 module _ {f : Format} {s : Bytes} {ks : List ℕ} {notes : Notes} {depths table held : List ℕ} {n : ℕ} {lacks : Bool} {i : ℕ} {taken : Taken}
     {complete : List Stored} {current : Option Stored} {ms : List Mark} (st : EntriesRead f s ks notes depths table held n lacks i taken complete current ms)
-    {x : Line} (is : taken ≡ Taken.Line x) {r : Ruling} (ruled : r ≡ entryRuling (f .top) depths (notes .count) lacks x s ks table ms) where
+    {x : Line} (is : taken ≡ Taken.Line x) {r : Ruling} (ruled : Decides s ks table (entryRuling (f .top) depths (notes .count) lacks x) r) where
   abbrev es : List Stored
   es = entriesOf (reading ks complete current)
 
@@ -175,7 +175,7 @@ module _ {f : Format} {s : Bytes} {ks : List ℕ} {notes : Notes} {depths table 
 
   outcome : EntryOutcome (f .top) s ks depths table (notes .count) complete current x r
   outcome =
-      subst (λ (q : Ruling). EntryOutcome (f .top) s ks depths table (notes .count) complete current x q) (sym ruled)
+      subst (λ (q : Ruling). EntryOutcome (f .top) s ks depths table (notes .count) complete current x q) (sym (ruled ms (st .ready)))
       (entry-outcome (f .top) s ks depths table (notes .count) lacks complete current ms (st .counted) x (formed f s i here) (st .elsewhere x is))
 
   pub standing-refused : (r .refusal ≡ 0 → ⊥) → fold (step (f .top)) finish 2 nothing (lines (f .width) s) ≡ refuse (r .refusal)
@@ -213,7 +213,7 @@ module _ {f : Format} {s : Bytes} {ks : List ℕ} {notes : Notes} {depths table 
         (t .room, t .parent, t .level, omega (arith, st .marked, st .ready .room), ready-room (st .ready) (x .a) (x .b) (omega (arith, low)) (x .place) (x .length) inside n (st .marked) (t .ruling))
 
     -- its value lines follow
-    pub standing-begun : {table′ : List ℕ} → table′ ≡ withMark table n r → Begun f s ks table′ held (n + 1) e es d (m ∷ ms)
+    standing-begun : {table′ : List ℕ} → table′ ≡ withMark table n r → Begun f s ks table′ held (n + 1) e es d (m ∷ ms)
     standing-begun noted =
         let t = taking .0 in
         let rising = st .ready .rising in
@@ -237,101 +237,120 @@ module _ {f : Format} {s : Bytes} {ks : List ℕ} {notes : Notes} {depths table 
           fewer = omega (arith, st .fewer);
         }
 
-    pub standing-lost : {table′ held′ : List ℕ} {run : ValueLines} → ValuesJudged f s ks table′ held held′ e es d run → (run .refusal ≡ 0 → ⊥)
-        → fold (step (f .top)) finish 2 nothing (lines (f .width) s) ≡ refuse (run .refusal)
-    standing-lost v q = st .judged ∙ judged-on f s i here (reading ks complete current) (reading ks es (some d)) (taking .1) ∙ v .refused q .sheet
+    pub standing-asked : {table′ : List ℕ} → table′ ≡ withMark table n r → ValuesAsked f s ks table′ held (n + 1) e
+    standing-asked noted = record { complete = es; entry = d; all = m ∷ ms; begun = standing-begun noted }
 
-    module _ {table′ held′ : List ℕ} {run : ValueLines} (v : ValuesEnded f s ks table′ held held′ e es d run) where
-      abbrev vs : List Part
-      vs = v .values
+    module _ {marks table′ held′ : List ℕ} {run : ValueLines} (noted : marks ≡ withMark table n r) (answered : ValuesAnswered f s ks marks held (n + 1) e table′ held′ run) where
+      values-judged : ValuesJudged f s ks table′ held held′ e es d run
+      values-judged = answered es d (m ∷ ms) (standing-begun noted)
 
-      next-levels : (j : ℕ) → j ≤ notes .count + 1 → getD (set depths (notes .count + 1) (getD depths (x .a) 0 + 1)) j 0 ≡ length (nameAt (es ++ (withValues d vs ∷ [])) j)
-      next-levels j h = go (ℕ-discrete j (notes .count + 1))
-        where
-          go : Dec (j ≡ notes .count + 1) → getD (set depths (notes .count + 1) (getD depths (x .a) 0 + 1)) j 0 ≡ length (nameAt (es ++ (withValues d vs ∷ [])) j)
-          go (yes q) =
-              let room : notes .count + 1 < length depths = omega (arith, taking .0 .room, st .sized .levels) in
-              rw (q, getD-set-same depths (notes .count + 1) (getD depths (x .a) 0 + 1) 0 room, st .counted .levels (x .a) (taking .0 .parent))
-              (sym (length-append (nameAt es (x .a)) _) ∙ ap length (sym (name-last ks es d vs)) ∙ ap (λ (y : ℕ). length (nameAt (es ++ (withValues d vs ∷ [])) (y + 1))) (sym (st .counted .number)))
-          go (no q) =
-              getD-set-other depths (notes .count + 1) j (getD depths (x .a) 0 + 1) 0 q
-              ∙ st .counted .levels j (omega arith)
-              ∙ ap length (sym (name-before ks es d vs j (omega (arith, st .counted .number))))
+      pub standing-lost : (run .refusal ≡ 0 → ⊥) → fold (step (f .top)) finish 2 nothing (lines (f .width) s) ≡ refuse (run .refusal)
+      standing-lost q = st .judged ∙ judged-on f s i here (reading ks complete current) (reading ks es (some d)) (taking .1) ∙ values-judged .refused q .sheet
 
-      next-room : notes .count + 1 < length (notes .first)
-      next-room = omega (arith, taking .0 .room, st .sized .first)
+      module _ (accepted : run .refusal ≡ 0) where
+        -- the value lines were taken
+        v : ValuesEnded f s ks table′ held held′ e es d run
+        v = values-judged .ended accepted
 
-      entry-noted : EntryNoted (f .width) s (withValues d vs) i (x .a) (x .b) (x .length)
-      entry-noted =
-          let t = taking .0 in
-          let next : x .next ≡ i + (5 * f .width + 1 + x .length) = omega (arith, fits .place, fits .next) in
+        abbrev vs : List Part
+        vs = v .values
+
+        next-levels : (j : ℕ) → j ≤ notes .count + 1 → getD (set depths (notes .count + 1) (getD depths (x .a) 0 + 1)) j 0 ≡ length (nameAt (es ++ (withValues d vs ∷ [])) j)
+        next-levels j h = go (ℕ-discrete j (notes .count + 1))
+          where
+            go : Dec (j ≡ notes .count + 1) → getD (set depths (notes .count + 1) (getD depths (x .a) 0 + 1)) j 0 ≡ length (nameAt (es ++ (withValues d vs ∷ [])) j)
+            go (yes q) =
+                let room : notes .count + 1 < length depths = omega (arith, taking .0 .room, st .sized .levels) in
+                rw (q, getD-set-same depths (notes .count + 1) (getD depths (x .a) 0 + 1) 0 room, st .counted .levels (x .a) (taking .0 .parent))
+                (sym (length-append (nameAt es (x .a)) _) ∙ ap length (sym (name-last ks es d vs)) ∙ ap (λ (y : ℕ). length (nameAt (es ++ (withValues d vs ∷ [])) (y + 1))) (sym (st .counted .number)))
+            go (no q) =
+                getD-set-other depths (notes .count + 1) j (getD depths (x .a) 0 + 1) 0 q
+                ∙ st .counted .levels j (omega arith)
+                ∙ ap length (sym (name-before ks es d vs j (omega (arith, st .counted .number))))
+
+        next-room : notes .count + 1 < length (notes .first)
+        next-room = omega (arith, taking .0 .room, st .sized .first)
+
+        entry-noted : EntryNoted (f .width) s (withValues d vs) i (x .a) (x .b) (x .length)
+        entry-noted =
+            let t = taking .0 in
+            let next : x .next ≡ i + (5 * f .width + 1 + x .length) = omega (arith, fits .place, fits .next) in
+            record {
+              line = taken-front (f .width) s i here ∙ ap₂ (λ (p q : ℕ). Front.Taken p (x .a) (x .b) q (x .length)) (t .kind) (entry-columns (f .top) x (t .form) (t .kind));
+              value = taken-value (f .width) s i fits;
+              within = omega (arith, next, fits .within);
+              values = ap (λ (p : ℕ). valuesOf (linesAt (f .width) s p)) (sym next) ∙ values-all v;
+              above = refl;
+              type = refl;
+            }
+
+        next-noted : AllNoted (f .width) s (noting notes i x (run .to)) (es ++ (withValues d vs ∷ []))
+        next-noted j h = go (ℕ-discrete j (notes .count))
+          where
+            go : Dec (j ≡ notes .count) → EntryNoted (f .width) s (getD (es ++ (withValues d vs ∷ [])) j blank) (getD (set (notes .at) (notes .count) i) j 0)
+                (getD (set (notes .parents) (notes .count) (x .a)) j 0) (getD (set (notes .naming) (notes .count) (x .b)) j 0) (getD (set (notes .lengths) (notes .count) (x .length)) j 0)
+            go (yes q) =
+                let room = taking .0 .room in
+                let size = st .sized in
+                rw (q, getD-set-same (notes .at) (notes .count) i 0 (omega (arith, room, size)), getD-set-same (notes .parents) (notes .count) (x .a) 0 (omega (arith, room, size)), getD-set-same (notes .naming) (notes .count) (x .b) 0 (omega (arith, room, size)), getD-set-same (notes .lengths) (notes .count) (x .length) 0 (omega (arith, room, size)), getD-at es (withValues d vs) [] blank (notes .count) (sym (st .counted .number)))
+                entry-noted
+            go (no q) =
+                rw (getD-set-other (notes .at) (notes .count) j i 0 q, getD-set-other (notes .parents) (notes .count) j (x .a) 0 q, getD-set-other (notes .naming) (notes .count) j (x .b) 0 q, getD-set-other (notes .lengths) (notes .count) j (x .length) 0 q, List·getD-append es (withValues d vs ∷ []) blank j (omega (arith, st .counted .number)))
+                (st .noted j (omega arith))
+
+        -- the next line that is no value line
+        pub standing-on : (entries : List Stored) × (newest : Option Stored) × (all : List Mark)
+            × EntriesRead f s ks (noting notes i x (run .to)) (set depths (notes .count + 1) (getD depths (x .a) 0 + 1)) table′ held′ (run .marks) (not (run .found)) (run .at) (run .taken) entries newest all
+        unfolding entriesOf lacksNaming
+        standing-on = (
+          es,
+          some (withValues d vs),
+          v .all,
           record {
-            line = taken-front (f .width) s i here ∙ ap₂ (λ (p q : ℕ). Front.Taken p (x .a) (x .b) q (x .length)) (t .kind) (entry-columns (f .top) x (t .form) (t .kind));
-            value = taken-value (f .width) s i fits;
-            within = omega (arith, next, fits .within);
-            values = ap (λ (p : ℕ). valuesOf (linesAt (f .width) s p)) (sym next) ∙ values-all v;
-            above = refl;
-            type = refl;
-          }
+            ready = v .read .ready;
+            usable = st .usable;
+            sized = record {
+              types = st .sized .types;
+              list = st .sized .list;
+              schema = st .sized .schema;
+              at = simp length-set (st .sized .at);
+              parents = simp length-set (st .sized .parents);
+              naming = simp length-set (st .sized .naming);
+              lengths = simp length-set (st .sized .lengths);
+              first = simp length-set (st .sized .first);
+              levels = simp length-set (st .sized .levels);
+            };
+            accepting = st .accepting;
+            after = record {
+              schema = st .after .schema;
+              at = zeros-more (notes .count) (notes .at) i (st .after .at);
+              parents = zeros-more (notes .count) (notes .parents) (x .a) (st .after .parents);
+              naming = zeros-more (notes .count) (notes .naming) (x .b) (st .after .naming);
+              lengths = zeros-more (notes .count) (notes .lengths) (x .length) (st .after .lengths);
+              first = zeros-more (notes .count + 1) (notes .first) (run .to) (st .after .first);
+            };
+            marked = v .read .count;
+            space = v .read .space;
+            within = v .read .within;
+            stands = v .stands;
+            elsewhere = v .other;
+            counted = record {
+              number = ap (λ (q : ℕ). q + 1) (st .counted .number) ∙ sym (length-append es (withValues d vs ∷ []));
+              most = omega (arith, taking .0 .room);
+              lacking = ap not (v .read .holds);
+              levels = next-levels;
+              named = named-filled ks es d vs (v .read .named);
+            };
+            noted = next-noted;
+            rows = held-more (st .rows) (withValues d vs) (v .read .rows) (st .counted .number) next-room;
+            fewer = rw (getD-set-same (notes .first) (notes .count + 1) (run .to) 0 next-room) (v .read .fewer);
+            judged = st .judged ∙ judged-on f s i here (reading ks complete current) (reading ks es (some d)) (taking .1) ∙ passes-judged (v .read .passed);
+          },
+        )
 
-      next-noted : AllNoted (f .width) s (noting notes i x (run .to)) (es ++ (withValues d vs ∷ []))
-      next-noted j h = go (ℕ-discrete j (notes .count))
-        where
-          go : Dec (j ≡ notes .count) → EntryNoted (f .width) s (getD (es ++ (withValues d vs ∷ [])) j blank) (getD (set (notes .at) (notes .count) i) j 0)
-              (getD (set (notes .parents) (notes .count) (x .a)) j 0) (getD (set (notes .naming) (notes .count) (x .b)) j 0) (getD (set (notes .lengths) (notes .count) (x .length)) j 0)
-          go (yes q) =
-              let room = taking .0 .room in
-              let size = st .sized in
-              rw (q, getD-set-same (notes .at) (notes .count) i 0 (omega (arith, room, size)), getD-set-same (notes .parents) (notes .count) (x .a) 0 (omega (arith, room, size)), getD-set-same (notes .naming) (notes .count) (x .b) 0 (omega (arith, room, size)), getD-set-same (notes .lengths) (notes .count) (x .length) 0 (omega (arith, room, size)), getD-at es (withValues d vs) [] blank (notes .count) (sym (st .counted .number)))
-              entry-noted
-          go (no q) =
-              rw (getD-set-other (notes .at) (notes .count) j i 0 q, getD-set-other (notes .parents) (notes .count) j (x .a) 0 q, getD-set-other (notes .naming) (notes .count) j (x .b) 0 q, getD-set-other (notes .lengths) (notes .count) j (x .length) 0 q, List·getD-append es (withValues d vs ∷ []) blank j (omega (arith, st .counted .number)))
-              (st .noted j (omega arith))
-
-      -- the next line that is no value line
-      pub standing-on : EntriesRead f s ks (noting notes i x (run .to)) (set depths (notes .count + 1) (getD depths (x .a) 0 + 1)) table′ held′ (run .marks) (not (run .found)) (run .at) (run .taken)
-          es (some (withValues d vs)) (v .all)
-      unfolding entriesOf lacksNaming
-      standing-on = record {
-        ready = v .read .ready;
-        usable = st .usable;
-        sized = record {
-          types = st .sized .types;
-          list = st .sized .list;
-          schema = st .sized .schema;
-          at = simp length-set (st .sized .at);
-          parents = simp length-set (st .sized .parents);
-          naming = simp length-set (st .sized .naming);
-          lengths = simp length-set (st .sized .lengths);
-          first = simp length-set (st .sized .first);
-          levels = simp length-set (st .sized .levels);
-        };
-        accepting = st .accepting;
-        after = record {
-          schema = st .after .schema;
-          at = zeros-more (notes .count) (notes .at) i (st .after .at);
-          parents = zeros-more (notes .count) (notes .parents) (x .a) (st .after .parents);
-          naming = zeros-more (notes .count) (notes .naming) (x .b) (st .after .naming);
-          lengths = zeros-more (notes .count) (notes .lengths) (x .length) (st .after .lengths);
-          first = zeros-more (notes .count + 1) (notes .first) (run .to) (st .after .first);
-        };
-        marked = v .read .count;
-        space = v .read .space;
-        within = v .read .within;
-        stands = v .stands;
-        elsewhere = v .other;
-        counted = record {
-          number = ap (λ (q : ℕ). q + 1) (st .counted .number) ∙ sym (length-append es (withValues d vs ∷ []));
-          most = omega (arith, taking .0 .room);
-          lacking = ap not (v .read .holds);
-          levels = next-levels;
-          named = named-filled ks es d vs (v .read .named);
-        };
-        noted = next-noted;
-        rows = held-more (st .rows) (withValues d vs) (v .read .rows) (st .counted .number) next-room;
-        fewer = rw (getD-set-same (notes .first) (notes .count + 1) (run .to) 0 next-room) (v .read .fewer);
-        judged = st .judged ∙ judged-on f s i here (reading ks complete current) (reading ks es (some d)) (taking .1) ∙ passes-judged (v .read .passed);
-      }
+        -- further on in the sheet
+        pub standing-further : length s - run .at < length s - i
+        standing-further = omega (arith, v .read .start, v .read .within, fits .place, fits .next)
 
 -- ---- no line stands there
 

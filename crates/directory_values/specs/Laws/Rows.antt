@@ -60,12 +60,13 @@ module _ (h : List ℕ) (i rank place size : ℕ) where
       unfolding written
       size-written = getD-set-same two (sizes + i) size 0 (simp length-set (omega arith))
 
-      value-written : (ks : List ℕ) (s : Bytes) (v : Part) → rank < length ks → typeAt ks rank ≡ v .type → place + size ≤ length s → take size (drop place s) ≡ v .value
+      value-written : (ks : List ℕ) (s : Bytes) (v : Part) → rank < length ks → typeAt ks rank ≡ v .type → place + size ≤ length s → size ≤ 64 → take size (drop place s) ≡ v .value
           → ValueAt ks s v (written h i rank place size) i
-      value-written ks s v a b c d = record {
+      value-written ks s v a b c l d = record {
         rank = rw rank-written a;
         type = rw rank-written b;
         within = rw (place-written, size-written) c;
+        short = rw size-written l;
         value = rw (place-written, size-written) d;
       }
 
@@ -82,6 +83,7 @@ value-kept k h = record {
   rank = rw (k .rank) (h .rank);
   type = rw (k .rank) (h .type);
   within = rw (k .place, k .size) (h .within);
+  short = rw (k .size) (h .short);
   value = rw (k .place, k .size) (h .value);
 }
 
@@ -100,9 +102,9 @@ rows-start ks s held first table l = record {
 }
 
 pub rows-more : {ks : List ℕ} {s : Bytes} {vs : List Part} {before held : List ℕ} {first to : ℕ} → RowsWritten ks s vs before held first to
-    → (v : Part) (rank place size : ℕ) → to < ROWS → rank < length ks → typeAt ks rank ≡ v .type → place + size ≤ length s → take size (drop place s) ≡ v .value
+    → (v : Part) (rank place size : ℕ) → to < ROWS → rank < length ks → typeAt ks rank ≡ v .type → place + size ≤ length s → size ≤ 64 → take size (drop place s) ≡ v .value
     → RowsWritten ks s (vs ++ (v ∷ [])) before (written held to rank place size) first (to + 1)
-rows-more {ks} {s} {vs} {before} {held} {first} {to} h v rank place size room a b c d = record {
+rows-more {ks} {s} {vs} {before} {held} {first} {to} h v rank place size room a b c few d = record {
   table = written-length held to rank place size ∙ h .table;
   earlier = λ i l. kept-on (h .earlier i l) (other i (omega (arith, l, h .values .count)) (λ q. omega (arith, l, h .values .count)));
   later = λ i l m. kept-on (h .later i (omega arith) m) (other i m (λ q. omega arith));
@@ -122,4 +124,4 @@ rows-more {ks} {s} {vs} {before} {held} {first} {to} h v rank place size room a 
     row j l (no m) =
         let e : j ≡ length vs = omega (arith, m, l, more) in
         let here : first + j ≡ to = omega (arith, e, h .values .count) in
-        rw (here, getD-at vs v [] (part 0 []) j (omega (arith, e))) (value-written held to rank place size room (h .table) ks s v a b c d)
+        rw (here, getD-at vs v [] (part 0 []) j (omega (arith, e))) (value-written held to rank place size room (h .table) ks s v a b c few d)

@@ -142,6 +142,6 @@ module _ {f : Format} {s : Bytes} {ks table₀ before table held : List ℕ} {n�
           valued = valued-more ks (ready .rising) (ready .few) s (markOf ks owner (x .a) (x .place) (x .length)) owner (x .a) here refl refl (t .fit) (g .named) (g .valued) (ap ownerOf (b .number));
           sofar = g .sofar ∙ ap (λ (y : List Part). vs ++ y) (values-on f s i took kind) ∙ sym (append-assoc vs (broughtBy s x ∷ []) _);
           passed = one (g .passed) took (taking z .1);
-          rows = rw row (rows-more (g .rows) (broughtBy s x) (r .rank) (x .place) (x .length) (room .4) (room .1) (rw rank (allowed-known 0 ks (ready .rising) (x .a) here (t .fit) .number)) (room .2) refl);
+          rows = rw row (rows-more (g .rows) (broughtBy s x) (r .rank) (x .place) (x .length) (room .4) (room .1) (rw rank (allowed-known 0 ks (ready .rising) (x .a) here (t .fit) .number)) (room .2) (h .short) refl);
           fewer = omega (arith, g .fewer);
         }

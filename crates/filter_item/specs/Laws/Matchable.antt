@@ -19,7 +19,7 @@ use Rattle.tables.specs.Held.{typeAt}
 use Rattle.tables.specs.Sets.{grantedAt}
 use Rattle.tables.specs.World.{Entries}
 use Rattle.tables.specs.Laws.Book.{schema-length, end-is}
-use Rattle.tables.specs.Laws.World.{rows-within, bytes-within}
+use Rattle.tables.specs.Laws.World.{rows-within, bytes-within, bytes-short}
 use Rattle.filter_item.specs.Matchable.{bitAt, valueSeen, MatchableTypes, MatchableValues}
 use Rattle.filter_item.specs.Rows.{RowsWithin}
 use Rattle.filter_item.specs.Laws.Bits.{word-other, word-here, bits-other, bits-here}
@@ -100,4 +100,4 @@ values-until σ es d book held k asked i end words l s = record { value = λ j m
 -- the rows as code takes them
 pub values-within : {σ : Setting} {es : List Stored} {d : Bytes} {book held : List ℕ} → Entries σ es d book held → (k : ℕ) → k < entries book
     → RowsWithin d held (firstAt book k) (getD book (1097 + k) 0)
-values-within {book = book} E k l = rw (end-is book k) record { room = rows-within E k l .1; part = λ i from to. bytes-within E k l i from to }
+values-within {book = book} E k l = rw (end-is book k) record { room = rows-within E k l .1; part = λ i from to. bytes-within E k l i from to; short = λ i from to. bytes-short E k l i from to }

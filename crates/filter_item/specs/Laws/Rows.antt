@@ -6,12 +6,14 @@ use mathlib.Core.List.{List}
 use native.Mathlib.Numerals.{add-one}
 use native.Mathlib.Omega.{arith}
 use lib.Dec.{eqb}
-use lib.ListN.{getD}
+use lib.ListN.{length, getD, drop, length-drop}
+use lib.Seq.{length-take-le}
 use borrow.Author.Tests.{eq-eqb, ne-eqb}
 use Rattle.access_set.specs.Member.{bit}
-use Rattle.tables.specs.Held.{rankAt}
+use Rattle.rules.specs.Sheet.{Bytes}
+use Rattle.tables.specs.Held.{rankAt, placeAt, sizeAt, bytesAt}
 use Rattle.filter_item.specs.Matchable.{bitAt}
-use Rattle.filter_item.specs.Rows.{someFrom, matchableAt}
+use Rattle.filter_item.specs.Rows.{someFrom, matchableAt, RowsWithin}
 
 module _ (held values : List ℕ) (first rank i : ℕ) where
   pub matchable-other : (rankAt held i ≡ rank → ⊥) → false ≡ matchableAt held values first rank i
@@ -36,3 +38,11 @@ module _ (p : ℕ → Bool) (i end : ℕ) where
   pub some-end : end ≤ i → someFrom p i (end - i) ≡ false
   unfolding someFrom
   some-end l = let z : end - i ≡ 0 = omega arith in rw z
+
+-- the bytes of a row are short
+pub row-short : {d : Bytes} {held : List ℕ} {first end : ℕ} → RowsWithin d held first end → (i : ℕ) → first ≤ i → i < end → (u : Bytes) → u ≡ bytesAt d held i → length u ≤ 64
+row-short {d} {held} h i from to u e =
+    let part = h .part i from to in
+    let short = h .short i from to in
+    let size : length (bytesAt d held i) ≡ sizeAt held i = length-take-le (sizeAt held i) (drop (placeAt held i) d) (rw length-drop (omega (arith, part))) in
+    rw e (omega (arith, size, short))

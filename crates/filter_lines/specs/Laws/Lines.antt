@@ -35,6 +35,9 @@ module _ {w : ℕ} {q : Bytes} {rows : List ℕ} {k : ℕ} (r : LineRow w q rows
   row-ends : nextAt rows k ≤ length q
   row-ends = row-fits .within
 
+  row-short : nextAt rows k ≤ placeAt rows k + 65
+  row-short = omega (arith, row-fits .next, row-fits .short)
+
   pub row-lines : linesAt w q (positionAt rows k) ≡ row (line (kindAt rows k) (firstAt rows k) (secondAt rows k) (r .third) (valueAt q rows k)) (linesAt w q (positionAt rows (k + 1)))
   row-lines =
       let n : r .size ≡ nextAt rows k - 1 - placeAt rows k = omega (arith, row-fits .next) in
@@ -221,7 +224,7 @@ beyond-on rows₀ rows more n kind a b place rank next e h i l d =
 pub lines-noted : (schema : List ℕ) (w : ℕ) (q : Bytes) (rows : List ℕ) (at n j : ℕ) → Noting schema w q rows at n j → n * 6 + 6 ≤ length rows → n ≤ LINES
     → (unread : Bool) → linesAt w q j ≡ cond unread broken end → LinesNoted w q rows n
 lines-noted schema w q rows at n j o room few unread e = record {
-  placed = record { room = room; few = few; begins = λ k l. row-begins (o .line k l); within = λ k l. row-ends (o .line k l) };
+  placed = record { room = room; few = few; begins = λ k l. row-begins (o .line k l); within = λ k l. row-ends (o .line k l); short = λ k l. row-short (o .line k l) };
   line = o .line;
   unread = unread;
   ends = ap (linesAt w q) (o .last) ∙ e;

@@ -5,14 +5,20 @@ use mathlib.Core.Bool.{Bool, true, false, not, cond}
 use mathlib.Core.List.{List, [], _∷_, map}
 use native.Mathlib.Decide.{decLt}
 use native.Mathlib.Omega.{arith}
-use lib.ListN.{drop}
+use lib.ListN.{length, take, drop, length-take}
+use lib.Seq.{take-all}
 use Rattle.rules.specs.Lists.{all}
 use Rattle.rules.specs.Sheet.{Bytes, Line, Sheet, end, broken, row}
-use Rattle.rules.specs.Value.{Piece, text, normal, fits, used, matches, contains}
+use Rattle.rules.specs.Value.{Piece, text, tidied, folded, normal, fits, used, matches, normalPiece, contains}
 use Rattle.rules.specs.Places.{linesAt}
-use Rattle.rules.specs.Laws.Value.{folded, matches-on, matches-off}
+use Rattle.rules.specs.Laws.Value.{compared, matches-on, matches-off}
+use Rattle.rules.specs.Laws.Blanks.{tidied-length}
+use Rattle.value_blank.specs.declared.Text.{Text}
+use Rattle.value_blank.specs.Blank.{isTidy, textOf}
+use Rattle.value_blank.specs.Laws.Blank.{tidy-tidied}
+use Rattle.value_blank.specs.Laws.Text.{text-bytes}
 use Rattle.rules.specs.FilterLines.{piecesOf, afterLines}
-use Rattle.filter_lines.specs.Lines.{LinesNoted, positionAt, firstAt, valueAt, piecesIn, lesser}
+use Rattle.filter_lines.specs.Lines.{LinesNoted, positionAt, firstAt, placeAt, nextAt, valueAt, piecesIn, piecesStand, lesser}
 use Rattle.filter_lines.specs.Laws.Lines.{row-lines}
 use Rattle.rules.specs.declared.Found.the-variants.{At, Nothing}
 
@@ -88,6 +94,9 @@ lesser-on (suc n) lines j h l =
 
 -- ---- row by row
 
+pub value-short : (q : Bytes) (rows : List ℕ) (k : ℕ) → nextAt rows k ≤ placeAt rows k + 65 → length (valueAt q rows k) ≤ 64
+value-short q rows k h = simp length-take (omega arith)
+
 module _ (q : Bytes) (rows : List ℕ) (lines : ℕ) where
   -- the pieces from row `j` on
   abbrev pub piecesFrom : ℕ → ℕ → List Piece
@@ -117,24 +126,30 @@ module _ (syntax : ℕ) {ps : List Piece} (p : Piece) (rest : List Piece) (e : p
   pub fit-on : fits syntax (p .bytes) ≡ true → allFit syntax ps ≡ allFit syntax rest
   fit-on f = rw (e, f)
 
--- all pieces stand in a text, from a place on
+-- all pieces stand in a text without stray blanks, from a place on
 abbrev pub standFrom : Bytes → ℕ → List Piece → Bool
-standFrom v from ps = matches (map (folded text) ps) (drop from (normal text v))
+standFrom v from ps = matches (map (compared text) ps) (drop from (folded text v))
 
-pub stand-start : (v : Bytes) (ps : List Piece) → standFrom v 0 ps ≡ contains text ps v
-unfolding contains
-stand-start v ps = refl
+-- the text is the value itself, or the value with the blanks that count
+module _ (v : Bytes) (ps : List Piece) where
+  pub stand-tidy : isTidy v ≡ true → piecesStand v ps ≡ contains text ps v
+  unfolding contains normal piecesStand
+  stand-tidy e = rw (tidy-tidied v e)
+
+  pub stand-tidied : (t : Text) → t ≡ textOf (take 64 (tidied v)) → length v ≤ 64 → piecesStand (take (t .length - 0) (t .bytes)) ps ≡ contains text ps v
+  unfolding contains normal piecesStand
+  stand-tidied t e h = rw (text-bytes t (take 64 (tidied v)) e, take-all 64 (tidied v) (tidied-length v 64 (omega arith) h .1))
 
 pub stand-none : (v : Bytes) (from : ℕ) {ps : List Piece} → ps ≡ [] → standFrom v from ps ≡ true
 unfolding matches
 stand-none v from e = rw e
 
 module _ (v : Bytes) (from : ℕ) {ps : List Piece} (p : Piece) (rest : List Piece) (e : ps ≡ p ∷ rest) where
-  pub stand-lost : used (p .place) (normal text (p .bytes)) (drop from (normal text v)) ≡ Nothing → standFrom v from ps ≡ false
-  stand-lost f = ap (standFrom v from) e ∙ matches-off (folded text p) (map (folded text) rest) (normal text v) from f
+  pub stand-lost : used (p .place) (normalPiece text (p .bytes)) (drop from (folded text v)) ≡ Nothing → standFrom v from ps ≡ false
+  stand-lost f = ap (standFrom v from) e ∙ matches-off (compared text p) (map (compared text) rest) (folded text v) from f
 
-  pub stand-on : (x : ℕ) → used (p .place) (normal text (p .bytes)) (drop from (normal text v)) ≡ At x → standFrom v from ps ≡ standFrom v (from + x) rest
-  stand-on x f = ap (standFrom v from) e ∙ matches-on (folded text p) (map (folded text) rest) (normal text v) from x f
+  pub stand-on : (x : ℕ) → used (p .place) (normalPiece text (p .bytes)) (drop from (folded text v)) ≡ At x → standFrom v from ps ≡ standFrom v (from + x) rest
+  stand-on x f = ap (standFrom v from) e ∙ matches-on (compared text p) (map (compared text) rest) (folded text v) from x f
 
 module _ {w : ℕ} {q : Bytes} {rows : List ℕ} {lines : ℕ} (h : LinesNoted w q rows lines) where
   abbrev at : ℕ → Sheet

@@ -1,12 +1,28 @@
 -- Calls one after the other, each from where the one before it ends.
-use Rattle.request_operation.specs.Operations.{searchAt}
+use Prim.Native.Nat.{ℕ}
+use mathlib.Core.Path.{_≡_}
+use Rattle.rules.specs.Judge.{Grammar}
+use Rattle.rules.specs.Sheet.{Bytes}
+use Rattle.sheet_line.specs.declared.Line.{Line}
+use Rattle.sheet_due.specs.Lines.{noLine, reachedAt, dueAt, groupAt, afterDue, afterGroup}
+use Rattle.sheet_due.specs.declared.Due.{Due}
+use Rattle.sheet_due.specs.declared.Group.{Group}
+use Rattle.sheet_due.specs.declared.Reached.{Reached}
+use Rattle.request_operation.specs.declared.Body.{Body}
+use Rattle.request_operation.specs.Operations.{bodyOf, filterFrom, searchAt}
 use borrow.Author.Needs.{needs}
 use Rattle.request_operation.proofs.search_at.Statement.{statement}
 use Rattle.request_operation.proofs.search_at.Tie as tie
 
-returns : tie.Need-returns
+-- the lines, by what each call returned
+searched : (G : Grammar) (w : ℕ) (q : Bytes) (at : ℕ) {from next after end : Reached} {x : Group} {y : Due} {none : Line} {b : Body}
+    → from ≡ reachedAt at → x ≡ groupAt G w q from 12 13 → next ≡ afterGroup x → y ≡ dueAt G w q next 15 → after ≡ afterDue y → end ≡ filterFrom G w q after → none ≡ noLine
+    → b ≡ bodyOf end (x .line) none (y .line) → b ≡ searchAt G w q at
 unfolding searchAt
-returns c = rw (c .body-of .ensures, c .before .no-line .ensures, c .before .before .filter-from .ensures, c .before .before .before .after-due .ensures, c .before .before .before .before .due-at .ensures, c .before .before .before .before .before .after-group .ensures, c .before .before .before .before .before .before .before .group-at .ensures, c .before .before .before .before .before .before .before .before .reached-at .ensures)
+searched G w q at e₀ e₁ e₂ e₃ e₄ e₅ e₆ e₇ = rw (e₇, e₆, e₅, e₄, e₃, e₂, e₁, e₀)
+
+returns : tie.Need-returns
+returns c = searched _ _ _ _ (c .before .before .before .before .before .before .before .before .reached-at .ensures) (c .before .before .before .before .before .before .before .group-at .ensures) (c .before .before .before .before .before .after-group .ensures) (c .before .before .before .before .due-at .ensures) (c .before .before .before .after-due .ensures) (c .before .before .filter-from .ensures) (c .before .no-line .ensures) (c .body-of .ensures)
 
 pub search-at-spec : {M : Type 1} → statement M
 search-at-spec =

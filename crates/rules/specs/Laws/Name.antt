@@ -9,20 +9,12 @@ use lib.Dec.{eqb, eqb·suc-suc, eqb·suc-zero}
 use borrow.Author.Tests.{eqb-true}
 use Rattle.rules.specs.Lists.{first}
 use Rattle.rules.specs.Sheet.{Bytes}
-use Rattle.rules.specs.Value.{fits, normal, same}
+use Rattle.rules.specs.Value.{fits, same}
 use Rattle.rules.specs.Name.{AttributeType, Schema, bySyntax, ofSyntax, equal, Part, Name, samePart, sameName, covers, childOf}
 use Rattle.rules.specs.Laws.Tests.{and-left, and-right, both, eqb-same}
-use Rattle.rules.specs.Laws.Value.{identical-refl, identical-eq}
+use Rattle.rules.specs.Laws.Value.{same-self, same-sym, same-trans}
 
--- ---- values of a syntax
-
-same-join : (s : ℕ) (v a b : Bytes) → same s v a ≡ true → same s v b ≡ true → same s a b ≡ true
-unfolding same
-same-join s v a b e h = rw (sym (identical-eq (normal s v) (normal s a) e), sym (identical-eq (normal s v) (normal s b) h)) (identical-refl (normal s v))
-
-same-self : (s : ℕ) (v : Bytes) → same s v v ≡ true
-unfolding same
-same-self s v = identical-refl (normal s v)
+-- ---- values
 
 module _ (S : Schema) where
   -- equal to one thing, equal to each other
@@ -40,7 +32,7 @@ module _ (S : Schema) where
           let ea : (fits s a && same s v a) ≡ true = and-right (fits s v) _ e in
           let eb : (fits s b && same s v b) ≡ true = and-right (fits s v) _ h in
           both (fits s a) _ (and-left (fits s a) _ ea)
-          (both (fits s b) _ (and-left (fits s b) _ eb) (same-join s v a b (and-right (fits s a) _ ea) (and-right (fits s b) _ eb)))
+          (both (fits s b) _ (and-left (fits s b) _ eb) (same-trans s a v b (same-sym s v a (and-right (fits s a) _ ea)) (and-right (fits s b) _ eb)))
 
   pub equal-self : (t : ℕ) (v a : Bytes) → equal S t v a ≡ true → equal S t v v ≡ true
   unfolding equal ofSyntax

@@ -12,7 +12,7 @@ use lib.IntN.{ℤ, pos, negsuc}
 use lib.ListN.{length, take, drop, length-append, length-drop, length-map, take-append-drop}
 use lib.Seq.{drop-length, drop-append-le, drop-at, drop-drop}
 use Rattle.rules.specs.Sheet.{Bytes, digits, numeral}
-use Rattle.rules.specs.Value.{text, integer, negative, positive, integerOf, isInteger, fits, normal, identical, same, orderℕ, orderℤ, orderBytes, orderIntegers, order, Piece, begins, ends, find, used, byFound, matches, contains, small}
+use Rattle.rules.specs.Value.{text, integer, negative, positive, integerOf, isInteger, fits, folded, normal, identical, same, orderℕ, orderℤ, orderBytes, orderIntegers, order, Piece, begins, ends, find, used, byFound, matches, normalPiece, contains, small}
 use Rattle.rules.specs.declared.Column.{Column}
 use Rattle.rules.specs.declared.Column.the-variants.{Number, Malformed}
 use Rattle.rules.specs.declared.Found.{Found}
@@ -46,6 +46,26 @@ identical-eq (x ∷ xs) (y ∷ ys) e =
 
 pub identical-iff : (a b : Bytes) → (identical a b ≡ true) ↔ (a ≡ b)
 identical-iff a b = (identical-eq a b, λ e. rw (← e) (identical-refl a))
+
+-- blanks count where the syntax is not text
+pub normal-other : (s : ℕ) (v : Bytes) → (s ≡ text → ⊥) → normal s v ≡ folded s v
+unfolding normal
+normal-other s v h = rw (ne-eqb s text h)
+
+-- ---- equal values: those with one normal form, so that equality is an equivalence
+
+pub same-iff : (s : ℕ) (v w : Bytes) → (same s v w ≡ true) ↔ (normal s v ≡ normal s w)
+unfolding same
+same-iff s v w = identical-iff (normal s v) (normal s w)
+
+pub same-self : (s : ℕ) (v : Bytes) → same s v v ≡ true
+same-self s v = same-iff s v v .1 refl
+
+pub same-sym : (s : ℕ) (v w : Bytes) → same s v w ≡ true → same s w v ≡ true
+same-sym s v w e = same-iff s w v .1 (sym (same-iff s v w .0 e))
+
+pub same-trans : (s : ℕ) (u v w : Bytes) → same s u v ≡ true → same s v w ≡ true → same s u w ≡ true
+same-trans s u v w e h = same-iff s u w .1 (same-iff s u v .0 e ∙ same-iff s v w .0 h)
 
 -- ---- substrings: what the test means
 
@@ -228,23 +248,32 @@ placed-matches (p ∷ ps) v inner r =
 pub matches-iff : (ps : List Piece) (v : Bytes) → InitialFirst ps → (matches ps v ≡ true) ↔ Placed ps v
 matches-iff ps v inner = (matches-placed ps v, placed-matches ps v inner)
 
+-- the piece as it is compared
+abbrev pub compared : ℕ → Piece → Piece
+compared s p = record { place = p .place; bytes = normalPiece s (p .bytes) }
+
+initial-compared : (s : ℕ) (ps : List Piece) → InitialFirst ps → InitialFirst (map (compared s) ps)
+initial-compared s [] h = tt
+initial-compared s (p ∷ ps) h = inner ps h
+  where
+    inner : (qs : List Piece) → NoInitial qs → NoInitial (map (compared s) qs)
+    inner [] h = tt
+    inner (q ∷ qs) h = (h .0, inner qs (h .1))
+
+-- What substrings mean, over the value and the pieces as they are compared.
+pub contains-iff : (s : ℕ) (ps : List Piece) (v : Bytes) → InitialFirst ps → (contains s ps v ≡ true) ↔ Placed (map (compared s) ps) (normal s v)
+unfolding contains
+contains-iff s ps v inner = matches-iff (map (compared s) ps) (normal s v) (initial-compared s ps inner)
+
 -- ---- the same test, a piece at a time, from a place in the value
 
-pub normal-length : (s : ℕ) (v : Bytes) → length (normal s v) ≡ length v
-unfolding normal
-normal-length s v = go (eqb s text)
+pub folded-length : (s : ℕ) (v : Bytes) → length (folded s v) ≡ length v
+unfolding folded
+folded-length s v = go (eqb s text)
   where
     go : (t : Bool) → length (cond t (map small v) v) ≡ length v
     go true = length-map v small
     go false = refl
-
--- the piece as it is compared
-abbrev pub folded : ℕ → Piece → Piece
-folded s p = record { place = p .place; bytes = normal s (p .bytes) }
-
-pub contains-start : (s : ℕ) (ps : List Piece) (v : Bytes) → contains s ps v ≡ matches (map (folded s) ps) (drop 0 (normal s v))
-unfolding contains
-contains-start s ps v = refl
 
 module _ (p : Piece) (ps : List Piece) (v : Bytes) (from : ℕ) where
   pub matches-on : (n : ℕ) → used (p .place) (p .bytes) (drop from v) ≡ At n → matches (p ∷ ps) (drop from v) ≡ matches ps (drop (from + n) v)
@@ -256,8 +285,8 @@ module _ (p : Piece) (ps : List Piece) (v : Bytes) (from : ℕ) where
   matches-off e = rw e
 
 -- what is used is there
-pub used-fits : (place : ℕ) (p : Bytes) (s : ℕ) (v : Bytes) (from n : ℕ) → from ≤ length v → used place p (drop from (normal s v)) ≡ At n → from + n ≤ length v
-used-fits place p s v from n h e = omega (arith, used-within place p (drop from (normal s v)) n e, length-drop from (normal s v), normal-length s v)
+pub used-fits : (place : ℕ) (p : Bytes) (s : ℕ) (v : Bytes) (from n : ℕ) → from ≤ length v → used place p (drop from (folded s v)) ≡ At n → from + n ≤ length v
+used-fits place p s v from n h e = omega (arith, used-within place p (drop from (folded s v)) n e, length-drop from (folded s v), folded-length s v)
 
 -- ---- order and equality agree
 
@@ -429,7 +458,7 @@ orderIntegers-refl NotAnInteger = refl
 
 -- values that the syntax allows compare as equal exactly where they are equal
 pub order-iff : (s : ℕ) (v w : Bytes) → fits s v ≡ true → fits s w ≡ true → (order s v w ≡ Equal) ↔ (same s v w ≡ true)
-unfolding order same fits normal
+unfolding order same fits normal folded
 order-iff s v w fv fw = go (eqb s integer) refl
   where
     go : (t : Bool) → eqb s integer ≡ t → (order s v w ≡ Equal) ↔ (same s v w ≡ true)

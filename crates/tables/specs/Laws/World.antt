@@ -48,6 +48,9 @@ module _ {σ : Setting} {es : List Stored} {d : Bytes} {book held : List ℕ} (h
     pub bytes-within : placeAt held i + sizeAt held i ≤ length d
     bytes-within = row-at rows-of i from to .within
 
+    pub bytes-short : sizeAt held i ≤ 64
+    bytes-short = row-at rows-of i from to .short
+
 -- ---- what is known of the sets alone
 
 module _ {d p : Bytes} {book held sets : List ℕ} (h : Known d p book held sets) (e : ℕ) (l : e ≤ entries book) where

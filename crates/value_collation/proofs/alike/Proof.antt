@@ -1,7 +1,7 @@
 -- Identical bytes are one; others where their folded bytes are.
 use mathlib.Core.Path.{sym, ap}
 use borrow.Author.Tests.{eq-eqb}
-use Rattle.value_collation.specs.Normal.{fold}
+use Rattle.value_collation.specs.Fold.{fold}
 use borrow.Author.Needs.{needs}
 use Rattle.value_collation.proofs.alike.Statement.{statement}
 use Rattle.value_collation.proofs.alike.Tie as tie

@@ -3,7 +3,7 @@ use Prim.Native.Nat.{_-_}
 use mathlib.Core.Path.{sym, _∙_}
 use borrow.Author.Tests.{not-true, not-false}
 use denote.Ref.{now}
-use Rattle.rules.specs.Value.{normal}
+use Rattle.rules.specs.Value.{folded}
 use Rattle.value_collation.specs.Compare.{Shared}
 use Rattle.value_collation.specs.Laws.Compare.{shared-on, shared-off, shared-end}
 use borrow.Author.Needs.{needs}
@@ -11,7 +11,7 @@ use Rattle.value_collation.proofs.common.Statement.{statement}
 use Rattle.value_collation.proofs.common.Tie as tie
 
 abbrev Inv-loop : tie.InvT-loop
-Inv-loop syntax v w n i₀ i = Shared (normal syntax v) (normal syntax w) n i
+Inv-loop syntax v w n i₀ i = Shared (folded syntax v) (folded syntax w) n i
 
 abbrev μ-loop : tie.MeasureT-loop
 μ-loop syntax v w n i₀ i = n - i

@@ -1,6 +1,6 @@
 -- The test is the definition's.
 use borrow.Author.Tests.{eq-eqb, ne-eqb}
-use Rattle.value_collation.specs.Normal.{fold}
+use Rattle.value_collation.specs.Fold.{fold}
 use borrow.Author.Needs.{needs}
 use Rattle.value_collation.proofs.folded.Statement.{statement}
 use Rattle.value_collation.proofs.folded.Tie as tie

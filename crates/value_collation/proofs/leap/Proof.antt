@@ -4,7 +4,7 @@ use mathlib.Core.Path.{sym, _∙_}
 use native.Mathlib.Omega.{arith}
 use borrow.Author.Tests.{not-false}
 use denote.Ref.{now}
-use Rattle.rules.specs.Value.{normal}
+use Rattle.rules.specs.Value.{folded}
 use Rattle.value_collation.specs.Compare.{Shared}
 use Rattle.value_collation.specs.Laws.Compare.{shared-start, shared-four}
 use borrow.Author.Needs.{needs}
@@ -12,7 +12,7 @@ use Rattle.value_collation.proofs.leap.Statement.{statement}
 use Rattle.value_collation.proofs.leap.Tie as tie
 
 abbrev Inv-loop : tie.InvT-loop
-Inv-loop syntax v w n i₀ i = Shared (normal syntax v) (normal syntax w) n i
+Inv-loop syntax v w n i₀ i = Shared (folded syntax v) (folded syntax w) n i
 
 abbrev μ-loop : tie.MeasureT-loop
 μ-loop syntax v w n i₀ i = n - i

@@ -8,49 +8,49 @@ use native.Mathlib.Nat.{zero-add}
 use borrow.Author.Tests.{eqb-true, eqb-false, eq-eqb, lt-ltb, le-ltb}
 use lib.Dec.{eqb, eqb·zero-suc, eqb·suc-suc}
 use lib.ListN.{length, getD, drop, length-drop, drop-of-length-le}
-use Rattle.rules.specs.Laws.Value.{identical-eq, normal-length}
+use Rattle.rules.specs.Laws.Value.{identical-eq, normal-other, folded-length}
 use Rattle.rules.specs.Sheet.{Bytes}
-use Rattle.rules.specs.Value.{normal, identical, same, begins, orderBytes}
+use Rattle.rules.specs.Value.{text, folded, identical, same, begins, orderBytes}
 use Rattle.rules.specs.declared.Order.the-variants.{Less, Equal, Greater}
-use Rattle.value_collation.specs.Normal.{fold, four}
-use Rattle.value_collation.specs.Laws.Normal.{normal-cons, four-steps}
+use Rattle.value_collation.specs.Fold.{fold, four}
+use Rattle.value_collation.specs.Laws.Fold.{folded-cons, four-steps}
 use Rattle.value_collation.specs.Compare.{common, Shared}
 
 module _ (s : ℕ) (v w : Bytes) (n : ℕ) (least : n ≡ min (length v) (length w)) where
-  pub shared-start : Shared (normal s v) (normal s w) n 0
-  shared-start = record { within = omega arith; left = zero-add (common (normal s v) (normal s w)) }
+  pub shared-start : Shared (folded s v) (folded s w) n 0
+  shared-start = record { within = omega arith; left = zero-add (common (folded s v) (folded s w)) }
 
   module _ (i : ℕ) where
     step : i < n → eqb (fold s (getD v i 0)) (fold s (getD w i 0)) ≡ true
-        → i + common (drop i (normal s v)) (drop i (normal s w)) ≡ i + 1 + common (drop (i + 1) (normal s v)) (drop (i + 1) (normal s w))
+        → i + common (drop i (folded s v)) (drop i (folded s w)) ≡ i + 1 + common (drop (i + 1) (folded s v)) (drop (i + 1) (folded s w))
     unfolding common
-    step h e = rw (normal-cons s v i (omega arith), normal-cons s w i (omega arith), e) (omega arith)
+    step h e = rw (folded-cons s v i (omega arith), folded-cons s w i (omega arith), e) (omega arith)
 
-    module _ (now : Shared (normal s v) (normal s w) n i) where
-      pub shared-on : i < n → eqb (fold s (getD v i 0)) (fold s (getD w i 0)) ≡ true → Shared (normal s v) (normal s w) n (i + 1)
+    module _ (now : Shared (folded s v) (folded s w) n i) where
+      pub shared-on : i < n → eqb (fold s (getD v i 0)) (fold s (getD w i 0)) ≡ true → Shared (folded s v) (folded s w) n (i + 1)
       shared-on h e = record { within = omega arith; left = sym (step h e) ∙ now .left }
 
-      pub shared-off : i < n → eqb (fold s (getD v i 0)) (fold s (getD w i 0)) ≡ false → i ≡ common (normal s v) (normal s w)
+      pub shared-off : i < n → eqb (fold s (getD v i 0)) (fold s (getD w i 0)) ≡ false → i ≡ common (folded s v) (folded s w)
       unfolding common
       shared-off h e =
-          let z : common (drop i (normal s v)) (drop i (normal s w)) ≡ 0 = rw (normal-cons s v i (omega arith), normal-cons s w i (omega arith), e) in
+          let z : common (drop i (folded s v)) (drop i (folded s w)) ≡ 0 = rw (folded-cons s v i (omega arith), folded-cons s w i (omega arith), e) in
           omega (arith, now .left)
 
-      pub shared-end : n ≤ i → i ≡ common (normal s v) (normal s w)
-      shared-end h = omega (arith, now .left, ended (drop i (normal s v)) (drop i (normal s w)) (simp (length-drop, normal-length) (omega arith)))
+      pub shared-end : n ≤ i → i ≡ common (folded s v) (folded s w)
+      shared-end h = omega (arith, now .left, ended (drop i (folded s v)) (drop i (folded s w)) (simp (length-drop, folded-length) (omega arith)))
         where
           ended : (a b : Bytes) → min (length a) (length b) ≡ 0 → common a b ≡ 0
           ended [] b e = unfold common in refl
           ended (x ∷ xs) [] e = unfold common in refl
           ended (x ∷ xs) (y ∷ ys) e = absurd (omega arith)
 
-  pub shared-four : (i : ℕ) → Shared (normal s v) (normal s w) n i → i + 4 ≤ n → four (λ k. eqb (getD v k 0) (getD w k 0)) i ≡ true
-      → Shared (normal s v) (normal s w) n (i + 4)
+  pub shared-four : (i : ℕ) → Shared (folded s v) (folded s w) n i → i + 4 ≤ n → four (λ k. eqb (getD v k 0) (getD w k 0)) i ≡ true
+      → Shared (folded s v) (folded s w) n (i + 4)
   shared-four i now h e =
       record {
         within = omega arith;
         left =
-            sym (four-steps (λ k. k + common (drop k (normal s v)) (drop k (normal s w))) (λ k. eqb (getD v k 0) (getD w k 0)) i n
+            sym (four-steps (λ k. k + common (drop k (folded s v)) (drop k (folded s w))) (λ k. eqb (getD v k 0) (getD w k 0)) i n
             (λ k l t. step k l (eq-eqb (fold s (getD v k 0)) (fold s (getD w k 0)) (ap (fold s) (eqb-true (getD v k 0) (getD w k 0) t)))) h e)
             ∙ now .left;
       }
@@ -68,17 +68,18 @@ identical-common [] (y ∷ ys) e = absurd (omega arith)
 identical-common (x ∷ xs) [] e = absurd (omega arith)
 identical-common (x ∷ xs) (y ∷ ys) e = rw (identical-common xs ys (omega arith), eqb-cond (eqb x y) (common xs ys) (length xs))
 
-module _ (s : ℕ) (v w : Bytes) where
-  pub same-common : length v ≡ length w → same s v w ≡ eqb (common (normal s v) (normal s w)) (length v)
+-- values of a syntax other than text
+module _ (s : ℕ) (v w : Bytes) (other : s ≡ text → ⊥) where
+  pub same-common : length v ≡ length w → same s v w ≡ eqb (common (folded s v) (folded s w)) (length v)
   unfolding same
-  same-common e = rw (← normal-length s v) (identical-common (normal s v) (normal s w) (simp normal-length e))
+  same-common e = rw (normal-other s v other, normal-other s w other, ← folded-length s v) (identical-common (folded s v) (folded s w) (simp folded-length e))
 
   pub same-never : (length v ≡ length w → ⊥) → same s v w ≡ false
   unfolding same
-  same-never h = go (identical (normal s v) (normal s w)) refl
+  same-never h = rw (normal-other s v other, normal-other s w other) (go (identical (folded s v) (folded s w)) refl)
     where
-      go : (t : Bool) → identical (normal s v) (normal s w) ≡ t → identical (normal s v) (normal s w) ≡ false
-      go true e = absurd (h (simp normal-length at (ap length (identical-eq (normal s v) (normal s w) e))))
+      go : (t : Bool) → identical (folded s v) (folded s w) ≡ t → identical (folded s v) (folded s w) ≡ false
+      go true e = absurd (h (simp folded-length at (ap length (identical-eq (folded s v) (folded s w) e))))
       go false e = e
 
 pub begins-common : (a p : Bytes) → begins a p ≡ eqb (common a p) (length p)
@@ -124,42 +125,42 @@ order-common (x ∷ xs) (y ∷ ys) = go (eqb x y) refl (order-common xs ys)
     go true e next = rw (le-ltb x y (omega (arith, eqb-true x y e)), le-ltb y x (omega (arith, eqb-true x y e))) next
     go false e next = refl
 
-module _ (s : ℕ) (v w : Bytes) (n : ℕ) (e : n ≡ common (normal s v) (normal s w)) where
+module _ (s : ℕ) (v w : Bytes) (n : ℕ) (e : n ≡ common (folded s v) (folded s w)) where
   pub within : (n ≤ length v) × (n ≤ length w)
-  within = let b = common-bound (normal s v) (normal s w) in omega (arith, b .0, b .1, normal-length s v, normal-length s w)
+  within = let b = common-bound (folded s v) (folded s w) in omega (arith, b .0, b .1, folded-length s v, folded-length s w)
 
-  left : orderBytes (normal s v) (normal s w) ≡ orderBytes (drop n (normal s v)) (drop n (normal s w))
-  left = rw e (order-common (normal s v) (normal s w))
+  left : orderBytes (folded s v) (folded s w) ≡ orderBytes (drop n (folded s v)) (drop n (folded s w))
+  left = rw e (order-common (folded s v) (folded s w))
 
-  gone : (l : Bytes) → n ≡ length l → drop n (normal s l) ≡ []
-  gone l p = let h : length (normal s l) ≤ n = omega (arith, normal-length s l) in drop-of-length-le (normal s l) h
+  gone : (l : Bytes) → n ≡ length l → drop n (folded s l) ≡ []
+  gone l p = let h : length (folded s l) ≤ n = omega (arith, folded-length s l) in drop-of-length-le (folded s l) h
 
-  pub order-equal : n ≡ length v → n ≡ length w → orderBytes (normal s v) (normal s w) ≡ Equal
+  pub order-equal : n ≡ length v → n ≡ length w → orderBytes (folded s v) (folded s w) ≡ Equal
   unfolding orderBytes
   order-equal p q = left ∙ rw (gone v p, gone w q)
 
-  pub order-less : n ≡ length v → (n ≡ length w → ⊥) → orderBytes (normal s v) (normal s w) ≡ Less
+  pub order-less : n ≡ length v → (n ≡ length w → ⊥) → orderBytes (folded s v) (folded s w) ≡ Less
   unfolding orderBytes
-  order-less p q = left ∙ rw (gone v p, normal-cons s w n (omega (arith, within)))
+  order-less p q = left ∙ rw (gone v p, folded-cons s w n (omega (arith, within)))
 
-  pub order-greater : (n ≡ length v → ⊥) → n ≡ length w → orderBytes (normal s v) (normal s w) ≡ Greater
+  pub order-greater : (n ≡ length v → ⊥) → n ≡ length w → orderBytes (folded s v) (folded s w) ≡ Greater
   unfolding orderBytes
-  order-greater p q = left ∙ rw (gone w q, normal-cons s v n (omega (arith, within)))
+  order-greater p q = left ∙ rw (gone w q, folded-cons s v n (omega (arith, within)))
 
   module _ (hv : n < length v) (hw : n < length w) where
-    pub order-below : fold s (getD v n 0) < fold s (getD w n 0) → orderBytes (normal s v) (normal s w) ≡ Less
+    pub order-below : fold s (getD v n 0) < fold s (getD w n 0) → orderBytes (folded s v) (folded s w) ≡ Less
     unfolding orderBytes
-    order-below h = left ∙ rw (normal-cons s v n hv, normal-cons s w n hw, lt-ltb (fold s (getD v n 0)) (fold s (getD w n 0)) h)
+    order-below h = left ∙ rw (folded-cons s v n hv, folded-cons s w n hw, lt-ltb (fold s (getD v n 0)) (fold s (getD w n 0)) h)
 
-    pub order-above : fold s (getD w n 0) ≤ fold s (getD v n 0) → orderBytes (normal s v) (normal s w) ≡ Greater
+    pub order-above : fold s (getD w n 0) ≤ fold s (getD v n 0) → orderBytes (folded s v) (folded s w) ≡ Greater
     unfolding orderBytes
     order-above h =
         let differ : fold s (getD v n 0) ≡ fold s (getD w n 0) → ⊥ =
-        common-differ (normal s v) (normal s w) (drop (n + 1) (normal s v)) (drop (n + 1) (normal s w)) (fold s (getD v n 0)) (fold s (getD w n 0))
-        (rw (← e) (normal-cons s v n hv)) (rw (← e) (normal-cons s w n hw)) in
+        common-differ (folded s v) (folded s w) (drop (n + 1) (folded s v)) (drop (n + 1) (folded s w)) (fold s (getD v n 0)) (fold s (getD w n 0))
+        (rw (← e) (folded-cons s v n hv)) (rw (← e) (folded-cons s w n hw)) in
         left ∙ rw (
-          normal-cons s v n hv,
-          normal-cons s w n hw,
+          folded-cons s v n hv,
+          folded-cons s w n hw,
           le-ltb (fold s (getD v n 0)) (fold s (getD w n 0)) h,
           lt-ltb (fold s (getD w n 0)) (fold s (getD v n 0)) (omega arith),
         )
@@ -176,12 +177,12 @@ module _ (a b as′ bs : Bytes) (x y : ℕ) (p : a ≡ x ∷ as′) (q : b ≡ y
   heads-above h = rw (p, q, le-ltb x y (omega arith), lt-ltb y x h)
 
 module _ (s : ℕ) (v w : Bytes) (hv : 0 < length v) (hw : 0 < length w) where
-  pub first-below : fold s (getD v 0 0) < fold s (getD w 0 0) → orderBytes (normal s v) (normal s w) ≡ Less
+  pub first-below : fold s (getD v 0 0) < fold s (getD w 0 0) → orderBytes (folded s v) (folded s w) ≡ Less
   first-below h =
-      heads-below (normal s v) (normal s w) (drop 1 (normal s v)) (drop 1 (normal s w)) (fold s (getD v 0 0)) (fold s (getD w 0 0))
-      (normal-cons s v 0 hv) (normal-cons s w 0 hw) h
+      heads-below (folded s v) (folded s w) (drop 1 (folded s v)) (drop 1 (folded s w)) (fold s (getD v 0 0)) (fold s (getD w 0 0))
+      (folded-cons s v 0 hv) (folded-cons s w 0 hw) h
 
-  pub first-above : fold s (getD w 0 0) < fold s (getD v 0 0) → orderBytes (normal s v) (normal s w) ≡ Greater
+  pub first-above : fold s (getD w 0 0) < fold s (getD v 0 0) → orderBytes (folded s v) (folded s w) ≡ Greater
   first-above h =
-      heads-above (normal s v) (normal s w) (drop 1 (normal s v)) (drop 1 (normal s w)) (fold s (getD v 0 0)) (fold s (getD w 0 0))
-      (normal-cons s v 0 hv) (normal-cons s w 0 hw) h
+      heads-above (folded s v) (folded s w) (drop 1 (folded s v)) (drop 1 (folded s w)) (fold s (getD v 0 0)) (fold s (getD w 0 0))
+      (folded-cons s v 0 hv) (folded-cons s w 0 hw) h

@@ -4,14 +4,14 @@ use mathlib.Core.Path.{_≡_, sym, _∙_}
 use native.Mathlib.Omega.{arith}
 use lib.ListN.{length, drop}
 use denote.Ref.{now}
-use Rattle.rules.specs.Value.{text, normal, find}
+use Rattle.rules.specs.Value.{text, folded, find}
 use Rattle.value_substring.specs.Laws.Pieces.{seek-within, any-empty, any-found, any-short, any-first, any-on}
 use borrow.Author.Needs.{needs}
 use Rattle.value_substring.proofs.any.Statement.{statement}
 use Rattle.value_substring.proofs.any.Tie as tie
 
 abbrev Inv-loop : tie.InvT-loop
-Inv-loop v from p b i₀ i = (i ≤ length v) × (from ≤ i) × (find (normal text p) (drop i (normal text v)) (i - from) ≡ find (normal text p) (drop from (normal text v)) 0)
+Inv-loop v from p b i₀ i = (i ≤ length v) × (from ≤ i) × (find (folded text p) (drop i (folded text v)) (i - from) ≡ find (folded text p) (drop from (folded text v)) 0)
 
 abbrev μ-loop : tie.MeasureT-loop
 μ-loop v from p b i₀ i = length v - i

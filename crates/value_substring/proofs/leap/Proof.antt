@@ -5,8 +5,8 @@ use native.Mathlib.Omega.{arith}
 use borrow.Author.Tests.{not-false}
 use lib.ListN.{length}
 use denote.Ref.{now}
-use Rattle.rules.specs.Value.{text, normal}
-use Rattle.rules.specs.Laws.Value.{normal-length}
+use Rattle.rules.specs.Value.{text, folded}
+use Rattle.rules.specs.Laws.Value.{folded-length}
 use Rattle.value_substring.specs.Pieces.{Sought}
 use Rattle.value_substring.specs.Laws.Pieces.{sought-start, sought-four}
 use borrow.Author.Needs.{needs}
@@ -14,7 +14,7 @@ use Rattle.value_substring.proofs.leap.Statement.{statement}
 use Rattle.value_substring.proofs.leap.Tie as tie
 
 abbrev Inv-loop : tie.InvT-loop
-Inv-loop v from b i₀ i = Sought b (normal text v) from i
+Inv-loop v from b i₀ i = Sought b (folded text v) from i
 
 abbrev μ-loop : tie.MeasureT-loop
 μ-loop v from b i₀ i = length v - i
@@ -25,7 +25,7 @@ loop-holds c =
     sought-start (A .b) (now (A .v)) (A .from) (c .before .pre)
 
 sub-loop : tie.Need-sub-loop Inv-loop μ-loop
-sub-loop c = omega (arith, c .loop .inv .within, normal-length text (now (c .before .before .args .v)))
+sub-loop c = omega (arith, c .loop .inv .within, folded-length text (now (c .before .before .args .v)))
 
 returns : tie.Need-returns Inv-loop μ-loop
 returns c = c .before .before .before .loop .inv

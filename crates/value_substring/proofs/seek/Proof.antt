@@ -3,7 +3,7 @@ use Prim.Native.Nat.{_-_}
 use mathlib.Core.Path.{sym, _∙_}
 use lib.ListN.{length}
 use denote.Ref.{now}
-use Rattle.rules.specs.Value.{text, normal}
+use Rattle.rules.specs.Value.{text, folded}
 use Rattle.value_substring.specs.Pieces.{Sought}
 use Rattle.value_substring.specs.Laws.Pieces.{sought-on, sought-at, sought-end}
 use borrow.Author.Needs.{needs}
@@ -11,7 +11,7 @@ use Rattle.value_substring.proofs.seek.Statement.{statement}
 use Rattle.value_substring.proofs.seek.Tie as tie
 
 abbrev Inv-loop : tie.InvT-loop
-Inv-loop v from b i₀ i = Sought b (normal text v) from i
+Inv-loop v from b i₀ i = Sought b (folded text v) from i
 
 abbrev μ-loop : tie.MeasureT-loop
 μ-loop v from b i₀ i = length v - i

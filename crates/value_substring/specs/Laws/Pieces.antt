@@ -9,46 +9,46 @@ use borrow.Author.Tests.{not-true, eq-eqb, ne-eqb, le-leb, lt-leb}
 use lib.Dec.{eqb}
 use lib.ListN.{length, getD, take, drop, length-drop, drop-of-length-le}
 use lib.Seq.{drop-drop}
-use Rattle.rules.specs.Laws.Value.{find-by, normal-length}
+use Rattle.rules.specs.Laws.Value.{find-by, folded-length}
 use Rattle.rules.specs.Sheet.{Bytes}
-use Rattle.rules.specs.Value.{text, small, normal, begins, ends, find}
+use Rattle.rules.specs.Value.{text, small, folded, begins, ends, find}
 use Rattle.rules.specs.declared.Found.the-variants.{At, Nothing}
-use Rattle.value_collation.specs.Normal.{fold, four}
-use Rattle.value_collation.specs.Laws.Normal.{normal-cons, normal-part, four-steps}
+use Rattle.value_collation.specs.Fold.{fold, four}
+use Rattle.value_collation.specs.Laws.Fold.{folded-cons, folded-part, four-steps}
 use Rattle.value_collation.specs.Compare.{common}
 use Rattle.value_collation.specs.Laws.Compare.{common-bound, identical-common, begins-common}
 use Rattle.value_substring.specs.Pieces.{seek, Sought}
 
 module _ (b : ℕ) (v : Bytes) (from : ℕ) where
-  pub sought-start : from ≤ length v → Sought b (normal text v) from from
-  sought-start h = record { within = simp normal-length h; left = refl }
+  pub sought-start : from ≤ length v → Sought b (folded text v) from from
+  sought-start h = record { within = simp folded-length h; left = refl }
 
-  step : (i : ℕ) → i < length v → not (eqb (small (getD v i 0)) b) ≡ true → i + seek b (drop i (normal text v)) ≡ i + 1 + seek b (drop (i + 1) (normal text v))
+  step : (i : ℕ) → i < length v → not (eqb (small (getD v i 0)) b) ≡ true → i + seek b (drop i (folded text v)) ≡ i + 1 + seek b (drop (i + 1) (folded text v))
   unfolding seek fold
-  step i h e = rw (normal-cons text v i h, not-true (eqb (small (getD v i 0)) b) e) (omega arith)
+  step i h e = rw (folded-cons text v i h, not-true (eqb (small (getD v i 0)) b) e) (omega arith)
 
-  module _ (i : ℕ) (now : Sought b (normal text v) from i) where
-    pub sought-on : i < length v → (small (getD v i 0) ≡ b → ⊥) → Sought b (normal text v) from (i + 1)
-    sought-on h e = record { within = simp normal-length (omega arith); left = sym (step i h (ap not (ne-eqb (small (getD v i 0)) b e))) ∙ now .left }
+  module _ (i : ℕ) (now : Sought b (folded text v) from i) where
+    pub sought-on : i < length v → (small (getD v i 0) ≡ b → ⊥) → Sought b (folded text v) from (i + 1)
+    sought-on h e = record { within = simp folded-length (omega arith); left = sym (step i h (ap not (ne-eqb (small (getD v i 0)) b e))) ∙ now .left }
 
-    pub sought-four : i + 4 ≤ length v → four (λ k. not (eqb (small (getD v k 0)) b)) i ≡ true → Sought b (normal text v) from (i + 4)
+    pub sought-four : i + 4 ≤ length v → four (λ k. not (eqb (small (getD v k 0)) b)) i ≡ true → Sought b (folded text v) from (i + 4)
     sought-four h e =
         record {
-          within = simp normal-length h;
-          left = sym (four-steps (λ k. k + seek b (drop k (normal text v))) (λ k. not (eqb (small (getD v k 0)) b)) i (length v) step h e) ∙ now .left;
+          within = simp folded-length h;
+          left = sym (four-steps (λ k. k + seek b (drop k (folded text v))) (λ k. not (eqb (small (getD v k 0)) b)) i (length v) step h e) ∙ now .left;
         }
 
-    pub sought-at : i < length v → small (getD v i 0) ≡ b → i ≡ from + seek b (drop from (normal text v))
+    pub sought-at : i < length v → small (getD v i 0) ≡ b → i ≡ from + seek b (drop from (folded text v))
     unfolding seek fold
     sought-at h e =
-        let z : seek b (drop i (normal text v)) ≡ 0 = rw (normal-cons text v i h, eq-eqb (small (getD v i 0)) b e) in
+        let z : seek b (drop i (folded text v)) ≡ 0 = rw (folded-cons text v i h, eq-eqb (small (getD v i 0)) b e) in
         omega (arith, now .left)
 
-    pub sought-end : length v ≤ i → i ≡ from + seek b (drop from (normal text v))
+    pub sought-end : length v ≤ i → i ≡ from + seek b (drop from (folded text v))
     unfolding seek
     sought-end h =
-        let l : length (normal text v) ≤ i = simp normal-length h in
-        let z : seek b (drop i (normal text v)) ≡ 0 = rw (drop-of-length-le (normal text v) l) in
+        let l : length (folded text v) ≤ i = simp folded-length h in
+        let z : seek b (drop i (folded text v)) ≡ 0 = rw (drop-of-length-le (folded text v) l) in
         omega (arith, now .left)
 
 seek-bound : (b : ℕ) (a : Bytes) → seek b a ≤ length a
@@ -60,14 +60,14 @@ seek-bound b (x ∷ xs) = go (eqb x b) (seek-bound b xs)
     go true h = omega arith
     go false h = omega arith
 
-pub seek-within : (b : ℕ) (v : Bytes) (from : ℕ) → from ≤ length v → from + seek b (drop from (normal text v)) ≤ length v
-seek-within b v from h = omega (arith, seek-bound b (drop from (normal text v)), length-drop from (normal text v), normal-length text v)
+pub seek-within : (b : ℕ) (v : Bytes) (from : ℕ) → from ≤ length v → from + seek b (drop from (folded text v)) ≤ length v
+seek-within b v from h = omega (arith, seek-bound b (drop from (folded text v)), length-drop from (folded text v), folded-length text v)
 
 -- ---- a piece at a place
 
 pub stands-common : (v p : Bytes) (at : ℕ)
-    → eqb (common (normal text (take (length v - at) (drop at v))) (normal text p)) (length p) ≡ begins (drop at (normal text v)) (normal text p)
-stands-common v p at = rw (normal-part text v at, ← normal-length text p) (sym (begins-common (drop at (normal text v)) (normal text p)))
+    → eqb (common (folded text (take (length v - at) (drop at v))) (folded text p)) (length p) ≡ begins (drop at (folded text v)) (folded text p)
+stands-common v p at = rw (folded-part text v at, ← folded-length text p) (sym (begins-common (drop at (folded text v)) (folded text p)))
 
 -- ---- a piece anywhere
 
@@ -79,17 +79,17 @@ unfolding find
 find-short p [] k h = rw (begins-short [] p h)
 find-short p (x ∷ xs) k h = rw (begins-short (x ∷ xs) p h) (find-short p xs (k + 1) (omega arith))
 
-pub any-empty : (p a : Bytes) → length p ≡ 0 → find (normal text p) a 0 ≡ At 0
-unfolding normal begins
+pub any-empty : (p a : Bytes) → length p ≡ 0 → find (folded text p) a 0 ≡ At 0
+unfolding folded begins
 any-empty [] a e = find-by [] a 0 refl
 any-empty (x ∷ xs) a e = absurd (omega arith)
 
 module _ (v p : Bytes) (i k : ℕ) where
-  pub any-found : begins (drop i (normal text v)) (normal text p) ≡ true → find (normal text p) (drop i (normal text v)) k ≡ At (k + length p)
-  any-found e = rw (← normal-length text p) (find-by (normal text p) (drop i (normal text v)) k e)
+  pub any-found : begins (drop i (folded text v)) (folded text p) ≡ true → find (folded text p) (drop i (folded text v)) k ≡ At (k + length p)
+  any-found e = rw (← folded-length text p) (find-by (folded text p) (drop i (folded text v)) k e)
 
-  pub any-short : length v - i < length p → find (normal text p) (drop i (normal text v)) k ≡ Nothing
-  any-short h = find-short (normal text p) (drop i (normal text v)) k (simp (length-drop, normal-length) h)
+  pub any-short : length v - i < length p → find (folded text p) (drop i (folded text v)) k ≡ Nothing
+  any-short h = find-short (folded text p) (drop i (folded text v)) k (simp (length-drop, folded-length) h)
 
 find-seek : (b : ℕ) (p a : Bytes) (k : ℕ) → find (b ∷ p) a k ≡ find (b ∷ p) (drop (seek b a) a) (k + seek b a)
 unfolding find seek begins
@@ -104,38 +104,38 @@ find-seek b p (x ∷ xs) k = go (eqb x b) refl (find-seek b p xs (k + 1))
         rw (e, ← n) next
 
 module _ (v p : Bytes) (b : ℕ) (hp : 0 < length p) (first : b ≡ small (getD p 0 0)) where
-  sought : (i k : ℕ) → find (normal text p) (drop i (normal text v)) k
-      ≡ find (normal text p) (drop (i + seek b (drop i (normal text v))) (normal text v)) (k + seek b (drop i (normal text v)))
+  sought : (i k : ℕ) → find (folded text p) (drop i (folded text v)) k
+      ≡ find (folded text p) (drop (i + seek b (drop i (folded text v))) (folded text v)) (k + seek b (drop i (folded text v)))
   unfolding fold
   sought i k =
-      let head : normal text p ≡ b ∷ drop 1 (normal text p) = normal-cons text p 0 hp ∙ ap (λ (x : ℕ). x ∷ drop 1 (normal text p)) (sym first) in
-      rw (head, ← drop-drop) (find-seek b (drop 1 (normal text p)) (drop i (normal text v)) k)
+      let head : folded text p ≡ b ∷ drop 1 (folded text p) = folded-cons text p 0 hp ∙ ap (λ (x : ℕ). x ∷ drop 1 (folded text p)) (sym first) in
+      rw (head, ← drop-drop) (find-seek b (drop 1 (folded text p)) (drop i (folded text v)) k)
 
-  pub any-first : (from i : ℕ) → i ≡ from + seek b (drop from (normal text v))
-      → find (normal text p) (drop i (normal text v)) (i - from) ≡ find (normal text p) (drop from (normal text v)) 0
+  pub any-first : (from i : ℕ) → i ≡ from + seek b (drop from (folded text v))
+      → find (folded text p) (drop i (folded text v)) (i - from) ≡ find (folded text p) (drop from (folded text v)) 0
   any-first from i e =
-      let n : i - from ≡ 0 + seek b (drop from (normal text v)) = omega arith in
+      let n : i - from ≡ 0 + seek b (drop from (folded text v)) = omega arith in
       rw (n, e) (sym (sought from 0))
 
-  pub any-on : (from i j : ℕ) → from ≤ i → i < length v → begins (drop i (normal text v)) (normal text p) ≡ false → j ≡ i + 1 + seek b (drop (i + 1) (normal text v))
-      → find (normal text p) (drop j (normal text v)) (j - from) ≡ find (normal text p) (drop i (normal text v)) (i - from)
+  pub any-on : (from i j : ℕ) → from ≤ i → i < length v → begins (drop i (folded text v)) (folded text p) ≡ false → j ≡ i + 1 + seek b (drop (i + 1) (folded text v))
+      → find (folded text p) (drop j (folded text v)) (j - from) ≡ find (folded text p) (drop i (folded text v)) (i - from)
   unfolding find
   any-on from i j l h e f =
-      let n : j - from ≡ i - from + 1 + seek b (drop (i + 1) (normal text v)) = omega arith in
-      rw (n, f) (sym (rw (normal-cons text v i h, rw (normal-cons text v i h) at e) (sought (i + 1) (i - from + 1))))
+      let n : j - from ≡ i - from + 1 + seek b (drop (i + 1) (folded text v)) = omega arith in
+      rw (n, f) (sym (rw (folded-cons text v i h, rw (folded-cons text v i h) at e) (sought (i + 1) (i - from + 1))))
 
 -- ---- a piece at the end
 
 module _ (v p : Bytes) (from : ℕ) where
-  pub ends-short : length v - from < length p → ends (drop from (normal text v)) (normal text p) ≡ false
+  pub ends-short : length v - from < length p → ends (drop from (folded text v)) (folded text p) ≡ false
   unfolding ends
-  ends-short h = rw (lt-leb (length (normal text p)) (length (drop from (normal text v))) (simp (length-drop, normal-length) h))
+  ends-short h = rw (lt-leb (length (folded text p)) (length (drop from (folded text v))) (simp (length-drop, folded-length) h))
 
   pub ends-stands : from ≤ length v → length p ≤ length v - from
-      → ends (drop from (normal text v)) (normal text p) ≡ begins (drop (length v - length p) (normal text v)) (normal text p)
+      → ends (drop from (folded text v)) (folded text p) ≡ begins (drop (length v - length p) (folded text v)) (folded text p)
   unfolding ends
   ends-stands l h =
       let n : from + (length v - from - length p) ≡ length v - length p = omega arith in
-      let m : length (drop (length v - length p) (normal text v)) ≡ length (normal text p) = simp (length-drop, normal-length) (omega arith) in
-      simp (length-drop, normal-length, drop-drop, n, le-leb (length p) (length v - from) h)
-      (identical-common (drop (length v - length p) (normal text v)) (normal text p) m ∙ rw m (sym (begins-common (drop (length v - length p) (normal text v)) (normal text p))))
+      let m : length (drop (length v - length p) (folded text v)) ≡ length (folded text p) = simp (length-drop, folded-length) (omega arith) in
+      simp (length-drop, folded-length, drop-drop, n, le-leb (length p) (length v - from) h)
+      (identical-common (drop (length v - length p) (folded text v)) (folded text p) m ∙ rw m (sym (begins-common (drop (length v - length p) (folded text v)) (folded text p))))

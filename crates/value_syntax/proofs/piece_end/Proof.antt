@@ -1,47 +1,23 @@
--- By the definition's cases.
+-- The piece itself, or its runs shortened in a local text.
 use mathlib.Core.Path.{sym, _∙_}
-use borrow.Author.Tests.{eq-eqb, ne-eqb}
-use lib.ListN.{length-drop}
 use denote.Ref.{now}
-use Rattle.rules.specs.Value.{text, used}
-use Rattle.rules.specs.Laws.Value.{normal-length}
-use Rattle.value_substring.specs.Laws.Pieces.{ends-short, ends-stands}
+use Rattle.value_blank.specs.Laws.Text.{text-within}
+use Rattle.value_syntax.specs.Laws.Piece.{piece-plain, piece-short}
 use borrow.Author.Needs.{needs}
 use Rattle.value_syntax.proofs.piece_end.Statement.{statement}
 use Rattle.value_syntax.proofs.piece_end.Tie as tie
 
+part-end-of-end : tie.Need-part-end-of-end
+part-end-of-end c = text-within _ _ (c .before .before .shortened .ensures)
+
 returns : tie.Need-returns
-unfolding used
-returns c = rw (eq-eqb _ _ (c .before .before .if1 .taken), sym (c .before .stands .ensures) ∙ c .if2 .taken, normal-length text (now (c .before .before .before .before .before .args .p)))
+returns c = rw (← piece-short (now (c .before .before .before .before .before .before .before .before .before .args .p)) _ (c .before .before .before .before .shortened .ensures) (c .before .before .before .before .before .before .before .before .before .pre .1)) (c .end-of .ensures)
 
 returns-2 : tie.Need-returns-2
-unfolding used
-returns-2 c = rw (eq-eqb _ _ (c .before .before .if1 .taken), sym (c .before .stands .ensures) ∙ c .if2 .left)
-
-returns-3 : tie.Need-returns-3
-unfolding used
-returns-3 c = rw (c .before .if3 .taken) (c .any .ensures)
-
-returns-4 : tie.Need-returns-4
-unfolding used
-returns-4 c =
-    let A = c .before .before .before .before .before .args in
-    rw (ne-eqb _ _ (c .before .before .if1 .left), ne-eqb _ _ (c .before .if3 .left), ends-short (now (A .v)) (now (A .p)) (A .from) (c .if4 .taken))
-
-returns-5 : tie.Need-returns-5
-unfolding used
-returns-5 c =
-    let A = c .before .before .before .before .before .before .before .args in
-    rw (ne-eqb _ _ (c .before .before .before .before .if1 .left), ne-eqb _ _ (c .before .before .before .if3 .left), ends-stands (now (A .v)) (now (A .p)) (A .from) (c .before .before .before .before .before .before .before .pre) (c .before .before .if4 .left), sym (c .before .stands2 .ensures) ∙ c .if5 .taken, length-drop, normal-length)
-
-returns-6 : tie.Need-returns-6
-unfolding used
-returns-6 c =
-    let A = c .before .before .before .before .before .before .before .args in
-    rw (ne-eqb _ _ (c .before .before .before .before .if1 .left), ne-eqb _ _ (c .before .before .before .if3 .left), ends-stands (now (A .v)) (now (A .p)) (A .from) (c .before .before .before .before .before .before .before .pre) (c .before .before .if4 .left), sym (c .before .stands2 .ensures) ∙ c .if5 .left)
+returns-2 c = rw (← piece-plain (now (c .before .before .before .before .before .args .p)) (sym (c .before .before .run .ensures) ∙ c .before .if1 .left)) (c .end-of2 .ensures)
 
 pub piece-end-spec : {M : Type 1} → statement M
 piece-end-spec =
     tie.close
-    (tie.spec (λ c κs. search needs) returns returns-2 (λ c κs. search needs) returns-3 (λ c. search needs) returns-4 (λ c. search needs)
-    (λ c κs. search needs) (λ c. search needs) returns-5 returns-6)
+    (tie.spec (λ c κs. search needs) (λ c κs. search needs) (λ c. search needs) (λ c. search needs) part-end-of-end (λ c κs. search needs) returns
+    (λ c κs. search needs) returns-2)

@@ -1,61 +1,70 @@
 -- Laws of `Digest`.
-use Prim.Native.Nat.{ℕ, suc, _+_, _-_, _%_, _≤_, _<_}
+use Prim.Native.Nat.{ℕ, zero, suc, _+_, _-_, _%_, _≤_, _<_}
 use mathlib.Core.Path.{_≡_, refl, sym, ap, _∙_}
 use mathlib.Core.Bool.{Bool, true, false, cond}
 use mathlib.Core.List.{[], _∷_, map}
 use native.Mathlib.Omega.{arith}
 use native.Mathlib.Numerals.{add-one}
-use lib.Dec.{eqb, leb}
-use lib.ListN.{length, getD, drop, drop-of-length-le, length-drop}
-use lib.Seq.{drop-cons}
-use borrow.Author.Tests.{lt-leb, leb-true}
+use lib.Dec.{eqb}
+use lib.ListN.{length, getD, take, drop, drop-of-length-le, length-drop}
+use lib.Seq.{drop-cons, take-all}
 use Rattle.rules.specs.Sheet.{Bytes}
-use Rattle.rules.specs.Value.{text, small, normal, same}
-use Rattle.rules.specs.Laws.Value.{identical-eq}
-use Rattle.value_syntax.specs.Digest.{word, stirred, digest}
+use Rattle.rules.specs.Value.{text, small, tidied, folded, normal, same}
+use Rattle.rules.specs.Laws.Value.{same-iff}
+use Rattle.rules.specs.Laws.Blanks.{small-small}
+use Rattle.value_blank.specs.declared.Text.{Text}
+use Rattle.value_blank.specs.Blank.{isTidy, textOf}
+use Rattle.value_blank.specs.Laws.Blank.{tidy-tidied}
+use Rattle.value_blank.specs.Laws.Text.{text-bytes}
+use Rattle.value_syntax.specs.Digest.{word, stirred, mixed, digest}
+
+mixed-bound : (h : ℕ) (v : Bytes) → mixed h v < 4294967296
+unfolding mixed
+mixed-bound h [] = omega arith
+mixed-bound h (a ∷ []) = omega arith
+mixed-bound h (a ∷ (b ∷ [])) = omega arith
+mixed-bound h (a ∷ (b ∷ (c ∷ []))) = omega arith
+mixed-bound h (a ∷ (b ∷ (c ∷ (d ∷ v)))) = mixed-bound (stirred h (word a b c d)) v
 
 pub digest-bound : (h : ℕ) (v : Bytes) → digest h v < 4294967296
 unfolding digest
-digest-bound h [] = omega arith
-digest-bound h (a ∷ []) = omega arith
-digest-bound h (a ∷ (b ∷ [])) = omega arith
-digest-bound h (a ∷ (b ∷ (c ∷ []))) = omega arith
-digest-bound h (a ∷ (b ∷ (c ∷ (d ∷ v)))) = digest-bound (stirred h (word a b c d)) v
+digest-bound h v = mixed-bound h (take 64 (tidied v))
 
-small-twice : (b : ℕ) → small (small b) ≡ small b
-unfolding small
-small-twice b = go (leb 65 b) refl (leb b 90) refl
-  where
-    go : (t : Bool) → leb 65 b ≡ t → (u : Bool) → leb b 90 ≡ u
-        → cond (leb 65 (cond t (cond u (b + 32) b) b)) (cond (leb (cond t (cond u (b + 32) b) b) 90) (cond t (cond u (b + 32) b) b + 32) (cond t (cond u (b + 32) b) b)) (cond t (cond u (b + 32) b) b)
-        ≡ cond t (cond u (b + 32) b) b
-    go true e true f = let l : 65 ≤ b = leb-true 65 b e in rw (lt-leb (b + 32) 90 (omega arith)) (go′ (leb 65 (b + 32)))
-      where
-        go′ : (t : Bool) → cond t (b + 32) (b + 32) ≡ b + 32
-        go′ true = refl
-        go′ false = refl
-    go true e false f = rw (e, f)
-    go false e u f = rw e
+-- ---- equal values have one digest
 
-digest-small : (h : ℕ) (v : Bytes) → digest h (map small v) ≡ digest h v
-unfolding digest
-digest-small h [] = refl
-digest-small h (a ∷ []) = rw (small-twice a)
-digest-small h (a ∷ (b ∷ [])) = rw (small-twice a, small-twice b)
-digest-small h (a ∷ (b ∷ (c ∷ []))) = rw (small-twice a, small-twice b, small-twice c)
-digest-small h (a ∷ (b ∷ (c ∷ (d ∷ v)))) = rw (small-twice a, small-twice b, small-twice c, small-twice d) (digest-small (stirred h (word a b c d)) v)
+mixed-small : (h : ℕ) (v : Bytes) → mixed h (map small v) ≡ mixed h v
+unfolding mixed
+mixed-small h [] = refl
+mixed-small h (a ∷ []) = rw (small-small a)
+mixed-small h (a ∷ (b ∷ [])) = rw (small-small a, small-small b)
+mixed-small h (a ∷ (b ∷ (c ∷ []))) = rw (small-small a, small-small b, small-small c)
+mixed-small h (a ∷ (b ∷ (c ∷ (d ∷ v)))) = rw (small-small a, small-small b, small-small c, small-small d) (mixed-small (stirred h (word a b c d)) v)
 
-digest-normal : (h s : ℕ) (v : Bytes) → digest h (normal s v) ≡ digest h v
-unfolding normal
-digest-normal h s v = go (eqb s text)
-  where
-    go : (t : Bool) → digest h (cond t (map small v) v) ≡ digest h v
-    go true = digest-small h v
-    go false = refl
+take-map : (n : ℕ) (l : Bytes) → map small (take n l) ≡ take n (map small l)
+take-map zero l = refl
+take-map (suc n) [] = refl
+take-map (suc n) (b ∷ bs) = ap (λ (x : Bytes). small b ∷ x) (take-map n bs)
 
 pub digest-same : (h s : ℕ) (u v : Bytes) → same s u v ≡ true → digest h u ≡ digest h v
-unfolding same
-digest-same h s u v e = sym (digest-normal h s u) ∙ ap (digest h) (identical-eq (normal s u) (normal s v) e) ∙ digest-normal h s v
+unfolding normal folded digest
+digest-same h s u v e = go (eqb s text) (same-iff s u v .0 e)
+  where
+    small-digest : (w : Bytes) → digest h w ≡ mixed h (take 64 (map small (tidied w)))
+    small-digest w = sym (mixed-small h (take 64 (tidied w))) ∙ ap (mixed h) (take-map 64 (tidied w))
+
+    go : (t : Bool) → cond t (map small (cond t (tidied u) u)) (cond t (tidied u) u) ≡ cond t (map small (cond t (tidied v) v)) (cond t (tidied v) v) → digest h u ≡ digest h v
+    go true p = small-digest u ∙ ap (λ (l : Bytes). mixed h (take 64 l)) p ∙ sym (small-digest v)
+    go false p = ap (digest h) p
+
+-- ---- the two ways to a digest
+
+pub digest-tidy : (h : ℕ) (v : Bytes) → length v ≤ 64 → isTidy v ≡ true → digest h v ≡ mixed h v
+unfolding digest
+digest-tidy h v l e = ap (mixed h) (ap (take 64) (tidy-tidied v e) ∙ take-all 64 v l)
+
+pub digest-tidied : (h : ℕ) (v : Bytes) (t : Text) → t ≡ textOf (take 64 (tidied v)) → digest h v ≡ mixed h (take (t .length - 0) (t .bytes))
+unfolding digest
+digest-tidied h v t e = ap (mixed h) (sym (text-bytes t (take 64 (tidied v)) e))
 
 -- ---- the loops: the bytes before `i` are in `h`
 
@@ -64,8 +73,8 @@ unfoldable pub singly : ℕ → Bytes → ℕ
 singly h [] = h % 4294967296
 singly h (b ∷ bs) = singly (stirred h (small b)) bs
 
-few : (h : ℕ) (v : Bytes) → length v < 4 → digest h v ≡ singly h v
-unfolding digest singly
+few : (h : ℕ) (v : Bytes) → length v < 4 → mixed h v ≡ singly h v
+unfolding mixed singly
 few h [] l = refl
 few h (a ∷ []) l = refl
 few h (a ∷ (b ∷ [])) l = refl
@@ -73,10 +82,10 @@ few h (a ∷ (b ∷ (c ∷ []))) l = refl
 few h (a ∷ (b ∷ (c ∷ (d ∷ v)))) l = absurd (omega arith)
 
 module _ (v : Bytes) (i h : ℕ) where
-  pub digest-on : 4 ≤ length v - i
-      → digest h (drop i v) ≡ digest (stirred h (word (getD v i 0) (getD v (i + 1) 0) (getD v (i + 2) 0) (getD v (i + 3) 0))) (drop (i + 4) v)
-  unfolding digest
-  digest-on l =
+  pub mixed-on : 4 ≤ length v - i
+      → mixed h (drop i v) ≡ mixed (stirred h (word (getD v i 0) (getD v (i + 1) 0) (getD v (i + 2) 0) (getD v (i + 3) 0))) (drop (i + 4) v)
+  unfolding mixed
+  mixed-on l =
       rw (
         drop-cons v i 0 (omega arith),
         drop-cons v (suc i) 0 (omega arith),
@@ -97,8 +106,8 @@ module _ (v : Bytes) (i h : ℕ) where
       four : i + 4 ≡ suc (suc (suc (suc i)))
       four = omega arith
 
-  pub digest-few : length v - i < 4 → digest h (drop i v) ≡ singly h (drop i v)
-  digest-few l = few h (drop i v) (rw (length-drop i v) l)
+  pub mixed-few : length v - i < 4 → mixed h (drop i v) ≡ singly h (drop i v)
+  mixed-few l = few h (drop i v) (rw (length-drop i v) l)
 
   pub singly-on : i < length v → singly h (drop i v) ≡ singly (stirred h (small (getD v i 0))) (drop (i + 1) v)
   unfolding singly

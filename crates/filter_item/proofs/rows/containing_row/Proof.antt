@@ -6,6 +6,7 @@ use native.Mathlib.Omega.{arith}
 use mathlib.Core.Bool.{Bool, _&&_}
 use Rattle.rules.specs.Sheet.{Bytes}
 use Rattle.tables.specs.Held.{bytesAt}
+use Rattle.filter_item.specs.Laws.Rows.{row-short}
 use borrow.Author.Needs.{needs}
 use Rattle.filter_item.proofs.rows.containing_row.Statement.{statement}
 use Rattle.filter_item.proofs.rows.containing_row.Tie as tie
@@ -15,6 +16,12 @@ matchable-row-requires c κs = let r = c .before .before .pre .0 .room in (c .be
 
 bytes-requires : tie.Need-bytes-requires
 bytes-requires c κs = let r = c .before .before .before .before .before .before .pre .0 .room in (omega (arith, r, c .before .before .before .before .before .before .pre .2), c .before .before .before .before .before .before .pre .0 .part (c .before .before .before .before .before .before .args .i) (c .before .before .before .before .before .before .pre .1) (c .before .before .before .before .before .before .pre .2))
+
+substrings-requires : tie.Need-substrings-requires
+substrings-requires c κs =
+    let A = c .before .before .before .before .before .before .before .args in
+    let P = c .before .before .before .before .before .before .before .pre in
+    (P .3, omega (arith, P .4), row-short (P .0) (A .i) (P .1) (P .2) _ (c .bytes .ensures))
 
 returns : tie.Need-returns
 returns c = c .substrings .ensures ∙ ap (λ (u : Bytes). contains text (piecesAt (now (c .before .before .before .before .before .before .before .before .args .q)) (now (c .before .before .before .before .before .before .before .before .args .rows)) (c .before .before .before .before .before .before .before .before .args .lines) (c .before .before .before .before .before .before .before .before .args .k)) u) (c .before .bytes .ensures) ∙ ap (λ (b : Bool). b && contains text (piecesAt (now (c .before .before .before .before .before .before .before .before .args .q)) (now (c .before .before .before .before .before .before .before .before .args .rows)) (c .before .before .before .before .before .before .before .before .args .lines) (c .before .before .before .before .before .before .before .before .args .k)) (bytesAt (now (c .before .before .before .before .before .before .before .before .args .d)) (now (c .before .before .before .before .before .before .before .before .args .held)) (c .before .before .before .before .before .before .before .before .args .i))) (sym (c .before .before .before .before .if1 .taken) ∙ c .before .before .before .before .before .matchable-row .ensures)
@@ -26,4 +33,4 @@ pub containing-row-spec : {M : Type 1} → statement M
 containing-row-spec =
     tie.close
     (tie.spec matchable-row-requires (λ c. search needs) (λ c. search needs) (λ c. search needs) (λ c. search needs) (λ c. search needs) bytes-requires
-    (λ c κs. search needs) returns returns-2)
+    substrings-requires returns returns-2)

@@ -1,78 +1,27 @@
--- The pieces from here stand in what is left of the text where all stand in it; none is left at the last line.
-use Prim.Native.Nat.{_-_, _≤_}
-use mathlib.Core.Path.{_≡_, sym, _∙_}
-use native.Mathlib.Omega.{arith}
-use lib.ListN.{length}
+-- The value itself, or its local text.
+use mathlib.Core.Path.{sym, _∙_}
 use denote.Ref.{now}
-use Rattle.rules.specs.Value.{text, contains}
-use Rattle.rules.specs.Laws.Value.{used-fits}
-use Rattle.filter_lines.specs.Laws.Pieces.{piecesFrom, from-none, from-over, from-on, standFrom, stand-start, stand-none, stand-lost, stand-on}
+use Rattle.value_blank.specs.Laws.Text.{text-within}
+use Rattle.filter_lines.specs.Laws.Pieces.{stand-tidy, stand-tidied}
 use borrow.Author.Needs.{needs}
 use Rattle.filter_lines.proofs.pieces.substrings.Statement.{statement}
 use Rattle.filter_lines.proofs.pieces.substrings.Tie as tie
 
-abbrev Inv-loop : tie.InvT-loop
-Inv-loop q rows lines k n v from₀ j₀ left₀ from j left = (j ≤ lines) × (from ≤ length v)
-    × (standFrom v from (piecesFrom q rows lines j left) ≡ contains text (piecesFrom q rows lines k n) v)
-
-abbrev μ-loop : tie.MeasureT-loop
-μ-loop q rows lines k n v from₀ j₀ left₀ from j left = left
-
-loop-holds : tie.Need-loop-holds Inv-loop μ-loop
-loop-holds c = let a = c .before .before .before .args in (c .before .before .before .pre .1, omega arith, stand-start (now (a .v)) (piecesFrom (now (a .q)) (now (a .rows)) (a .lines) (a .k) (a .n)))
-
-returns : tie.Need-returns Inv-loop μ-loop
+returns : tie.Need-returns
 returns c =
     let a = c .before .before .before .before .before .before .args in
-    let L = c .before .before .loop in
-    sym (stand-none (now (a .v)) (L .from) (from-over (now (a .q)) (now (a .rows)) (a .lines) (L .j) (L .left) (c .if1 .taken))) ∙ L .inv .2
+    c .pieces-stand .ensures ∙ stand-tidy (now (a .v)) _ (sym (c .before .before .tidy .ensures) ∙ c .before .if1 .taken)
 
-mul-piece-end : tie.Need-mul-piece-end Inv-loop μ-loop
-mul-piece-end c = omega (arith, c .if1 .left, c .before .before .before .before .before .before .pre .0 .room)
+part-pieces-stand-end : tie.Need-part-pieces-stand-end
+part-pieces-stand-end c = text-within _ _ (c .before .before .tidied .ensures)
 
-add-piece-end : tie.Need-add-piece-end Inv-loop μ-loop
-add-piece-end c = omega (arith, c .if1 .left, c .before .before .before .before .before .before .pre .0 .room)
-
-shared-slice-read-piece-end : tie.Need-shared-slice-read-piece-end Inv-loop μ-loop
-shared-slice-read-piece-end c = omega (arith, c .before .if1 .left, c .before .before .before .before .before .before .before .pre .0 .room)
-
-value-of-requires : tie.Need-value-of-requires Inv-loop μ-loop
-value-of-requires c κs =
-    let h = c .before .before .before .before .before .before .before .pre .0 in
-    let j = c .before .before .before .loop .j in
-    let l = c .before .if1 .left in
-    (omega (arith, l, h .room), h .begins j l, h .within j l)
-
-returns-2 : tie.Need-returns-2 Inv-loop μ-loop
+returns-2 : tie.Need-returns-2
 returns-2 c =
-    let a = c .before .before .before .before .before .before .before .before .before .before .before .args in
-    let L = c .before .before .before .before .before .before .before .loop in
-    let e = from-on (now (a .q)) (now (a .rows)) (a .lines) (L .j) (L .left) (c .before .before .before .before .before .if1 .left) (c .before .before .before .before .before .before .loop-test .taken) _ (c .before .before .before .value-of .ensures) in
-    sym (stand-lost (now (a .v)) (L .from) _ _ e (sym (c .before .before .piece-end .ensures) ∙ c .enum-told .given .1)) ∙ L .inv .2
-
-add-from : tie.Need-add-from Inv-loop μ-loop
-add-from c =
-    let a = c .before .before .before .before .before .before .before .before .before .before .before .before .args in
-    let L = c .before .before .before .before .before .before .before .before .loop in
-    omega (arith, used-fits _ _ text (now (a .v)) (L .from) _ (L .inv .1) (sym (c .before .before .before .piece-end .ensures) ∙ c .before .used .given .1))
-
-loop-again : tie.Need-loop-again Inv-loop μ-loop
-loop-again c =
-    let a = c .before .before .before .before .before .before .before .before .before .before .before .before .args in
-    let L = c .before .before .before .before .before .before .before .before .loop in
-    let u = sym (c .before .before .before .piece-end .ensures) ∙ c .before .used .given .1 in
-    let e = from-on (now (a .q)) (now (a .rows)) (a .lines) (L .j) (L .left) (c .before .before .before .before .before .before .if1 .left) (c .before .before .before .before .before .before .before .loop-test .taken) _ (c .before .before .before .before .value-of .ensures) in
-    (omega (arith, c .before .before .before .before .before .before .if1 .left), used-fits _ _ text (now (a .v)) (L .from) _ (L .inv .1) u, sym (stand-on (now (a .v)) (L .from) _ _ e _ u) ∙ L .inv .2)
-
-returns-3 : tie.Need-returns-3 Inv-loop μ-loop
-returns-3 c =
-    let a = c .before .before .before .before .before .args in
-    let L = c .before .loop in
-    sym (stand-none (now (a .v)) (L .from) (from-none (now (a .q)) (now (a .rows)) (a .lines) (L .j) (L .left) (c .loop-test .left))) ∙ L .inv .2
+    let a = c .before .before .before .before .before .before .before .before .before .before .args in
+    c .pieces-stand2 .ensures ∙ stand-tidied (now (a .v)) _ _ (c .before .before .before .before .tidied .ensures) (c .before .before .before .before .before .before .before .before .before .before .pre .2)
 
 pub substrings-spec : {M : Type 1} → statement M
 substrings-spec =
     tie.close
-    (tie.spec Inv-loop μ-loop loop-holds returns mul-piece-end add-piece-end (λ c. search needs) shared-slice-read-piece-end value-of-requires
-    (λ c κs. search needs) (λ c. search needs) (λ c. search needs) returns-2 add-from (λ c. search needs) (λ c. search needs) (λ c. search needs)
-    loop-again returns-3)
+    (tie.spec (λ c κs. search needs) (λ c κs. search needs) returns (λ c κs. search needs) (λ c. search needs) (λ c. search needs)
+    part-pieces-stand-end (λ c κs. search needs) returns-2)

@@ -1,50 +1,27 @@
--- The bytes before `i` are in `h`.
-use Prim.Native.Nat.{_-_, _≤_}
-use mathlib.Core.Path.{_≡_, refl, sym, _∙_}
-use lib.ListN.{length, drop}
-use Rattle.value_syntax.specs.Digest.{digest}
-use Rattle.value_syntax.specs.Laws.Digest.{singly, digest-on, digest-few, singly-on, singly-end}
+-- The bytes themselves, or those of the local text.
+use mathlib.Core.Path.{sym, _∙_}
+use denote.Ref.{now}
+use Rattle.value_blank.specs.Laws.Text.{text-within}
+use Rattle.value_syntax.specs.Laws.Digest.{digest-tidy, digest-tidied}
 use borrow.Author.Needs.{needs}
 use Rattle.value_syntax.proofs.digest.digest.Statement.{statement}
 use Rattle.value_syntax.proofs.digest.digest.Tie as tie
 
-abbrev Inv-loop : tie.InvT-loop
-Inv-loop seed v h₀ i₀ h i = (i ≤ length v) × (digest h (drop i v) ≡ digest seed v)
+returns : tie.Need-returns
+returns c =
+    let A = c .before .before .before .before .before .args in
+    c .mixed .ensures ∙ sym (digest-tidy (A .seed) (now (A .v)) (c .before .before .before .if1 .taken) (sym (c .before .before .tidy .ensures) ∙ c .before .if2 .taken))
 
-abbrev μ-loop : tie.MeasureT-loop
-μ-loop seed v h₀ i₀ h i = length v - i
+part-mixed-end : tie.Need-part-mixed-end
+part-mixed-end c = text-within _ _ (c .before .before .tidied .ensures)
 
-abbrev Inv-loop2 : tie.InvT-loop2
-Inv-loop2 seed v h₀ i₀ h i = (i ≤ length v) × (singly h (drop i v) ≡ digest seed v)
-
-abbrev μ-loop2 : tie.MeasureT-loop2
-μ-loop2 seed v h₀ i₀ h i = length v - i
-
-loop-holds : tie.Need-loop-holds Inv-loop μ-loop Inv-loop2 μ-loop2
-loop-holds c = (search needs, refl)
-
-loop-again : tie.Need-loop-again Inv-loop μ-loop Inv-loop2 μ-loop2
-loop-again c = (
-  search needs,
-  rw (c .stirred .ensures, c .before .word .ensures .0) (sym (digest-on (c .before .before .before .before .before .before .before .before .before .args .v .now) (c .before .before .before .before .before .before .before .loop .i) _ (c .before .before .before .before .before .before .loop-test .taken)) ∙ c .before .before .before .before .before .before .before .loop .inv .1),
-)
-
-loop2-holds : tie.Need-loop2-holds Inv-loop μ-loop Inv-loop2 μ-loop2
-loop2-holds c = (search needs, sym (digest-few (c .before .before .before .args .v .now) (c .before .loop .i) _ (c .loop-test .left)) ∙ c .before .loop .inv .1)
-
-loop2-again : tie.Need-loop2-again Inv-loop μ-loop Inv-loop2 μ-loop2
-loop2-again c = (
-  search needs,
-  rw (c .stirred2 .ensures, c .before .small .ensures) (sym (singly-on _ _ _ (c .before .before .before .loop2-test .taken)) ∙ c .before .before .before .before .loop2 .inv .1),
-)
-
-returns : tie.Need-returns Inv-loop μ-loop Inv-loop2 μ-loop2
-returns c = sym (singly-end _ _ _ (c .loop2-test .left)) ∙ c .before .loop2 .inv .1
+returns-2 : tie.Need-returns-2
+returns-2 c =
+    let A = c .before .before .before .before .before .before .before .args in
+    c .mixed2 .ensures ∙ sym (digest-tidied (A .seed) (now (A .v)) _ (c .before .before .before .before .tidied .ensures))
 
 pub digest-spec : {M : Type 1} → statement M
 digest-spec =
     tie.close
-    (tie.spec Inv-loop μ-loop Inv-loop2 μ-loop2 loop-holds (λ c. search needs) (λ c. search needs) (λ c. search needs) (λ c. search needs) (λ c. search needs)
-    (λ c. search needs) (λ c. search needs) (λ c. search needs) (λ c κs. search needs) (λ c κs. search needs) (λ c. search needs) (λ c. search needs)
-    loop-again loop2-holds (λ c. search needs) (λ c κs. search needs) (λ c. search needs) (λ c κs. search needs) (λ c. search needs) (λ c. search needs)
-    loop2-again returns)
+    (tie.spec (λ c κs. search needs) (λ c κs. search needs) returns (λ c κs. search needs) (λ c. search needs) (λ c. search needs) part-mixed-end
+    (λ c κs. search needs) returns-2)

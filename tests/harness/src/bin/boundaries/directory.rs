@@ -163,6 +163,10 @@ fn twice(test: &mut Explicit) {
     };
     let ann: L = (3, 2, 0, 0, b"ann");
     lines(test, "siblings of one name", 5, &pair((2, 0, 2, 0, b"aNN"), ann));
+    lines(test, "siblings, a blank after", 5, &pair((2, 0, 2, 0, b"Ann "), ann));
+    lines(test, "siblings, a blank before", 5, &pair((2, 0, 2, 0, b" ann"), ann));
+    let apart: L = (3, 2, 0, 0, b"An n");
+    lines(test, "siblings, a blank within", 0, &pair((2, 0, 2, 0, b"An n"), apart));
     lines(test, "one name below another parent", 0, &pair((2, 1, 2, 0, b"Ann"), ann));
     let octets: L = (3, 1, 0, 0, b"Ann");
     lines(test, "siblings of different types", 0, &pair((2, 0, 1, 0, b"Ann"), octets));
@@ -171,6 +175,15 @@ fn twice(test: &mut Explicit) {
     };
     lines(test, "text twice in other letters", 5, &value(2, b"x y", b"X Y"));
     lines(test, "text differing in a blank", 0, &value(2, b"x y", b"xy"));
+    lines(test, "text twice with a blank after", 5, &value(2, b"x", b"x "));
+    lines(test, "text twice with a blank before", 5, &value(2, b"x", b" x"));
+    lines(test, "text twice with two blanks", 5, &value(2, b"x  y", b"x y"));
+    lines(test, "text twice with blanks all over", 5, &value(2, b"  x y", b"X    Y "));
+    lines(test, "blanks alone twice", 5, &value(2, b" ", b"   "));
+    lines(test, "blanks alone beside a letter", 0, &value(2, b" ", b" x "));
+    lines(test, "64 blanks beside one", 5, &value(2, &[b' '; 64], b" "));
+    lines(test, "octets differing in a blank", 0, &value(1, b"x", b"x "));
+    lines(test, "octets of blanks", 0, &value(1, b" ", b"  "));
     lines(test, "octets twice", 5, &value(1, b"x", b"x"));
     lines(test, "octets in other letters", 0, &value(1, b"x", b"X"));
     lines(test, "integer twice", 5, &value(3, b"-7", b"-7"));
@@ -205,6 +218,9 @@ fn naming(test: &mut Explicit) {
         ("another value", vec![bob], 6),
         ("the value in another type", vec![(3, 1, 0, 0, &b"Ann"[..])], 6),
         ("other letters", vec![(3, 2, 0, 0, b"aNN")], 0),
+        ("other blanks", vec![(3, 2, 0, 0, b"  Ann ")], 0),
+        ("a blank within", vec![(3, 2, 0, 0, b"An n")], 6),
+        ("blanks", vec![(3, 2, 0, 0, b"   ")], 6),
         ("second of two", vec![bob, (3, 2, 0, 0, b"ANN")], 0),
         ("then an entry", vec![bob, (2, 0, 2, 0, b"Cid")], 6),
         ("then an entry below", vec![bob, (2, 1, 2, 0, b"Cid")], 6),
@@ -224,6 +240,16 @@ fn naming(test: &mut Explicit) {
         ("no values, then an entry with parent 2", vec![(2, 2, 2, 0, b"Cid")], 2),
     ] {
         lines(test, &format!("naming value: {what}"), refusal, &after(&more));
+    }
+    for (name, held, refusal) in [
+        (&b"A  b"[..], &b"a b"[..], 0),
+        (b" a b", b"A   B", 0),
+        (b" ", b"    ", 0),
+        (b"a b", b"ab", 6),
+        (b" ", b"a", 6),
+    ] {
+        let what = format!("naming value {name:?}, held {held:?}");
+        lines(test, &what, refusal, &[(2, 0, 2, 0, name), (3, 2, 0, 0, held)]);
     }
     let mut cut = typed(&after(&[bob, (2, 0, 2, 0, b"Cid")]));
     cut.pop();

@@ -1,5 +1,6 @@
-//! Outcomes, decisions and truth values of document 01, one named situation each.
+//! Outcomes, decisions and truth values of documents 01 and 02, one named situation each.
 
+mod blanks;
 mod decisions;
 mod filters;
 mod operations;
@@ -12,5 +13,6 @@ fn main() -> ExitCode {
     decisions::run(&mut test);
     filters::run(&mut test);
     operations::run(&mut test);
+    blanks::run(&mut test);
     test.finish()
 }

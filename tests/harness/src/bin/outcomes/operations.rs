@@ -24,7 +24,7 @@ fn open_but(more: Vec<ItemLines>) -> Situation {
     world(items)
 }
 
-fn on(base: &[&str], subtree: bool, item: ItemLines) -> ItemLines {
+pub fn on(base: &[&str], subtree: bool, item: ItemLines) -> ItemLines {
     ItemLines { base: named(base), subtree, ..item }
 }
 
@@ -36,42 +36,42 @@ fn listed(types: &[u32], values: bool) -> Selected {
     Selected { types: Some(types.to_vec()), values }
 }
 
-fn read(name: &[&str], selected: Selected) -> RequestSheet {
+pub fn read(name: &[&str], selected: Selected) -> RequestSheet {
     asking(named(name), OperationLines::Read(selected))
 }
 
-fn compare(name: &[&str], kind: u32, value: &str) -> RequestSheet {
+pub fn compare(name: &[&str], kind: u32, value: &str) -> RequestSheet {
     asking(named(name), OperationLines::Compare(kind, value.as_bytes().to_vec()))
 }
 
-fn list(name: &[&str], limit: u32) -> RequestSheet {
+pub fn list(name: &[&str], limit: u32) -> RequestSheet {
     asking(named(name), OperationLines::List { limit })
 }
 
-fn search(name: &[&str], subset: u32, limit: u32, filter: FilterLines) -> RequestSheet {
+pub fn search(name: &[&str], subset: u32, limit: u32, filter: FilterLines) -> RequestSheet {
     let selected = listed(&[], false);
     asking(named(name), OperationLines::Search { limit, selected, subset, filter })
 }
 
 /// Line 30.
-fn head(operation: u32, outcome: u32, cut: u32) -> String {
+pub fn head(operation: u32, outcome: u32, cut: u32) -> String {
     line(30, operation, outcome, cut, "")
 }
 
-fn line(kind: u32, a: u32, b: u32, c: u32, bytes: &str) -> String {
+pub fn line(kind: u32, a: u32, b: u32, c: u32, bytes: &str) -> String {
     format!("{kind:6}{a:6}{b:6}{c:6}{:6}{bytes}\n", bytes.len())
 }
 
 /// K 33 with a name.
-fn entry(name: &[&str]) -> String {
+pub fn entry(name: &[&str]) -> String {
     line(33, 0, name.len() as u32, 0, "") + &name_lines(name)
 }
 
-fn name_lines(name: &[&str]) -> String {
+pub fn name_lines(name: &[&str]) -> String {
     name.iter().map(|part| line(9, 2, 0, 0, part)).collect()
 }
 
-fn held(kind: u32, values: &[&str]) -> String {
+pub fn held(kind: u32, values: &[&str]) -> String {
     let lines: String = values.iter().map(|value| line(35, 0, 0, 0, value)).collect();
     line(34, kind, values.len() as u32, 0, "") + &lines
 }

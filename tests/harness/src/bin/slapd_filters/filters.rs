@@ -75,7 +75,7 @@ fn asserted(random: &mut Random, world: &World, kind: u32, syntax: u32) -> Vec<u
     }
 }
 
-/// Pieces without blanks at their ends. On octets and integers there is no rule for them.
+/// On octets and integers there is no rule for pieces.
 fn substrings(random: &mut Random, kind: u32, syntax: u32) -> FilterLines {
     let source = value(random, if syntax == INTEGER { INTEGER } else { TEXT });
     let count = random.between(1, 3);
@@ -95,18 +95,27 @@ fn substrings(random: &mut Random, kind: u32, syntax: u32) -> FilterLines {
             };
             let end = random.between(begin + 1, source.len());
             start = end;
-            (place as u32, piece(random, &source[begin..end]))
+            (place as u32, piece(random, place, &source[begin..end]))
         })
         .collect();
     let kind = if syntax == OCTETS && random.percent(50) { 2 } else { kind };
     FilterLines::Substrings(kind, pieces)
 }
 
-fn piece(random: &mut Random, text: &[u8]) -> Vec<u8> {
-    let text = text.trim_ascii();
-    let text = if text.is_empty() { b"a" } else { text };
+/// slapd drops blanks before an initial piece of more than blanks, and after a final one.
+fn piece(random: &mut Random, place: usize, text: &[u8]) -> Vec<u8> {
     if random.once_in(20) {
         return NO_TEXT.to_vec();
     }
-    variant(random, TEXT, text)
+    let text = variant(random, TEXT, text);
+    let kept = match place {
+        0 if !text.trim_ascii().is_empty() => text.trim_ascii_start(),
+        2 => text.trim_ascii_end(),
+        _ => &text,
+    };
+    if kept.is_empty() {
+        b"a".to_vec()
+    } else {
+        kept.to_vec()
+    }
 }

@@ -1,4 +1,4 @@
--- Laws of `Normal`.
+-- Laws of `Fold`.
 use Prim.Native.Nat.{ℕ, zero, suc, _+_, _-_, _≤_, _<_}
 use mathlib.Core.Path.{_≡_, refl, sym, ap, _∙_}
 use mathlib.Core.Bool.{Bool, true, false, _&&_, cond, and-eq-true-iff}
@@ -9,27 +9,27 @@ use lib.Dec.{eqb}
 use lib.ListN.{length, getD, take, drop, length-map, length-drop, List·getD-map}
 use lib.Seq.{drop-cons, take-all}
 use Rattle.rules.specs.Sheet.{Bytes}
-use Rattle.rules.specs.Value.{text, small, normal}
-use Rattle.value_collation.specs.Normal.{fold, four}
+use Rattle.rules.specs.Value.{text, small, folded}
+use Rattle.value_collation.specs.Fold.{fold, four}
 
 module _ (s : ℕ) (v : Bytes) where
-  normal-map : normal s v ≡ map (fold s) v
-  unfolding normal fold
-  normal-map = go (eqb s text)
+  folded-map : folded s v ≡ map (fold s) v
+  unfolding folded fold
+  folded-map = go (eqb s text)
     where
       go : (t : Bool) → cond t (map small v) v ≡ map (λ (b : ℕ). cond t (small b) b) v
       go true = refl
       go false = sym (map-id v)
 
-  pub normal-cons : (i : ℕ) → i < length v → drop i (normal s v) ≡ fold s (getD v i 0) ∷ drop (i + 1) (normal s v)
-  normal-cons i h =
+  pub folded-cons : (i : ℕ) → i < length v → drop i (folded s v) ≡ fold s (getD v i 0) ∷ drop (i + 1) (folded s v)
+  folded-cons i h =
       let l = length-map v (fold s) in
       let k : i < length (map (fold s) v) = omega arith in
-      rw (normal-map, add-one, drop-cons (map (fold s) v) i (fold s 0) k, List·getD-map (fold s) v i 0)
+      rw (folded-map, add-one, drop-cons (map (fold s) v) i (fold s 0) k, List·getD-map (fold s) v i 0)
 
 -- what the part of a slice that begins at `at` has
-pub normal-part : (s : ℕ) (v : Bytes) (at : ℕ) → normal s (take (length v - at) (drop at v)) ≡ drop at (normal s v)
-normal-part s v at = rw (take-all (length v - at) (drop at v) (simp length-drop (omega arith)), normal-map s v, normal-map s (drop at v)) (go at v)
+pub folded-part : (s : ℕ) (v : Bytes) (at : ℕ) → folded s (take (length v - at) (drop at v)) ≡ drop at (folded s v)
+folded-part s v at = rw (take-all (length v - at) (drop at v) (simp length-drop (omega arith)), folded-map s v, folded-map s (drop at v)) (go at v)
   where
     go : (n : ℕ) (l : Bytes) → map (fold s) (drop n l) ≡ drop n (map (fold s) l)
     go zero l = refl

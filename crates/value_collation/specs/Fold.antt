@@ -1,8 +1,8 @@
--- The normal form of a value, a byte at a time, and four bytes at a time.
+-- The folded form of a value, a byte at a time, and four bytes at a time.
 use Prim.Native.Nat.{ℕ, _+_, _-_}
 use mathlib.Core.Bool.{Bool, _&&_, cond}
 use lib.Dec.{eqb}
-use Rattle.rules.specs.Value.{text, small, normal}
+use Rattle.rules.specs.Value.{text, small}
 
 -- a byte as the syntax compares it
 unfoldable pub fold : ℕ → ℕ → ℕ
