@@ -127,7 +127,8 @@ static void permissions_init(void) {
 }
 
 static void base(struct sheet *req, unsigned operation, unsigned parts, unsigned limit) {
-    sheet_line(req, 10, 1, 1, 0, "");
+    /* The first edition where there is a limit. */
+    sheet_line(req, 10, 1, 1, limit > 0, "");
     sheet_line(req, 9, 2, 0, 0, "Ann");
     sheet_line(req, 11, operation, parts, limit, "");
     for (unsigned i = 0; i < parts; i++) sheet_line(req, 9, 2, 0, 0, i == 0 ? "ann" : "Cid");

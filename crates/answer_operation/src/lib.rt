@@ -56,10 +56,12 @@ pub fn plan_of(
     if asked.operation == operation::LIST {
         return list(book, sets, target, asked.limit, hits);
     }
+    let edition = asked.edition;
     let query = Query {
         limit: asked.limit,
         subset: asked.subset,
         filter: asked.filter,
+        edition,
     };
     search(book, held, sets, d, p, q, target, query, hits)
 }

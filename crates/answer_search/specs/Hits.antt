@@ -8,17 +8,18 @@ use Rattle.rules.specs.Directory.{Stored}
 use Rattle.rules.specs.Decision.{Setting}
 use Rattle.rules.specs.Filter.{Filter}
 use Rattle.rules.specs.Numbers.{withinNumber}
+use Rattle.rules.specs.declared.Edition.{Edition}
 use Rattle.rules.specs.declared.Found.{Found}
 use Rattle.rules.specs.declared.Found.the-variants.{At, Nothing}
 use Rattle.answer_entry.specs.Passing.{passing}
 use Rattle.answer_entry.specs.Returned.{returnableAt}
 use Rattle.filter_tree.specs.Tree.{matchesAt}
 
--- search returns the entry of index `k`, of base number `b`
-unfoldable pub foundAt : Setting → List Stored → ℕ → ℕ → Filter → ℕ → Bool
-foundAt σ es b subset f k = withinNumber es subset b (suc k) && (returnableAt σ es (suc k) (eqb (suc k) b) && matchesAt σ es f k)
+-- search returns the entry of index `k`, of base number `b`, in the edition
+unfoldable pub foundAt : Setting → List Stored → ℕ → ℕ → Edition → Filter → ℕ → Bool
+foundAt σ es b subset ed f k = withinNumber es subset b (suc k) && (returnableAt σ es (suc k) (eqb (suc k) b) && matchesAt σ es ed f k)
 
 -- the indices of those that search returns, of the base; none of an absent one
-unfoldable pub searchFound : Setting → List Stored → ℕ → Filter → Found → List ℕ
-searchFound σ es subset f (At b) = passing (foundAt σ es b subset f) (length es)
-searchFound σ es subset f Nothing = []
+unfoldable pub searchFound : Setting → List Stored → ℕ → Edition → Filter → Found → List ℕ
+searchFound σ es subset ed f (At b) = passing (foundAt σ es b subset ed f) (length es)
+searchFound σ es subset ed f Nothing = []

@@ -12,6 +12,7 @@ pub record Seeks (g : Grammar) (w : ℕ) (q : Bytes) (s : Search) (a : Query) : 
   pub limit : s .limit ≡ a .limit
   pub subset : s .subset ≡ a .subset
   pub reads : FilterAt g w q (a .filter) (s .filter)
+  pub edition : s .edition ≡ a .edition
 
 -- some search is asked
 abbrev pub KnownQuery : ℕ → Bytes → Query → Type 0

@@ -12,6 +12,7 @@ use filter_item::mask::mask;
 use filter_lines::lines::FILTER;
 use filter_lines::lines::note;
 use filter_tree::tree::matches;
+use rules::Edition;
 use rules::Found;
 use rules::operation;
 use rules::subset::BASE;
@@ -51,11 +52,12 @@ ghost use Rattle.filter_tree.specs.Tree.{FilterAt, KnownFilter};
 ghost use Rattle.answer_search.specs.Hits.{foundAt, searchFound};
 ghost use Rattle.answer_search.specs.Query.{Seeks, KnownQuery};
 
-// What a search asks: at most how many entries (0 is no limit), the subset, and the position of the filter's first line.
+// What a search asks: at most how many entries (0 is no limit), the subset, the position of the filter's first line, and the logic that it is evaluated by.
 pub struct Query {
     pub limit: u64,
     pub subset: u64,
     pub filter: usize,
+    pub edition: Edition,
 }
 
 // Is the entry of index `k` in the subset of base number `b`?
@@ -85,7 +87,7 @@ fn found_at(
     k: usize,
 ) -> bool
     requires { ⌜ Searched (now d) (now p) (now book) (now held) (now sets) extent × (k < entries (now book)) × LinesNoted (width (now book)) (now q) (now rows) (extent .lines) × Typed (Book.schema (now book)) (now rows) (extent .lines) × Masks (now rows) (extent .lines) (extent .ranks) × KnownFilter (width (now book)) (now q) (positionAt (now rows) 0) ⌝ }
-    ensures { λ r. ⌜ ((σ : Setting) (es : List Stored) (g : Grammar) (f : Filter) → World σ es (now (d .entry)) (now (p .entry)) (now (book .entry)) (now (held .entry)) (now (sets .entry)) → FilterAt g (width (now (book .entry))) (now (q .entry)) (positionAt (now (rows .entry)) 0) f → r ≡ foundAt σ es (extent .base) (extent .subset) f k) ⌝ }
+    ensures { λ r. ⌜ ((σ : Setting) (es : List Stored) (g : Grammar) (f : Filter) → World σ es (now (d .entry)) (now (p .entry)) (now (book .entry)) (now (held .entry)) (now (sets .entry)) → FilterAt g (width (now (book .entry))) (now (q .entry)) (positionAt (now (rows .entry)) 0) f → r ≡ foundAt σ es (extent .base) (extent .subset) (extent .edition) f k) ⌝ }
 {
     if !within(book, extent.base, extent.subset, k) {
         return false;
@@ -109,7 +111,7 @@ fn found(
     hits: &mut [usize; 256],
 ) -> usize
     requires { ⌜ Searched (now d) (now p) (now book) (now held) (now sets) extent × (length (now hits) ≡ 256) × LinesNoted (width (now book)) (now q) (now rows) (extent .lines) × Typed (Book.schema (now book)) (now rows) (extent .lines) × Masks (now rows) (extent .lines) (extent .ranks) × KnownFilter (width (now book)) (now q) (positionAt (now rows) 0) ⌝ }
-    ensures { λ n. ⌜ Indices (entries (now (book .entry))) n (now (hits .entry)) (now (hits .exit)) × ((σ : Setting) (es : List Stored) (g : Grammar) (f : Filter) → World σ es (now (d .entry)) (now (p .entry)) (now (book .entry)) (now (held .entry)) (now (sets .entry)) → FilterAt g (width (now (book .entry))) (now (q .entry)) (positionAt (now (rows .entry)) 0) f → take n (now (hits .exit)) ≡ passing (foundAt σ es (extent .base) (extent .subset) f) (length es)) ⌝ }
+    ensures { λ n. ⌜ Indices (entries (now (book .entry))) n (now (hits .entry)) (now (hits .exit)) × ((σ : Setting) (es : List Stored) (g : Grammar) (f : Filter) → World σ es (now (d .entry)) (now (p .entry)) (now (book .entry)) (now (held .entry)) (now (sets .entry)) → FilterAt g (width (now (book .entry))) (now (q .entry)) (positionAt (now (rows .entry)) 0) f → take n (now (hits .exit)) ≡ passing (foundAt σ es (extent .base) (extent .subset) (extent .edition) f) (length es)) ⌝ }
 {
     let count = book[ENTRIES] as usize;
     let mut n: usize = 0;
@@ -137,7 +139,7 @@ pub fn search(
     hits: &mut [usize; 256],
 ) -> Plan
     requires { ⌜ KnownBase (now d) (now p) (now book) (now held) (now sets) (target .base) (target .missing) × (length (now hits) ≡ 256) × (length (now q) ≤ (5 * width (now book) + 1) * LINES) × KnownQuery (width (now book)) (now q) query ⌝ }
-    ensures { λ r. ⌜ SoundPlan (entries (now (book .entry))) r (now (hits .exit)) × ((σ : Setting) (es : List Stored) (g : Grammar) (n : Name) (s : Search) → World σ es (now (d .entry)) (now (p .entry)) (now (book .entry)) (now (held .entry)) (now (sets .entry)) → Base σ es n (target .base) (target .missing) → Seeks g (width (now (book .entry))) (now (q .entry)) s query → planned σ es (s .selection) r (now (hits .exit)) ≡ answer σ (map entryOf es) n (Request.search s)) × ((σ : Setting) (es : List Stored) (g : Grammar) (s : Search) → World σ es (now (d .entry)) (now (p .entry)) (now (book .entry)) (now (held .entry)) (now (sets .entry)) → Seeks g (width (now (book .entry))) (now (q .entry)) s query → now (hits .exit) ≡ over (searchFound σ es (s .subset) (s .filter) (target .base)) (now (hits .entry))) ⌝ }
+    ensures { λ r. ⌜ SoundPlan (entries (now (book .entry))) r (now (hits .exit)) × ((σ : Setting) (es : List Stored) (g : Grammar) (n : Name) (s : Search) → World σ es (now (d .entry)) (now (p .entry)) (now (book .entry)) (now (held .entry)) (now (sets .entry)) → Base σ es n (target .base) (target .missing) → Seeks g (width (now (book .entry))) (now (q .entry)) s query → planned σ es (s .selection) r (now (hits .exit)) ≡ answer σ (map entryOf es) n (Request.search s)) × ((σ : Setting) (es : List Stored) (g : Grammar) (s : Search) → World σ es (now (d .entry)) (now (p .entry)) (now (book .entry)) (now (held .entry)) (now (sets .entry)) → Seeks g (width (now (book .entry))) (now (q .entry)) s query → now (hits .exit) ≡ over (searchFound σ es (s .subset) (s .edition) (s .filter) (target .base)) (now (hits .entry))) ⌝ }
 {
     let base = target.base;
     let Found::At(b) = base else {
@@ -151,11 +153,13 @@ pub fn search(
         query.filter,
         &mut rows,
     );
+    let edition = query.edition;
     let extent = Extent {
         base: b,
         subset: query.subset,
         lines,
         ranks: mask(&rows, lines),
+        edition,
     };
     let count = found(book, held, sets, d, p, q, &rows, extent, hits);
     let open = may_entry(sets, b, DISCLOSE_ON_ERROR);

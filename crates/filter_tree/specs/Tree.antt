@@ -13,21 +13,22 @@ use Rattle.rules.specs.Filter.{Filter, isTrue, evaluate}
 use Rattle.rules.specs.FilterItem.{itemTruth}
 use Rattle.rules.specs.Request.{filter}
 use Rattle.rules.specs.Places.{linesAt}
-use Rattle.rules.specs.FilterLines.{both, either, afterLines}
+use Rattle.rules.specs.FilterLines.{bothIn, eitherIn, afterLines}
+use Rattle.rules.specs.declared.Edition.{Edition}
 use Rattle.rules.specs.declared.Truth.{Truth}
 
 -- "and" (a conjunction) or "or"
-abbrev pub joinBy : Bool → Truth → Truth → Truth
-joinBy true = both
-joinBy false = either
+abbrev pub joinBy : Edition → Bool → Truth → Truth → Truth
+joinBy ed true = bothIn ed
+joinBy ed false = eitherIn ed
 
 -- what follows an item
 unfoldable pub afterBy : ℕ → ℕ → Sheet → Sheet
 afterBy k b rest = cond (eqb k 23 || (eqb k 24 || (eqb k 25 || eqb k 26))) rest (afterLines b rest)
 
--- the filter is true of the entry of index `k`
-unfoldable pub matchesAt : Setting → List Stored → Filter → ℕ → Bool
-matchesAt σ es f k = isTrue (evaluate (itemTruth σ (entryOf (getD es k blank))) f)
+-- the filter is true of the entry of index `k`, in the edition
+unfoldable pub matchesAt : Setting → List Stored → Edition → Filter → ℕ → Bool
+matchesAt σ es ed f k = isTrue (evaluate ed (itemTruth σ (entryOf (getD es k blank))) f)
 
 -- the filter `f` is read at position `i` of the request sheet `q`
 abbrev pub FilterAt : Grammar → ℕ → Bytes → ℕ → Filter → Type 0

@@ -4,6 +4,7 @@ use super::items::truth_at;
 use super::truth::is_true;
 use super::truth::joined;
 use super::truth::negated;
+use super::truth::start;
 use filter_item::extent::Extent;
 use filter_item::matchable::ask;
 use filter_lines::joins;
@@ -11,7 +12,7 @@ use filter_lines::lines::FILTER;
 use filter_lines::lines::FIRST;
 use filter_lines::lines::LINE;
 use filter_lines::lines::SECOND;
-use filter_lines::truth::truth_of;
+use rules::Edition;
 use rules::Truth;
 use sheet_kind::Kind;
 use sheet_kind::is;
@@ -69,7 +70,7 @@ pub(crate) struct Evaluation {
     pub next: usize,
 }
 
-// The truth of the filter in line `k`, at most `depth` levels deep, by the truths of the items. Every part of "and" and "or" is evaluated: its lines
+// The truth of the filter in line `k`, at most `depth` levels deep, by the truths of the items and the edition. Every part of "and" and "or" is evaluated: its lines
 // are passed over in any case.
 pub(crate) fn evaluate(
     rows: &[u64],
@@ -77,9 +78,10 @@ pub(crate) fn evaluate(
     lines: usize,
     k: usize,
     depth: usize,
+    edition: Edition,
 ) -> Evaluation
     requires { ⌜ KnownTruths (now rows) lines (now truths) × (k ≤ lines) ⌝ }
-    ensures { λ r. ⌜ (r .next ≤ lines) × ((w : ℕ) (q : Bytes) (m : Assertion → Truth) → LinesNoted w q (now (rows .entry)) lines → Truths m q (now (rows .entry)) lines lines (now (truths .entry)) → evaluated (r .truth) (linesAt w q (positionAt (now (rows .entry)) (r .next))) ≡ evaluateLines m depth (linesAt w q (positionAt (now (rows .entry)) k))) ⌝ }
+    ensures { λ r. ⌜ (r .next ≤ lines) × ((w : ℕ) (q : Bytes) (m : Assertion → Truth) → LinesNoted w q (now (rows .entry)) lines → Truths m q (now (rows .entry)) lines lines (now (truths .entry)) → evaluated (r .truth) (linesAt w q (positionAt (now (rows .entry)) (r .next))) ≡ evaluateLines edition m depth (linesAt w q (positionAt (now (rows .entry)) k))) ⌝ }
 {
     if depth == 0 {
         return Evaluation {
@@ -95,7 +97,7 @@ pub(crate) fn evaluate(
     }
     let kind = rows[k * LINE];
     if is(kind, Kind::Not) {
-        let part = evaluate(rows, truths, lines, k + 1, depth - 1);
+        let part = evaluate(rows, truths, lines, k + 1, depth - 1, edition);
         let truth = part.truth;
         return Evaluation {
             truth: negated(truth),
@@ -104,13 +106,13 @@ pub(crate) fn evaluate(
     }
     if joins(kind) {
         let conjunction = is(kind, Kind::And);
-        let mut truth = truth_of(conjunction);
         let mut next = k + 1;
         let mut left = rows[k * LINE + FIRST];
+        let mut truth = start(edition, conjunction, left);
         while 0 < left {
-            let part = evaluate(rows, truths, lines, next, depth - 1);
+            let part = evaluate(rows, truths, lines, next, depth - 1, edition);
             let one = part.truth;
-            truth = joined(conjunction, truth, one);
+            truth = joined(edition, conjunction, truth, one);
             next = part.next;
             left -= 1;
         }
@@ -135,11 +137,12 @@ pub fn matches(
     k: usize,
 ) -> bool
     requires { ⌜ Candidate (now d) (now p) (now book) (now held) (now sets) extent k × LinesNoted (width (now book)) (now q) (now rows) (extent .lines) × Typed (schema (now book)) (now rows) (extent .lines) × Masks (now rows) (extent .lines) (extent .ranks) × KnownFilter (width (now book)) (now q) (positionAt (now rows) 0) ⌝ }
-    ensures { λ r. ⌜ ((σ : Setting) (es : List Stored) (g : Grammar) (f : Filter) → World σ es (now (d .entry)) (now (p .entry)) (now (book .entry)) (now (held .entry)) (now (sets .entry)) → FilterAt g (width (now (book .entry))) (now (q .entry)) (positionAt (now (rows .entry)) 0) f → r ≡ matchesAt σ es f k) ⌝ }
+    ensures { λ r. ⌜ ((σ : Setting) (es : List Stored) (g : Grammar) (f : Filter) → World σ es (now (d .entry)) (now (p .entry)) (now (book .entry)) (now (held .entry)) (now (sets .entry)) → FilterAt g (width (now (book .entry))) (now (q .entry)) (positionAt (now (rows .entry)) 0) f → r ≡ matchesAt σ es (extent .edition) f k) ⌝ }
 {
     let open = ask(book, held, sets, d, p, extent, k);
     let truths = note_truths(book, held, d, open.types, &open.values, extent, k, q, rows);
-    let whole = evaluate(rows, &truths, extent.lines, 0, 16);
+    let edition = extent.edition;
+    let whole = evaluate(rows, &truths, extent.lines, 0, 16, edition);
     let truth = whole.truth;
     is_true(truth)
 }

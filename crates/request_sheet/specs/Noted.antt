@@ -9,6 +9,7 @@ use Rattle.rules.specs.declared.Format.{Format}
 use Rattle.rules.specs.Judge.{accept, refusalOf, Grammar}
 use Rattle.rules.specs.Request.{Selection, Search, Operation, read, compare, list, search, Request, requestGrammar, requestOf, filter}
 use Rattle.rules.specs.Places.{linesAt, partsOf, typesOf}
+use Rattle.rules.specs.declared.Edition.the-variants.{LaterLogic}
 use Rattle.request_sheet.specs.declared.Asked.{Asked}
 
 -- a name: the K 9 lines from `at` on, `n` of them
@@ -38,10 +39,11 @@ pub record NoAssertion (r : Asked) : Type 0 where
   pub value : r .value ≡ 0
   pub count : r .length ≡ 0
 
--- no K 15 and no filter: their fields are 0
+-- no K 15 and no filter: their fields are 0, and no edition
 pub record NoFilter (r : Asked) : Type 0 where
   pub subset : r .subset ≡ 0
   pub filter : r .filter ≡ 0
+  pub edition : r .edition ≡ LaterLogic
 
 -- a read: K 12
 pub record NotedRead (w : ℕ) (q : Bytes) (s : Selection) (r : Asked) : Type 0 where
@@ -77,6 +79,7 @@ pub record NotedSearch (G : Grammar) (w : ℕ) (q : Bytes) (s : Search) (r : Ask
   pub no-assertion : NoAssertion r
   pub subset : r .subset ≡ s .subset
   pub reads : filter G 16 128 (linesAt w q (r .filter)) (λ f left rest. accept f) ≡ accept (s .filter)
+  pub edition : r .edition ≡ s .edition
 
 -- by the operation
 abbrev pub NotedOperation : Grammar → ℕ → Bytes → Operation → Asked → Type 0
@@ -114,6 +117,7 @@ refused n =
       length = 0;
       subset = 0;
       filter = 0;
+      edition = LaterLogic;
     }
 
 -- the result `r` for the sheet `q` in the format `f`: the refusal of the rules, and what is noted of a request that they accept

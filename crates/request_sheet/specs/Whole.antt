@@ -5,6 +5,9 @@ use lib.Dec.{ltb, eqb}
 use lib.ListN.{length}
 use Rattle.rules.specs.Sheet.{Bytes}
 use Rattle.rules.specs.Judge.{Grammar}
+use Rattle.rules.specs.Request.{editionOf}
+use Rattle.rules.specs.declared.Edition.{Edition}
+use Rattle.rules.specs.declared.Edition.the-variants.{LaterLogic}
 use Rattle.sheet_line.specs.declared.Line.{Line}
 use Rattle.sheet_due.specs.Lines.{seenAt, reachedAt, afterGroup, groupAt}
 use Rattle.sheet_due.specs.declared.Seen.{Seen}
@@ -14,6 +17,10 @@ use Rattle.request_operation.specs.Operations.{bodyAt}
 use Rattle.request_operation.specs.declared.Body.{Body}
 use Rattle.request_sheet.specs.Noted.{refused}
 use Rattle.request_sheet.specs.declared.Asked.{Asked}
+
+-- the edition of a search, by column C of K 10; other operations have none
+unfoldable pub editionIn : ℕ → ℕ → Edition
+editionIn op c = cond (eqb op 4) (editionOf c) LaterLogic
 
 -- all that was found: the lines of requester and base, and the lines after them
 abbrev pub asked : Line → Line → Body → Asked
@@ -36,6 +43,7 @@ asked requester base b =
       length = b .assertion .length;
       subset = b .subset .a;
       filter = b .subset .next;
+      edition = editionIn (base .a) (requester .c);
     }
 
 -- after the last line: the sheet's end, or a surplus line

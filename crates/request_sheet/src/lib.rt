@@ -2,7 +2,9 @@
 // Nothing is copied: names, types, the value and the filter stay in the sheet, noted by position.
 use request_operation::Body;
 use request_operation::body_at;
+use rules::Edition;
 use rules::Format;
+use rules::operation;
 use rules::refusal;
 use sheet_due::Seen;
 use sheet_due::after_group;
@@ -16,7 +18,7 @@ ghost use mathlib.Core.Path.{_≡_};
 ghost use Rattle.rules.specs.Sheet.{Usable};
 ghost use Rattle.rules.specs.Request.{requestGrammar};
 ghost use Rattle.request_sheet.specs.Noted.{refused, RequestJudged};
-ghost use Rattle.request_sheet.specs.Whole.{asked, endBy, withBody, askedOf};
+ghost use Rattle.request_sheet.specs.Whole.{editionIn, asked, endBy, withBody, askedOf};
 
 // What a request asks. Of a refused one, all but the refusal is 0; of an accepted one, what its operation does not have is 0.
 pub struct Asked {
@@ -39,8 +41,9 @@ pub struct Asked {
     pub value: usize,
     pub length: usize,
     pub subset: u64,
-    // The position of the filter's first line.
+    // The position of the filter's first line, and the logic that it is evaluated by.
     pub filter: usize,
+    pub edition: Edition,
 }
 
 // Nothing is asked: the refusal.
@@ -65,7 +68,21 @@ fn refuse(refusal: u64) -> Asked
         length: 0,
         subset: 0,
         filter: 0,
+        edition: Edition::LaterLogic,
     }
+}
+
+// The edition that a search is asked in, by column C of K 10; other operations have none.
+fn edition_in(op: u64, c: u64) -> Edition
+    ensures { λ r. ⌜ r ≡ editionIn op c ⌝ }
+{
+    if op != operation::SEARCH {
+        return Edition::LaterLogic;
+    }
+    if c == 1 {
+        return Edition::FirstEdition;
+    }
+    Edition::LaterLogic
 }
 
 // All that was found.
@@ -90,6 +107,7 @@ fn accept(requester: Line, base: Line, body: Body) -> Asked
         length: body.assertion.length,
         subset: body.subset.a,
         filter: body.subset.next,
+        edition: edition_in(base.a, requester.c),
     }
 }
 

@@ -122,7 +122,7 @@ module _ (σ : Setting) where
 
   -- ".. filter true"
   unfoldable pub found : Name → Search → Entry → Bool
-  found n r e = candidate n (r .subset) e && isTrue (evaluate (itemTruth σ e) (r .filter))
+  found n r e = candidate n (r .subset) e && isTrue (evaluate (r .edition) (itemTruth σ e) (r .filter))
 
   -- "information as in read; none left is no error here"
   unfoldable pub searchHit : Search → Entry → List Line

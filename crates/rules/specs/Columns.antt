@@ -75,7 +75,7 @@ permissionForms top =
 unfoldable pub requestForms : ℕ → List Form
 requestForms top =
     partForm top
-    ∷ form 10 (between 0 2) parts unnamed unnamed
+    ∷ form 10 (between 0 2) parts (between 0 1) unnamed
     ∷ form 11 (between 1 2) parts unnamed unnamed
     ∷ form 11 (between 3 4) parts free unnamed
     ∷ form 12 (exactly 0) unnamed (between 0 1) unnamed

@@ -1,4 +1,4 @@
--- Document 01, "Examples": the eleven starred ones as one table with one theorem, and 12 and 13 as far as they compute quickly. Of document 02: #102's.
+-- Document 01, "Examples": the eleven starred ones as one table with one theorem, and 12 and 13 as far as they compute quickly. Of document 02: #102's and #104's.
 -- The others are run by a program.
 use mathlib.Core.Path.{_≡_, refl}
 use Prim.Native.Nat.{ℕ, zero, suc, _+_, _/_, _%_}
@@ -21,11 +21,13 @@ use Rattle.rules.specs.Permission.{Item}
 use Rattle.rules.specs.Decision
 use Rattle.rules.specs.Decision.{Setting, entry, granted}
 use Rattle.rules.specs.Filter
-use Rattle.rules.specs.Filter.{conjunction, disjunction, negation}
+use Rattle.rules.specs.Filter.{conjunction, disjunction, allUndefined, negation}
 use Rattle.rules.specs.Request
 use Rattle.rules.specs.FilterItem
 use Rattle.rules.specs.Answer
 use Rattle.rules.specs.Serve.{serve, serveAt, ground, tighter, capped, within, respond, fitting}
+use Rattle.rules.specs.declared.Edition.{Edition}
+use Rattle.rules.specs.declared.Edition.the-variants.{LaterLogic, FirstEdition}
 use Rattle.rules.specs.declared.Truth.{Truth}
 use Rattle.rules.specs.declared.Truth.the-variants.{True, False, Undefined}
 use Rattle.rules.specs.declared.Order.{Order}
@@ -44,7 +46,7 @@ sheetOf (l ∷ ls) = bytesOf l ++ (10 ∷ sheetOf ls)
 -- ---- the starred examples
 
 pub data Example : Type 0 where
-  both either : List Truth → Truth → Example
+  both either : Edition → List Truth → Truth → Example
   negated : Truth → Truth → Example
   -- these items decide for the requester with the name Ann, of level 0, on the entry Bob
   decided : List Item → Bool → Example
@@ -70,8 +72,8 @@ deciding is = record {
 }
 
 abbrev pub Holds : Example → Type 0
-Holds (both ts t) = conjunction ts ≡ t
-Holds (either ts t) = disjunction ts ≡ t
+Holds (both ed ts t) = conjunction ed ts ≡ t
+Holds (either ed ts t) = disjunction ed ts ≡ t
 Holds (negated t u) = negation t ≡ u
 Holds (decided is b) = granted (deciding is) (named "Bob") entry 1 ≡ b
 Holds (compared s v w o) = order s (bytesOf v) (bytesOf w) ≡ o
@@ -101,11 +103,11 @@ rule precedence grants who user = record {
 unfoldable pub table : List Example
 table =
     -- 1 and 2
-    both (Undefined ∷ True ∷ []) Undefined
-    ∷ both (Undefined ∷ False ∷ []) False
+    both LaterLogic (Undefined ∷ True ∷ []) Undefined
+    ∷ both LaterLogic (Undefined ∷ False ∷ []) False
     -- 3
-    ∷ both [] True
-    ∷ either [] False
+    ∷ both LaterLogic [] True
+    ∷ either LaterLogic [] False
     -- 4
     ∷ negated Undefined Undefined
     -- 5: grant and denial, both precedence 10, all users
@@ -130,6 +132,28 @@ unfolding table conjunction disjunction granted Decision.allGrant Decision.highe
     Decision.levelFits Name.covers Name.sameName Name.samePart Name.equal Name.ofSyntax Value.same Value.identical order contains Value.matches Value.used Value.find Value.begins Value.normal Value.folded Value.tidied Value.shorten Value.trim Sheet.strip Value.normalPiece Value.small
     fits Value.sized Value.printable Value.integerOf Sheet.numeral Sheet.digits Value.orderBytes
 starred = (refl, (refl, (refl, (refl, (refl, (refl, (refl, (refl, (refl, (refl, (refl, (refl, (refl, tt)))))))))))))
+
+-- ---- #104, the first edition
+
+unfoldable pub firstEdition : List Example
+firstEdition =
+    -- "a filter with one or more parts, all undefined, is undefined"
+    both FirstEdition (Undefined ∷ []) Undefined
+    ∷ either FirstEdition (Undefined ∷ Undefined ∷ []) Undefined
+    -- ""and" is true unless a part is false"
+    ∷ both FirstEdition (Undefined ∷ True ∷ []) True
+    ∷ both FirstEdition (Undefined ∷ False ∷ []) False
+    -- ""or" is false unless a part is true"
+    ∷ either FirstEdition (Undefined ∷ False ∷ []) False
+    ∷ either FirstEdition (Undefined ∷ True ∷ []) True
+    -- no parts
+    ∷ both FirstEdition [] True
+    ∷ either FirstEdition [] False
+    ∷ []
+
+pub first-edition : All firstEdition
+unfolding firstEdition conjunction disjunction allUndefined
+first-edition = (refl, (refl, (refl, (refl, (refl, (refl, (refl, (refl, tt))))))))
 
 -- ---- example 13
 
@@ -196,8 +220,8 @@ unfolding directory permissions request printed serveAt ground tighter capped wi
     Directory.heldOf Directory.entryOf Directory.entries
     Permission.soundTarget Permission.soundItem Permission.item Permission.items Permission.permissionsOf
     Decision.baseCovers Decision.whoFits Decision.whatCovers Decision.names Decision.levelFits Decision.applies Decision.rank Decision.explicit Decision.highest Decision.allGrant granted
-    conjunction disjunction Filter.evaluate
-    Request.filterLine Request.pieces Request.filters Request.filterOf Request.filter Request.selection Request.operation Request.request Request.requestOf
+    conjunction disjunction allUndefined Filter.evaluate
+    Request.filterLine Request.pieces Request.filters Request.filterOf Request.filter Request.selection Request.editionOf Request.operation Request.request Request.requestOf
     FilterItem.assertedType FilterItem.holds FilterItem.someValue FilterItem.defined FilterItem.satisfied FilterItem.decidable FilterItem.itemTruth
     Answer.outcome Answer.nameLines Answer.entryLines Answer.valueLines Answer.limited Answer.selected Answer.typeLines Answer.information Answer.inSubset Answer.candidate Answer.found Answer.matchedName
     Answer.noSuchObject Answer.returned Answer.disclosed Answer.searchHit Answer.searchHits Answer.answer
@@ -300,8 +324,8 @@ unfolding flat open′ listTwo serveAt ground tighter capped within respond fitt
     Directory.heldOf Directory.entryOf Directory.entries
     Permission.soundTarget Permission.soundItem Permission.item Permission.items Permission.permissionsOf
     Decision.baseCovers Decision.whoFits Decision.whatCovers Decision.names Decision.levelFits Decision.applies Decision.rank Decision.explicit Decision.highest Decision.allGrant granted
-    conjunction disjunction Filter.evaluate
-    Request.filterLine Request.pieces Request.filters Request.filterOf Request.filter Request.selection Request.operation Request.request Request.requestOf
+    conjunction disjunction allUndefined Filter.evaluate
+    Request.filterLine Request.pieces Request.filters Request.filterOf Request.filter Request.selection Request.editionOf Request.operation Request.request Request.requestOf
     FilterItem.assertedType FilterItem.holds FilterItem.someValue FilterItem.defined FilterItem.satisfied FilterItem.decidable FilterItem.itemTruth
     Answer.outcome Answer.nameLines Answer.entryLines Answer.valueLines Answer.limited Answer.selected Answer.typeLines Answer.information Answer.inSubset Answer.candidate Answer.found Answer.matchedName
     Answer.noSuchObject Answer.returned Answer.listed Answer.disclosed Answer.listHit Answer.listHits Answer.answer
@@ -329,8 +353,8 @@ unfolding flat open′ readCapitals serveAt ground tighter capped within respond
     Directory.heldOf Directory.entryOf Directory.entries
     Permission.soundTarget Permission.soundItem Permission.item Permission.items Permission.permissionsOf
     Decision.baseCovers Decision.whoFits Decision.whatCovers Decision.names Decision.levelFits Decision.applies Decision.rank Decision.explicit Decision.highest Decision.allGrant granted
-    conjunction disjunction Filter.evaluate
-    Request.filterLine Request.pieces Request.filters Request.filterOf Request.filter Request.selection Request.operation Request.request Request.requestOf
+    conjunction disjunction allUndefined Filter.evaluate
+    Request.filterLine Request.pieces Request.filters Request.filterOf Request.filter Request.selection Request.editionOf Request.operation Request.request Request.requestOf
     FilterItem.assertedType FilterItem.holds FilterItem.someValue FilterItem.defined FilterItem.satisfied FilterItem.decidable FilterItem.itemTruth
     Answer.outcome Answer.nameLines Answer.entryLines Answer.valueLines Answer.limited Answer.selected Answer.typeLines Answer.information Answer.inSubset Answer.candidate Answer.found Answer.matchedName
     Answer.noSuchObject Answer.returned Answer.listed Answer.disclosed Answer.readEntry Answer.named Answer.opened Answer.answer

@@ -7,6 +7,8 @@ use lib.Dec.{eqb}
 use Rattle.rules.specs.Sheet.{Line, Sheet, end, broken, row}
 use Rattle.rules.specs.Value.{Piece}
 use Rattle.rules.specs.Filter.{Assertion, equality, atLeast, atMost, present, substrings, negation}
+use Rattle.rules.specs.declared.Edition.{Edition}
+use Rattle.rules.specs.declared.Edition.the-variants.{LaterLogic, FirstEdition}
 use Rattle.rules.specs.declared.Truth.{Truth}
 use Rattle.rules.specs.declared.Truth.the-variants.{True, False, Undefined}
 
@@ -25,6 +27,35 @@ either False u = u
 either Undefined True = True
 either Undefined False = Undefined
 either Undefined Undefined = Undefined
+
+-- in the first edition, where undefined is neutral
+abbrev pub bothFirst : Truth → Truth → Truth
+bothFirst Undefined u = u
+bothFirst False u = False
+bothFirst True False = False
+bothFirst True True = True
+bothFirst True Undefined = True
+
+abbrev pub eitherFirst : Truth → Truth → Truth
+eitherFirst Undefined u = u
+eitherFirst True u = True
+eitherFirst False True = True
+eitherFirst False False = False
+eitherFirst False Undefined = False
+
+abbrev pub bothIn : Edition → Truth → Truth → Truth
+bothIn LaterLogic t u = both t u
+bothIn FirstEdition t u = bothFirst t u
+
+abbrev pub eitherIn : Edition → Truth → Truth → Truth
+eitherIn LaterLogic t u = either t u
+eitherIn FirstEdition t u = eitherFirst t u
+
+-- what the joining of `n` parts starts from, where `t` is the truth of no parts
+abbrev pub startIn : Edition → Truth → ℕ → Truth
+startIn LaterLogic t n = t
+startIn FirstEdition t zero = t
+startIn FirstEdition t (suc n) = Undefined
 
 -- ---- lines
 
@@ -65,11 +96,11 @@ unfoldable pub partsFrom : (Truth → Truth → Truth) → (Sheet → Evaluated)
 partsFrom join one zero t s = evaluated t s
 partsFrom join one (suc n) t s = partsFrom join one n (join t (one s .truth)) (one s .rest)
 
-module _ (m : Assertion → Truth) where
+module _ (ed : Edition) (m : Assertion → Truth) where
   unfoldable pub evaluateLine : (Sheet → Evaluated) → Line → Sheet → Evaluated
   evaluateLine one x rest =
-      cond (eqb (x .kind) 20) (partsFrom both one (x .a) True rest)
-      (cond (eqb (x .kind) 21) (partsFrom either one (x .a) False rest)
+      cond (eqb (x .kind) 20) (partsFrom (bothIn ed) one (x .a) (startIn ed True (x .a)) rest)
+      (cond (eqb (x .kind) 21) (partsFrom (eitherIn ed) one (x .a) (startIn ed False (x .a)) rest)
       (cond (eqb (x .kind) 22) (evaluated (negation (one rest .truth)) (one rest .rest))
       (evaluated (m (assertionOf x rest)) (afterItem x rest))))
 

@@ -13,6 +13,7 @@ pub mod First
 pub mod Held
 pub mod Resolve
 pub mod Filter
+pub mod Items
 pub mod Loops
 pub mod Hits
 pub mod Reach

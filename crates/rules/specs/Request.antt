@@ -11,6 +11,8 @@ use Rattle.rules.specs.Value.{Piece}
 use Rattle.rules.specs.Name.{Name}
 use Rattle.rules.specs.Judge.{Verdict, refuse, refuseIf, Grammar, misplaced, atEnd, due, dueLines, nameOf}
 use Rattle.rules.specs.Decision.{Requester}
+use Rattle.rules.specs.declared.Edition.{Edition}
+use Rattle.rules.specs.declared.Edition.the-variants.{LaterLogic, FirstEdition}
 use Rattle.rules.specs.Filter.{equality, atLeast, atMost, present, substrings, Filter, and, or, not′, item, Filters, none, more}
 
 -- ---- what a request asks
@@ -28,6 +30,7 @@ pub record Search : Type 0 where
   -- K 15: 0 base, 1 one level, 2 subtree
   pub subset : ℕ
   pub filter : Filter
+  pub edition : Edition
 
 pub data Operation : Type 0 where
   read : Selection → Operation
@@ -40,6 +43,10 @@ pub record Request : Type 0 where
   -- the name asked for
   pub base : Name
   pub operation : Operation
+
+-- #104: "line 10 gets C: 0 later logic, 1 first edition"
+unfoldable pub editionOf : ℕ → Edition
+editionOf c = cond (eqb c 1) FirstEdition LaterLogic
 
 -- ---- the judge: the lines that are due, in their order
 
@@ -93,20 +100,20 @@ module _ {A : Type 0} (g : Grammar) where
       due g 12 s λ x s. dueLines g 13 (x .b) s λ ts s.
       next (record { listed = eqb (x .a) 1; types = map (λ t. t .a) ts; values = eqb (x .c) 1 }) s
 
-  -- the lines after K 11, `x`, by its operation
-  unfoldable pub operation : Line → Sheet → (Operation → Sheet → Verdict A) → Verdict A
-  operation x s next =
+  -- the lines after K 11, `x`, by its operation; a search is asked in the edition of K 10
+  unfoldable pub operation : Edition → Line → Sheet → (Operation → Sheet → Verdict A) → Verdict A
+  operation ed x s next =
       cond (eqb (x .a) 1) (selection s λ r. next (read r))
       (cond (eqb (x .a) 2) (due g 14 s λ y. next (compare (y .a) (y .bytes)))
       (cond (eqb (x .a) 3) (next (list (x .c)) s)
       (selection s λ r s. due g 15 s λ y s. filter 16 128 s λ f left s.
-      next (search (record { limit = x .c; selection = r; subset = y .a; filter = f })) s)))
+      next (search (record { limit = x .c; selection = r; subset = y .a; filter = f; edition = ed })) s)))
 
 -- the whole; a surplus line after it is out of order
 unfoldable pub request : Grammar → Sheet → Verdict Request
 request g s =
     due g 10 s λ x s. dueLines g 9 (x .b) s λ name s. due g 11 s λ y s. dueLines g 9 (y .b) s λ base s.
-    operation g y s λ o s.
+    operation g (editionOf (x .c)) y s λ o s.
     atEnd (record { requester = record { level = x .a; name = nameOf name }; base = nameOf base; operation = o }) s (misplaced g s)
 
 -- the request, "at most 8,192 bytes", or the refusal

@@ -39,7 +39,7 @@ unfoldable pub capped : ℕ → Operation → Operation
 capped most (read s) = read s
 capped most (compare t v) = compare t v
 capped most (list limit) = list (tighter most limit)
-capped most (search s) = search (record { limit = tighter most (s .limit); selection = s .selection; subset = s .subset; filter = s .filter })
+capped most (search s) = search (record { limit = tighter most (s .limit); selection = s .selection; subset = s .subset; filter = s .filter; edition = s .edition })
 
 -- the request as it is asked for a program of these limits; document 01 names none, so that for the exchange it is the request itself (`within-exchange`)
 unfoldable pub within : Limits → Request → Request

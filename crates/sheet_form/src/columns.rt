@@ -169,7 +169,7 @@ pub fn request_columns(line: Line, top: u64) -> bool
 {
     match kind_of(line.kind) {
         Kind::NamePart => row(line, 1, top, 0, 0, 0, 0, 0, BYTES),
-        Kind::Requester => row(line, 0, 2, 0, PARTS, 0, 0, 0, 0),
+        Kind::Requester => row(line, 0, 2, 0, PARTS, 0, 1, 0, 0),
         Kind::Operation => operation_columns(line),
         Kind::Selection => selection_columns(line),
         Kind::SelectedType => row(line, 1, top, 0, 0, 0, 0, 0, 0),

@@ -72,11 +72,11 @@ impl Explicit {
         self.check(good, &format!("{what}\nexpected\n{text}given {given:?}"));
     }
 
-    /// The truth of a filter for the only entry below the root: `T`, `F` or `U`.
-    pub fn truth(&self, world: &Situation, filter: FilterLines) -> char {
+    /// The truth of a filter in an edition for the only entry below the root: `T`, `F` or `U`.
+    fn truth(&self, edition: u32, world: &Situation, filter: FilterLines) -> char {
         let matches = |filter: FilterLines| {
             let (dir, perm) = (world.directory.to_bytes(), world.permissions.to_bytes());
-            let request = search_root(2, filter);
+            let request = RequestSheet { edition, ..search_root(2, filter) };
             let (reply, _) = self.ask(&dir, &perm, &request.to_bytes(), ROOM);
             reply.is_ok_and(|answer| answer.len() > 31)
         };
@@ -88,6 +88,7 @@ impl Explicit {
         }
     }
 
+    /// By the later logic.
     pub fn expect_truth(
         &mut self,
         what: &str,
@@ -95,7 +96,18 @@ impl Explicit {
         filter: FilterLines,
         truth: char,
     ) {
-        let given = self.truth(world, filter);
+        self.expect_truth_in(0, what, world, filter, truth);
+    }
+
+    pub fn expect_truth_in(
+        &mut self,
+        edition: u32,
+        what: &str,
+        world: &Situation,
+        filter: FilterLines,
+        truth: char,
+    ) {
+        let given = self.truth(edition, world, filter);
         self.check(given == truth, &format!("{what}: expected {truth}, given {given}"));
     }
 }
@@ -140,9 +152,9 @@ pub fn deny(precedence: u32, what: Thing, mask: u32) -> ItemLines {
     ItemLines::everywhere(precedence, false, what, mask)
 }
 
-/// A request of the nameless requester at level 0.
+/// A request of the nameless requester at level 0, by the later logic.
 pub fn asking(name: Name, operation: OperationLines) -> RequestSheet {
-    RequestSheet { level: 0, requester: Vec::new(), name, operation }
+    RequestSheet { level: 0, edition: 0, requester: Vec::new(), name, operation }
 }
 
 pub fn search_root(subset: u32, filter: FilterLines) -> RequestSheet {

@@ -123,7 +123,7 @@ pub fn search(filter: FilterLines) -> RequestSheet {
 pub fn search_with(filter: FilterLines, selected: Selected) -> RequestSheet {
     let (requester, name) = (Vec::new(), Vec::new());
     let operation = OperationLines::Search { limit: 0, selected, subset: 2, filter };
-    RequestSheet { level: 0, requester, name, operation }
+    RequestSheet { level: 0, edition: 0, requester, name, operation }
 }
 
 pub fn request_of_length(total: usize) -> RequestSheet {

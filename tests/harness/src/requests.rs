@@ -44,7 +44,8 @@ pub fn request_of(
         _ if random.percent(20) => requester.clone(),
         _ => asked_name(random, directory),
     };
-    RequestSheet { level, requester, name, operation }
+    let edition = random.below(2) as u32;
+    RequestSheet { level, edition, requester, name, operation }
 }
 
 pub fn requester(random: &mut Random, directory: &DirectorySheet) -> Name {

@@ -163,6 +163,8 @@ impl PermissionSheet {
 #[derive(Clone, Debug, PartialEq, Eq)]
 pub struct RequestSheet {
     pub level: u32,
+    /// 0 later logic, 1 first edition.
+    pub edition: u32,
     pub requester: Name,
     pub name: Name,
     pub operation: OperationLines,
@@ -253,7 +255,7 @@ impl Sheet {
 impl RequestSheet {
     pub fn to_bytes(&self) -> Vec<u8> {
         let mut sheet = Sheet::new();
-        sheet.line(10, self.level, self.requester.len() as u32, 0, &[]);
+        sheet.line(10, self.level, self.requester.len() as u32, self.edition, &[]);
         sheet.name(&self.requester);
         let (number, limit) = match &self.operation {
             OperationLines::Read(_) => (1, 0),

@@ -34,6 +34,7 @@ fn may_read(items: Vec<ItemLines>) -> bool {
         DirectorySheet { types: vec![(3, 1)], entries: vec![EntryLines::bare(0, 3, b"Ann")] };
     let request = RequestSheet {
         level: 0,
+        edition: 0,
         requester: ann.clone(),
         name: ann,
         operation: OperationLines::Read(Selected { types: Some(vec![]), values: false }),
@@ -108,7 +109,7 @@ fn example_11_no_integers() {
 fn list_of_root(limit: u32) -> Vec<u8> {
     let (requester, name) = (Vec::new(), Vec::new());
     let operation = OperationLines::List { limit };
-    RequestSheet { level: 0, requester, name, operation }.to_bytes()
+    RequestSheet { level: 0, edition: 0, requester, name, operation }.to_bytes()
 }
 
 fn browse_all() -> Vec<u8> {
@@ -180,6 +181,7 @@ fn example_13_prints() {
     };
     let request = RequestSheet {
         level: 0,
+        edition: 0,
         requester: vec![],
         name: vec![],
         operation: OperationLines::Search {

@@ -2,6 +2,7 @@
 
 use crate::decide::Judge;
 use crate::directory::{Directory, Entry};
+use crate::edition::Edition;
 use crate::fault::{planted, Fault};
 use crate::permissions::FILTER_MATCH;
 use crate::schema::Slot;
@@ -45,21 +46,33 @@ pub enum Assertion<'a> {
 }
 
 impl Filter<'_> {
-    /// The truth for the entry that the judge is at.
-    pub fn evaluate(&self, directory: &Directory, entry: &Entry, judge: &mut Judge) -> Truth {
+    /// The truth for the entry that the judge is at. The edition concerns the operators alone.
+    pub fn evaluate(
+        &self,
+        edition: Edition,
+        directory: &Directory,
+        entry: &Entry,
+        judge: &mut Judge,
+    ) -> Truth {
+        let within =
+            if planted(Fault::FirstEditionOutermostOnly) { Edition::Later } else { edition };
+        let mut part = |part: &Filter| part.evaluate(within, directory, entry, judge);
+        let wrongly = |fault| edition == Edition::First && planted(fault);
         match self {
             Filter::And(parts) => {
                 let empty = planted(Fault::EmptyAndFalse) && parts.is_empty();
                 if empty {
                     return Truth::False;
                 }
-                and(parts.iter().map(|part| part.evaluate(directory, entry, judge)))
+                edition.and(parts.iter().map(part))
             }
-            Filter::Or(parts) => {
-                or(parts.iter().map(|part| part.evaluate(directory, entry, judge)))
+            Filter::Or(parts) => edition.or(parts.iter().map(part)),
+            Filter::Not(negated) => edition.not(part(negated)),
+            Filter::Item(slot, assertion) if wrongly(Fault::FirstEditionUnjudged) => {
+                assertion.unjudged(*slot, directory, entry)
             }
-            Filter::Not(part) => not(part.evaluate(directory, entry, judge)),
             Filter::Item(slot, assertion) => assertion.evaluate(*slot, directory, entry, judge),
+            Filter::Undefined if wrongly(Fault::FirstUndefinedItemIsFalse) => Truth::False,
             Filter::Undefined => Truth::Undefined,
         }
     }
@@ -134,6 +147,11 @@ impl Assertion<'_> {
                     && (judge.of_value(slot, place) & FILTER_MATCH != 0 || unjudged)
             })
             .into()
+    }
+
+    /// The truth as if nothing were refused, for a planted fault.
+    fn unjudged(&self, slot: Slot, directory: &Directory, entry: &Entry) -> Truth {
+        directory.values_of(entry, slot).iter().any(|value| self.fits(value)).into()
     }
 
     fn fits(&self, value: &Value) -> bool {

@@ -49,7 +49,7 @@ fn columns_allowed(line: &Line) -> bool {
             a <= 5 && (if names_type { is_type(b) } else { b == 0 }) && c == 0 && (a == 5 || bare)
         }
         8 => (1..=63).contains(&a) && b == 0 && c == 0 && bare,
-        10 => a <= 2 && b <= MAX_PARTS && c == 0 && bare,
+        10 => a <= 2 && b <= MAX_PARTS && c <= 1 && bare,
         11 => (1..=4).contains(&a) && b <= MAX_PARTS && (c == 0 || a >= 3) && bare,
         12 => a <= 1 && b <= 16 && (b == 0 || a == 1) && c <= 1 && bare,
         13 | 26 => is_type(a) && b == 0 && c == 0 && bare,
@@ -73,6 +73,7 @@ fn wrongly_allowed(line: &Line) -> bool {
         (8, 0, 0, 0) => planted(Fault::EmptyMaskAccepted) && bytes.is_empty(),
         (3 | 9 | 14, 1000, 0, 0) => planted(Fault::Type1000IsUnknown),
         (5 | 10, 0..=1, 9, 0) => planted(Fault::NineParts) && bytes.is_empty(),
+        (10, 0..=2, 0..=8, 2) => planted(Fault::EditionTwoAccepted) && bytes.is_empty(),
         (11, 1 | 2, 0..=8, _) => planted(Fault::LimitOnReadAccepted) && bytes.is_empty(),
         (12, 1, 17, 0..=1) => planted(Fault::ListOf17Accepted) && bytes.is_empty(),
         (12, 0, 1..=16, 0..=1) => planted(Fault::ListWithAllTypesAccepted) && bytes.is_empty(),

@@ -8,6 +8,7 @@ pub mod answer;
 pub mod builder;
 pub mod decide;
 pub mod directory;
+pub mod edition;
 pub mod fault;
 pub mod filter;
 pub mod kinds;

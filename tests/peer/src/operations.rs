@@ -3,6 +3,7 @@
 use crate::answer::{Answer, Outcome};
 use crate::decide::Judge;
 use crate::directory::{Directory, Number, ROOT};
+use crate::edition::Edition;
 use crate::fault::{planted, Fault};
 use crate::filter::{Filter, Truth};
 use crate::name::Asked;
@@ -13,6 +14,7 @@ pub fn answer(directory: &Directory, permissions: &Permissions, request: &Reques
     let mut service = Service {
         directory,
         judge: Judge::new(directory, permissions, &request.requester),
+        edition: request.edition,
         operation: request.operation.number(),
         asked: &request.name,
         path: directory.walk(request.name.iter().map(Option::as_ref)),
@@ -23,6 +25,7 @@ pub fn answer(directory: &Directory, permissions: &Permissions, request: &Reques
 struct Service<'d, 'a> {
     directory: &'d Directory<'a>,
     judge: Judge<'d, 'a>,
+    edition: Edition,
     operation: u32,
     asked: &'d Asked<'a>,
     /// The entries that the name asked for leads to, as far as they exist.
@@ -236,7 +239,9 @@ impl Service<'_, '_> {
         let found = rights & BROWSE != 0 || (by_read && rights & READ != 0);
         let named = rights & RETURN_DN != 0 || planted(Fault::SearchIgnoresReturnDn);
         let entry = self.directory.entry(number);
-        found && named && filter.evaluate(self.directory, entry, &mut self.judge) == Truth::True
+        found
+            && named
+            && filter.evaluate(self.edition, self.directory, entry, &mut self.judge) == Truth::True
     }
 
     /// The end of list and search: with nothing to return, noSuchObject unless disclosed.

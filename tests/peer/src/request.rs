@@ -1,6 +1,7 @@
 //! The request sheet: requester, operation, selection, filter.
 
 use crate::decide::Requester;
+use crate::edition::Edition;
 use crate::fault::{planted, Fault};
 use crate::filter::{Assertion, Filter};
 use crate::kinds;
@@ -15,6 +16,8 @@ pub const MAX_FILTER_LINES: u32 = 128;
 
 pub struct Request<'a> {
     pub requester: Requester<'a>,
+    /// Of the filter's operators; no permission depends on it.
+    pub edition: Edition,
     /// The name asked for.
     pub name: Asked<'a>,
     pub operation: Operation<'a>,
@@ -75,7 +78,11 @@ impl<'a> Request<'a> {
         }
         let mut reader = Reader { lines: Lines::new(sheet), schema, filter_lines: 0 };
         let user = reader.expect(10)?;
-        let requester = Requester { level: user.a, name: reader.name(user.b)? };
+        let edition = Edition::of(&user);
+        let mut requester = Requester { level: user.a, name: reader.name(user.b)? };
+        if edition == Edition::First {
+            spoil(&mut requester);
+        }
         let line = reader.expect(11)?;
         let name = reader.name(line.b)?;
         let limit = line.c;
@@ -96,8 +103,18 @@ impl<'a> Request<'a> {
         };
         match reader.next()? {
             Some(_) if !planted(Fault::SurplusLineAccepted) => Err(Reason::OutOfOrder),
-            _ => Ok(Request { requester, name, operation }),
+            _ => Ok(Request { requester, edition, name, operation }),
         }
+    }
+}
+
+/// What only a planted fault makes of a requester in the first edition.
+fn spoil(requester: &mut Requester) {
+    if planted(Fault::FirstEditionAtLevelTwo) {
+        requester.level = 2;
+    }
+    if planted(Fault::FirstEditionIsNameless) {
+        requester.name.clear();
     }
 }
 

@@ -22,7 +22,7 @@ use Rattle.answer_search.proofs.found.Statement.{statement}
 use Rattle.answer_search.proofs.found.Tie as tie
 
 abbrev Inv-loop : tie.InvT-loop
-Inv-loop book held sets d p q rows extent hits₀ count n₀ k₀ hits n k = (k ≤ entries book) × (length hits ≡ 256) × Indices k n hits₀ hits × ((σ : Setting) (es : List Stored) (g : Grammar) (f : Filter) → World σ es d p book held sets → FilterAt g (width book) q (positionAt rows 0) f → take n hits ≡ passing (foundAt σ es (extent .base) (extent .subset) f) k)
+Inv-loop book held sets d p q rows extent hits₀ count n₀ k₀ hits n k = (k ≤ entries book) × (length hits ≡ 256) × Indices k n hits₀ hits × ((σ : Setting) (es : List Stored) (g : Grammar) (f : Filter) → World σ es d p book held sets → FilterAt g (width book) q (positionAt rows 0) f → take n hits ≡ passing (foundAt σ es (extent .base) (extent .subset) (extent .edition) f) k)
 
 abbrev μ-loop : tie.MeasureT-loop
 μ-loop book held sets d p q rows extent hits₀ count n₀ k₀ hits n k = entries book - k
@@ -61,20 +61,20 @@ loop-again c = let A = c .before .before .before .before .before .before .before
       omega (arith, l),
       ap length (v .1) ∙ length-set (L .hits) (L .n) (L .k) ∙ L .inv .1,
       index-in (L .k) (L .n) _ (L .hits) (c .if1 .n) (c .if1 .hits) (L .inv .2) free (v .1) (v .2),
-      λ σ es g f w h. pass-in (foundAt σ es (A .extent .base) (A .extent .subset) f) (L .k) (L .n) (L .hits) (c .if1 .n) (c .if1 .hits) (L .inv .3 σ es g f w h) (sym (c .before .found-at .ensures σ es g f w h) ∙ v .0 .taken) free (v .1) (v .2),
+      λ σ es g f w h. pass-in (foundAt σ es (A .extent .base) (A .extent .subset) (A .extent .edition) f) (L .k) (L .n) (L .hits) (c .if1 .n) (c .if1 .hits) (L .inv .3 σ es g f w h) (sym (c .before .found-at .ensures σ es g f w h) ∙ v .0 .taken) free (v .1) (v .2),
     ))
     (λ v. (
       omega (arith, l),
       ap length (v .1) ∙ L .inv .1,
       index-out (L .k) (L .n) _ (L .hits) (c .if1 .n) (c .if1 .hits) (L .inv .2) (v .1) (v .2),
-      λ σ es g f w h. pass-out (foundAt σ es (A .extent .base) (A .extent .subset) f) (L .k) (L .n) (L .hits) (c .if1 .n) (c .if1 .hits) (L .inv .3 σ es g f w h) (sym (c .before .found-at .ensures σ es g f w h) ∙ v .0 .left) (v .1) (v .2),
+      λ σ es g f w h. pass-out (foundAt σ es (A .extent .base) (A .extent .subset) (A .extent .edition) f) (L .k) (L .n) (L .hits) (c .if1 .n) (c .if1 .hits) (L .inv .3 σ es g f w h) (sym (c .before .found-at .ensures σ es g f w h) ∙ v .0 .left) (v .1) (v .2),
     ))
     (c .if1 .came)
 
 returns : tie.Need-returns Inv-loop μ-loop
 returns c = let A = c .before .before .before .before .before .before .args in let L = c .before .loop in let b = now (A .book) in
     let e : L .k ≡ entries b = omega (arith, L .inv .0, c .loop-test .left) in
-    (subst (λ (m : ℕ). Indices m (L .n) (now (A .hits)) (L .hits)) e (L .inv .2), λ σ es g f w h. L .inv .3 σ es g f w h ∙ ap (passing (foundAt σ es (A .extent .base) (A .extent .subset) f)) (e ∙ w .entries .count))
+    (subst (λ (m : ℕ). Indices m (L .n) (now (A .hits)) (L .hits)) e (L .inv .2), λ σ es g f w h. L .inv .3 σ es g f w h ∙ ap (passing (foundAt σ es (A .extent .base) (A .extent .subset) (A .extent .edition) f)) (e ∙ w .entries .count))
 
 pub found-spec : {M : Type 1} → statement M
 found-spec =

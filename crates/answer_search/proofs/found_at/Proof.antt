@@ -15,7 +15,7 @@ within-requires : tie.Need-within-requires
 within-requires c κs = let A = c .before .before .before .args in let k = A .k in let K = c .before .before .before .pre .0 .world .entries in (c .before .before .before .pre .1, (c .before .before .before .pre .0 .setting, c .before .before .before .pre .0 .stored, now (A .d), now (A .held), K))
 
 returns : tie.Need-returns
-returns c = let A = c .before .before .before .before .before .args in let k = A .k in let K = c .before .before .before .before .before .pre .0 .world .entries in λ σ es g f w h. let l : k + 1 ≤ length es = omega (arith, inside (w .entries) k (c .before .before .before .before .before .pre .1)) in found-outside σ es (A .extent .base) (A .extent .subset) f k (sym (c .before .within .ensures σ es (now (A .d)) (now (A .held)) (w .entries)) ∙ not-true _ (c .if1 .taken))
+returns c = let A = c .before .before .before .before .before .args in let k = A .k in let K = c .before .before .before .before .before .pre .0 .world .entries in λ σ es g f w h. let l : k + 1 ≤ length es = omega (arith, inside (w .entries) k (c .before .before .before .before .before .pre .1)) in found-outside σ es (A .extent .base) (A .extent .subset) (A .extent .edition) f k (sym (c .before .within .ensures σ es (now (A .d)) (now (A .held)) (w .entries)) ∙ not-true _ (c .if1 .taken))
 
 add-returnable : tie.Need-add-returnable
 add-returnable c = let A = c .before .before .before .before .before .args in let k = A .k in let K = c .before .before .before .before .before .pre .0 .world .entries in omega (arith, c .before .before .before .before .before .pre .1, K .fits .few-entries)
@@ -27,7 +27,7 @@ returnable-requires : tie.Need-returnable-requires
 returnable-requires c κs = known-entry (searched-known (c .before .before .before .before .before .before .pre .0)) _ (omega (arith, c .before .before .before .before .before .before .pre .1))
 
 returns-2 : tie.Need-returns-2
-returns-2 c = let A = c .before .before .before .before .before .before .before .before .args in let k = A .k in let K = c .before .before .before .before .before .before .before .before .pre .0 .world .entries in λ σ es g f w h. let l : k + 1 ≤ length es = omega (arith, inside (w .entries) k (c .before .before .before .before .before .before .before .before .pre .1)) in found-withheld σ es (A .extent .base) (A .extent .subset) f k (sym (c .before .before .before .before .within .ensures σ es (now (A .d)) (now (A .held)) (w .entries)) ∙ not-false _ (c .before .before .before .if1 .left)) (sym (c .before .returnable .ensures σ es (now (A .d)) (now (A .p)) (now (A .book)) (now (A .held)) w l) ∙ not-true _ (c .if2 .taken))
+returns-2 c = let A = c .before .before .before .before .before .before .before .before .args in let k = A .k in let K = c .before .before .before .before .before .before .before .before .pre .0 .world .entries in λ σ es g f w h. let l : k + 1 ≤ length es = omega (arith, inside (w .entries) k (c .before .before .before .before .before .before .before .before .pre .1)) in found-withheld σ es (A .extent .base) (A .extent .subset) (A .extent .edition) f k (sym (c .before .before .before .before .within .ensures σ es (now (A .d)) (now (A .held)) (w .entries)) ∙ not-false _ (c .before .before .before .if1 .left)) (sym (c .before .returnable .ensures σ es (now (A .d)) (now (A .p)) (now (A .book)) (now (A .held)) w l) ∙ not-true _ (c .if2 .taken))
 
 matches-requires : tie.Need-matches-requires
 matches-requires c κs =
@@ -49,7 +49,7 @@ matches-requires c κs =
     )
 
 returns-3 : tie.Need-returns-3
-returns-3 c = let A = c .before .before .before .before .before .before .before .before .before .args in let k = A .k in let K = c .before .before .before .before .before .before .before .before .before .pre .0 .world .entries in λ σ es g f w h. let l : k + 1 ≤ length es = omega (arith, inside (w .entries) k (c .before .before .before .before .before .before .before .before .before .pre .1)) in c .matches .ensures σ es g f w h ∙ found-asked σ es (A .extent .base) (A .extent .subset) f k (sym (c .before .before .before .before .before .within .ensures σ es (now (A .d)) (now (A .held)) (w .entries)) ∙ not-false _ (c .before .before .before .before .if1 .left)) (sym (c .before .before .returnable .ensures σ es (now (A .d)) (now (A .p)) (now (A .book)) (now (A .held)) w l) ∙ not-false _ (c .before .if2 .left))
+returns-3 c = let A = c .before .before .before .before .before .before .before .before .before .args in let k = A .k in let K = c .before .before .before .before .before .before .before .before .before .pre .0 .world .entries in λ σ es g f w h. let l : k + 1 ≤ length es = omega (arith, inside (w .entries) k (c .before .before .before .before .before .before .before .before .before .pre .1)) in c .matches .ensures σ es g f w h ∙ found-asked σ es (A .extent .base) (A .extent .subset) (A .extent .edition) f k (sym (c .before .before .before .before .before .within .ensures σ es (now (A .d)) (now (A .held)) (w .entries)) ∙ not-false _ (c .before .before .before .before .if1 .left)) (sym (c .before .before .returnable .ensures σ es (now (A .d)) (now (A .p)) (now (A .book)) (now (A .held)) w l) ∙ not-false _ (c .before .if2 .left))
 
 pub found-at-spec : {M : Type 1} → statement M
 found-at-spec =

@@ -17,7 +17,7 @@ returns : tie.Need-returns
 returns c = let A = c .before .before .before .before .before .before .args in let b = now (A .book) in let K = c .before .before .before .before .before .before .pre .0 .3 .entries in (
   none-sound (entries b) (A .target .base) (A .target .missing) (base-numbered (c .before .before .before .before .before .before .pre .0)) _ _ 4 (c .absent .ensures),
   λ σ es g n s w q h. search-none σ es (w .entries .accepted) n (A .target .base) (A .target .missing) q _ _ (c .before .enum-told .given .1) s (c .absent .ensures),
-  λ σ es g s w h. search-unfound σ es (s .subset) (s .filter) (A .target .base) _ (c .before .enum-told .given .1),
+  λ σ es g s w h. search-unfound σ es (s .subset) (s .edition) (s .filter) (A .target .base) _ (c .before .enum-told .given .1),
 )
 
 schema-requires : tie.Need-schema-requires
@@ -46,8 +46,8 @@ returns-2 c = let A = c .before .before .before .before .before .before .before 
       λ σ es g n s w q h.
           search-some σ es (w .entries .accepted) n (A .target .base) (A .target .missing) q _ _ (told .0 .0) (told .1) _
           (c .before .may-entry .ensures σ es (now (A .d)) (now (A .p)) b (now (A .held)) w (omega (arith, within, w .entries .count)))
-          _ (found .0 .room) s (A .query .limit) (A .query .subset) (h .limit) (h .subset) (found .1 σ es g (s .filter) w (read-at g (width b) (now (A .q)) (s .filter) (c .before .before .before .before .before .before .before .note .ensures .2) (h .reads))) (c .returned .ensures),
-      λ σ es g s w h. search-found σ es (s .subset) (A .query .subset) (s .filter) (A .target .base) (told .0 .0) _ _ _ _ (h .subset) (told .1) (found .0) (found .1 σ es g (s .filter) w (read-at g (width b) (now (A .q)) (s .filter) (c .before .before .before .before .before .before .before .note .ensures .2) (h .reads))),
+          _ (found .0 .room) s (A .query .limit) (A .query .subset) (A .query .edition) (h .limit) (h .subset) (h .edition) (found .1 σ es g (s .filter) w (read-at g (width b) (now (A .q)) (s .filter) (c .before .before .before .before .before .before .before .note .ensures .2) (h .reads))) (c .returned .ensures),
+      λ σ es g s w h. search-found σ es (s .subset) (A .query .subset) (s .edition) (A .query .edition) (s .filter) (A .target .base) (told .0 .0) _ _ _ _ (h .subset) (h .edition) (told .1) (found .0) (found .1 σ es g (s .filter) w (read-at g (width b) (now (A .q)) (s .filter) (c .before .before .before .before .before .before .before .note .ensures .2) (h .reads))),
     )
 
 pub search-spec : {M : Type 1} → statement M

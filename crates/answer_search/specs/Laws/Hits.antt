@@ -16,6 +16,7 @@ use Rattle.rules.specs.Answer as Answer
 use Rattle.rules.specs.Laws.Directory.{Accepted}
 use Rattle.rules.specs.Numbers.{climbs, withinNumber, walk}
 use Rattle.rules.specs.Laws.Hits.{candidate-number}
+use Rattle.rules.specs.declared.Edition.{Edition}
 use Rattle.rules.specs.declared.Found.the-variants.{At}
 use Rattle.tables.specs.Sets.{grantedAt}
 use Rattle.answer_plan.specs.Plan.{foundLines, informationAt}
@@ -40,16 +41,16 @@ module _ (es : List Stored) (subset b k : ℕ) where
   unfolding withinNumber
   within-below h e = rw (add-one k, ne-eqb subset 0 h, ne-eqb subset 1 e)
 
-module _ (σ : Setting) (es : List Stored) (b subset : ℕ) (f : Filter) (k : ℕ) where
-  pub found-outside : withinNumber es subset b (suc k) ≡ false → false ≡ foundAt σ es b subset f k
+module _ (σ : Setting) (es : List Stored) (b subset : ℕ) (ed : Edition) (f : Filter) (k : ℕ) where
+  pub found-outside : withinNumber es subset b (suc k) ≡ false → false ≡ foundAt σ es b subset ed f k
   unfolding foundAt
   found-outside e = rw e
 
-  pub found-withheld : withinNumber es subset b (suc k) ≡ true → returnableAt σ es (k + 1) (eqb (k + 1) b) ≡ false → false ≡ foundAt σ es b subset f k
+  pub found-withheld : withinNumber es subset b (suc k) ≡ true → returnableAt σ es (k + 1) (eqb (k + 1) b) ≡ false → false ≡ foundAt σ es b subset ed f k
   unfolding foundAt
   found-withheld e h = rw (e, ← add-one k, h)
 
-  pub found-asked : withinNumber es subset b (suc k) ≡ true → returnableAt σ es (k + 1) (eqb (k + 1) b) ≡ true → matchesAt σ es f k ≡ foundAt σ es b subset f k
+  pub found-asked : withinNumber es subset b (suc k) ≡ true → returnableAt σ es (k + 1) (eqb (k + 1) b) ≡ true → matchesAt σ es ed f k ≡ foundAt σ es b subset ed f k
   unfolding foundAt
   found-asked e h = rw (e, ← add-one k, h)
 
@@ -66,18 +67,18 @@ candidate-asked σ es ok n b walked k l subset e h =
     candidate-number σ es ok n b walked k l subset ∙ ap₂ (λ (x y : Bool). x && y) e (next-number σ es b k h)
 
 module _ (σ : Setting) (es : List Stored) (ok : Accepted (σ .schema) es) (n : Name) (b : ℕ) (walked : walk (σ .schema) es 0 n ≡ At b) (r : Search) where
-  found-at : (k : ℕ) → k < length es → Answer.found σ n r (entryOf (getD es k blank)) ≡ foundAt σ es b (r .subset) (r .filter) k
+  found-at : (k : ℕ) → k < length es → Answer.found σ n r (entryOf (getD es k blank)) ≡ foundAt σ es b (r .subset) (r .edition) (r .filter) k
   unfolding Answer.found foundAt matchesAt returnableAt browsableAt grantedAt
   found-at k l =
-      ap (λ (x : Bool). x && matchesAt σ es (r .filter) k) (candidate-number σ es ok n b walked k l (r .subset))
-      ∙ and-assoc (withinNumber es (r .subset) b (suc k)) (returnableAt σ es (suc k) (eqb (suc k) b)) (matchesAt σ es (r .filter) k)
+      ap (λ (x : Bool). x && matchesAt σ es (r .edition) (r .filter) k) (candidate-number σ es ok n b walked k l (r .subset))
+      ∙ and-assoc (withinNumber es (r .subset) b (suc k)) (returnableAt σ es (suc k) (eqb (suc k) b)) (matchesAt σ es (r .edition) (r .filter) k)
 
   found-lines : (k : ℕ) → Answer.searchHit σ r (entryOf (getD es k blank)) ≡ foundLines σ es (r .selection) k
   unfolding Answer.searchHit foundLines informationAt entryOf nameAt
   found-lines k = refl
 
   -- the hits, by their indices
-  pub search-hits : Answer.searchHits σ (map entryOf es) n r ≡ map (foundLines σ es (r .selection)) (passing (foundAt σ es b (r .subset) (r .filter)) (length es))
+  pub search-hits : Answer.searchHits σ (map entryOf es) n r ≡ map (foundLines σ es (r .selection)) (passing (foundAt σ es b (r .subset) (r .edition) (r .filter)) (length es))
   unfolding Answer.searchHits
   search-hits =
-      hits-passing es (Answer.found σ n r) (foundAt σ es b (r .subset) (r .filter)) found-at (Answer.searchHit σ r) (foundLines σ es (r .selection)) (λ k l e. found-lines k)
+      hits-passing es (Answer.found σ n r) (foundAt σ es b (r .subset) (r .edition) (r .filter)) found-at (Answer.searchHit σ r) (foundLines σ es (r .selection)) (λ k l e. found-lines k)

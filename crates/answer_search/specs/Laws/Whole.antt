@@ -16,6 +16,7 @@ use Rattle.rules.specs.Request.{Selection, Search, search}
 use Rattle.rules.specs.Answer.{answer, searchHits}
 use Rattle.rules.specs.Laws.Absent.{search-absent}
 use Rattle.rules.specs.Laws.Directory.{Accepted}
+use Rattle.rules.specs.declared.Edition.{Edition}
 use Rattle.rules.specs.declared.Found.{Found}
 use Rattle.rules.specs.declared.Found.the-variants.{At, Nothing}
 use Rattle.answer_plan.specs.declared.Plan.{Plan}
@@ -50,23 +51,23 @@ module _ (σ : Setting) (es : List Stored) (ok : Accepted (σ .schema) es) (n : 
     unfolding successLines
     found-success s more shown = refl
 
-    pub search-some : (r : Search) (limit subset : ℕ) → r .limit ≡ limit → r .subset ≡ subset
-        → take count hits ≡ passing (foundAt σ es b subset (r .filter)) (length es) → plan ≡ returnedPlan 4 missing d limit count
+    pub search-some : (r : Search) (limit subset : ℕ) (ed : Edition) → r .limit ≡ limit → r .subset ≡ subset → r .edition ≡ ed
+        → take count hits ≡ passing (foundAt σ es b subset ed (r .filter)) (length es) → plan ≡ returnedPlan 4 missing d limit count
         → planned σ es (r .selection) plan hits ≡ answer σ (map entryOf es) n (search r)
     unfolding answer
-    search-some r limit subset l u taken q =
+    search-some r limit subset ed l u v taken q =
         ap (λ (p : Plan). planned σ es (r .selection) p hits) (q ∙ ap (λ (x : ℕ). returnedPlan 4 missing d x count) (sym l))
         ∙ returned-planned σ es (r .selection) hits count room 4 (foundLines σ es (r .selection)) (found-success (r .selection)) n base missing h d (told-disclosed σ es ok n base missing h b e d told) (r .limit) (searchHits σ (map entryOf es) n r)
-        (search-hits σ es ok n b (there σ es ok n base missing h b e) r ∙ ap (map (foundLines σ es (r .selection))) (sym (taken ∙ ap (λ (x : ℕ). passing (foundAt σ es b x (r .filter)) (length es)) (sym u))))
+        (search-hits σ es ok n b (there σ es ok n base missing h b e) r ∙ ap (map (foundLines σ es (r .selection))) (sym (taken ∙ ap₂ (λ (x : ℕ) (y : Edition). passing (foundAt σ es b x y (r .filter)) (length es)) (sym u) (sym v))))
 
 -- ---- what the list of hits holds
 
-pub search-unfound : (σ : Setting) (es : List Stored) (subset : ℕ) (f : Filter) (base : Found) (hits : List ℕ) → base ≡ Nothing → hits ≡ over (searchFound σ es subset f base) hits
+pub search-unfound : (σ : Setting) (es : List Stored) (subset : ℕ) (ed : Edition) (f : Filter) (base : Found) (hits : List ℕ) → base ≡ Nothing → hits ≡ over (searchFound σ es subset ed f base) hits
 unfolding searchFound
-search-unfound σ es subset f base hits e = rw e
+search-unfound σ es subset ed f base hits e = rw e
 
-pub search-found : (σ : Setting) (es : List Stored) (subset asked : ℕ) (f : Filter) (base : Found) (b k n : ℕ) (before hits : List ℕ) → subset ≡ asked → base ≡ At b → Indices k n before hits
-    → take n hits ≡ passing (foundAt σ es b asked f) (length es) → hits ≡ over (searchFound σ es subset f base) before
+pub search-found : (σ : Setting) (es : List Stored) (subset asked : ℕ) (edition ed : Edition) (f : Filter) (base : Found) (b k n : ℕ) (before hits : List ℕ) → subset ≡ asked → edition ≡ ed → base ≡ At b
+    → Indices k n before hits → take n hits ≡ passing (foundAt σ es b asked ed f) (length es) → hits ≡ over (searchFound σ es subset edition f base) before
 unfolding searchFound
-search-found σ es subset asked f base b k n before hits s e found t =
-    over-found k n before hits (passing (foundAt σ es b asked f) (length es)) found t ∙ ap₂ (λ (m : ℕ) (x : Found). over (searchFound σ es m f x) before) (sym s) (sym e)
+search-found σ es subset asked edition ed f base b k n before hits s v e found t =
+    over-found k n before hits (passing (foundAt σ es b asked ed f) (length es)) found t ∙ rw (s, v, e)

@@ -31,6 +31,7 @@ withLimit a m =
       length = a .length;
       subset = a .subset;
       filter = a .filter;
+      edition = a .edition;
     }
 
 module _ (G : Grammar) (w : ℕ) (q : Bytes) (k : Limits) (x : Request) (a : Asked) (n : RequestNoted G w q x a) where
@@ -61,7 +62,7 @@ module _ (G : Grammar) (w : ℕ) (q : Bytes) (k : Limits) (x : Request) (a : Ask
         limit = e ∙ ap (tighter (k .entries)) (h .limit);
         no-selection = let s = h .no-selection in record { listed = s .listed; types = s .types; count = s .count; values = s .values };
         no-assertion = unasserted (h .no-assertion);
-        no-filter = record { subset = h .no-filter .subset; filter = h .no-filter .filter };
+        no-filter = record { subset = h .no-filter .subset; filter = h .no-filter .filter; edition = h .no-filter .edition };
       }
       go (search s) h = record {
         operation = h .operation;
@@ -70,4 +71,5 @@ module _ (G : Grammar) (w : ℕ) (q : Bytes) (k : Limits) (x : Request) (a : Ask
         no-assertion = unasserted (h .no-assertion);
         subset = h .subset;
         reads = h .reads;
+        edition = h .edition;
       }

@@ -11,8 +11,10 @@ use Rattle.rules.specs.Filter.{Assertion, Filter, truth, negation, evaluate}
 use Rattle.rules.specs.Judge.{accept, Grammar}
 use Rattle.rules.specs.Request.{filter}
 use Rattle.rules.specs.Places.{linesAt}
-use Rattle.rules.specs.FilterLines.{both, either, assertionOf, afterItem, Evaluated, evaluated, partsFrom, evaluateLine, evaluateSheet, evaluateLines}
+use Rattle.rules.specs.FilterLines.{bothIn, eitherIn, startIn, assertionOf, afterItem, Evaluated, evaluated, partsFrom, evaluateLine, evaluateSheet, evaluateLines}
 use Rattle.rules.specs.Laws.Filter.{filter-read}
+use Rattle.rules.specs.declared.Edition.{Edition}
+use Rattle.rules.specs.declared.Edition.the-variants.{FirstEdition}
 use Rattle.rules.specs.declared.Truth.{Truth}
 use Rattle.rules.specs.declared.Truth.the-variants.{True, False, Undefined}
 use Rattle.filter_lines.specs.Lines.{LinesNoted, kindAt, firstAt, secondAt, positionAt, valueAt, piecesAt}
@@ -23,57 +25,58 @@ use Rattle.filter_tree.specs.Tree.{joinBy, afterBy}
 
 -- ---- line by line
 
-module _ (m : Assertion → Truth) {w : ℕ} {q : Bytes} {rows : List ℕ} {lines : ℕ} (h : LinesNoted w q rows lines) (k depth : ℕ) where
+module _ (ed : Edition) (m : Assertion → Truth) {w : ℕ} {q : Bytes} {rows : List ℕ} {lines : ℕ} (h : LinesNoted w q rows lines) (k depth : ℕ) where
   -- too deep
-  pub tree-none : depth ≡ 0 → evaluated Undefined (linesAt w q (positionAt rows k)) ≡ evaluateLines m depth (linesAt w q (positionAt rows k))
+  pub tree-none : depth ≡ 0 → evaluated Undefined (linesAt w q (positionAt rows k)) ≡ evaluateLines ed m depth (linesAt w q (positionAt rows k))
   unfolding evaluateLines
   tree-none e = rw e
 
   -- no line is left
-  pub tree-over : lines ≤ k → k ≤ lines → evaluated Undefined (linesAt w q (positionAt rows k)) ≡ evaluateLines m depth (linesAt w q (positionAt rows k))
+  pub tree-over : lines ≤ k → k ≤ lines → evaluated Undefined (linesAt w q (positionAt rows k)) ≡ evaluateLines ed m depth (linesAt w q (positionAt rows k))
   unfolding evaluateLines evaluateSheet
   tree-over l n = let z : k ≡ lines = omega (arith, l, n) in rw (z, h .ends) (over depth (h .unread))
     where
-      over : (depth : ℕ) (b : Bool) → evaluated Undefined (cond b broken end) ≡ evaluateLines m depth (cond b broken end)
+      over : (depth : ℕ) (b : Bool) → evaluated Undefined (cond b broken end) ≡ evaluateLines ed m depth (cond b broken end)
       over zero b = refl
       over (suc depth) true = refl
       over (suc depth) false = refl
 
   module _ (l : k < lines) (nz : depth ≡ 0 → ⊥) where
     abbrev one : Sheet → Evaluated
-    one = evaluateLines m (depth - 1)
+    one = evaluateLines ed m (depth - 1)
 
     abbrev rest : Sheet
     rest = linesAt w q (positionAt rows (k + 1))
 
-    by-line : evaluateLines m depth (linesAt w q (positionAt rows k))
-        ≡ evaluateLine m one (line (kindAt rows k) (firstAt rows k) (secondAt rows k) (h .line k l .third) (valueAt q rows k)) rest
+    by-line : evaluateLines ed m depth (linesAt w q (positionAt rows k))
+        ≡ evaluateLine ed m one (line (kindAt rows k) (firstAt rows k) (secondAt rows k) (h .line k l .third) (valueAt q rows k)) rest
     unfolding evaluateLines evaluateSheet
     by-line = deeper depth nz
-        ∙ ap (evaluateSheet m (evaluateLine m one)) (row-lines (h .line k l))
+        ∙ ap (evaluateSheet ed m (evaluateLine ed m one)) (row-lines (h .line k l))
       where
-        deeper : (depth : ℕ) → (depth ≡ 0 → ⊥) → evaluateLines m depth (linesAt w q (positionAt rows k)) ≡ evaluateSheet m (evaluateLine m (evaluateLines m (depth - 1))) (linesAt w q (positionAt rows k))
+        deeper : (depth : ℕ) → (depth ≡ 0 → ⊥) → evaluateLines ed m depth (linesAt w q (positionAt rows k)) ≡ evaluateSheet ed m (evaluateLine ed m (evaluateLines ed m (depth - 1))) (linesAt w q (positionAt rows k))
         deeper zero nz = absurd (nz refl)
         deeper (suc depth) nz = let z : suc depth - 1 ≡ depth = omega arith in rw z
 
-    pub tree-not : kindAt rows k ≡ 22 → evaluateLines m depth (linesAt w q (positionAt rows k)) ≡ evaluated (negation (one rest .truth)) (one rest .rest)
+    pub tree-not : kindAt rows k ≡ 22 → evaluateLines ed m depth (linesAt w q (positionAt rows k)) ≡ evaluated (negation (one rest .truth)) (one rest .rest)
     unfolding evaluateLine
     tree-not e = by-line ∙ rw (ne-eqb (kindAt rows k) 20 (λ z. omega (arith, e, z)), ne-eqb (kindAt rows k) 21 (λ z. omega (arith, e, z)), eq-eqb (kindAt rows k) 22 e)
 
     -- "and", or else "or"
     pub tree-group : (eqb (kindAt rows k) 20 || eqb (kindAt rows k) 21) ≡ true
-        → evaluateLines m depth (linesAt w q (positionAt rows k)) ≡ partsFrom (joinBy (eqb (kindAt rows k) 20)) one (firstAt rows k) (truth (eqb (kindAt rows k) 20)) rest
+        → evaluateLines ed m depth (linesAt w q (positionAt rows k)) ≡ partsFrom (joinBy ed (eqb (kindAt rows k) 20)) one (firstAt rows k) (startIn ed (truth (eqb (kindAt rows k) 20)) (firstAt rows k)) rest
     unfolding evaluateLine
     tree-group e = by-line ∙ go (eqb (kindAt rows k) 20) (eqb (kindAt rows k) 21) e _
       where
         go : (x y : Bool) → (x || y) ≡ true → (other : Evaluated)
-            → cond x (partsFrom both one (firstAt rows k) True rest) (cond y (partsFrom either one (firstAt rows k) False rest) other) ≡ partsFrom (joinBy x) one (firstAt rows k) (truth x) rest
+            → cond x (partsFrom (bothIn ed) one (firstAt rows k) (startIn ed True (firstAt rows k)) rest) (cond y (partsFrom (eitherIn ed) one (firstAt rows k) (startIn ed False (firstAt rows k)) rest) other)
+            ≡ partsFrom (joinBy ed x) one (firstAt rows k) (startIn ed (truth x) (firstAt rows k)) rest
         go true y e other = refl
         go false true e other = refl
         go false false e other = absurd (true≢false (sym e))
 
     pub tree-item : (kindAt rows k ≡ 22 → ⊥) → (eqb (kindAt rows k) 20 || eqb (kindAt rows k) 21) ≡ false
-        → evaluateLines m depth (linesAt w q (positionAt rows k))
+        → evaluateLines ed m depth (linesAt w q (positionAt rows k))
         ≡ evaluated (m (assertionBy (kindAt rows k) (firstAt rows k) (valueAt q rows k) (piecesAt q rows lines k))) (afterBy (kindAt rows k) (secondAt rows k) rest)
     unfolding evaluateLine assertionOf afterItem afterBy
     tree-item ne e = by-line ∙ go (eqb (kindAt rows k) 20) (eqb (kindAt rows k) 21) e _ _
@@ -87,6 +90,11 @@ module _ (m : Assertion → Truth) {w : ℕ} {q : Bytes} {rows : List ℕ} {line
         go false false e a b = rw (ne-eqb (kindAt rows k) 22 ne, pieces-are h (secondAt rows k) (k + 1) (omega (arith, l)))
 
 -- ---- the parts one by one
+
+-- the first edition starts from undefined where there are parts
+pub start-some : (t : Truth) (n : ℕ) → (n ≡ 0 → ⊥) → Undefined ≡ startIn FirstEdition t n
+start-some t zero h = absurd (h refl)
+start-some t (suc n) h = refl
 
 module _ (join : Truth → Truth → Truth) (one : Sheet → Evaluated) (left : ℕ) (t : Truth) (s : Sheet) where
   pub parts-end : left ≤ 0 → partsFrom join one left t s ≡ evaluated t s
@@ -110,5 +118,5 @@ module _ (join : Truth → Truth → Truth) (one : Sheet → Evaluated) (left : 
 accepted : {A : Type 0} (x y : A) → accept x ≡ accept y → x ≡ y
 accepted x y e = cc
 
-pub whole-read : (g : Grammar) (m : Assertion → Truth) (s : Sheet) (f : Filter) → filter g 16 128 s (λ f left rest. accept f) ≡ accept f → evaluateLines m 16 s .truth ≡ evaluate m f
-whole-read g m s f e = let r = filter-read g f m 16 128 s (λ f left rest. accept f) e in r .3 ∙ ap (evaluate m) (accepted (r .0) f (r .2))
+pub whole-read : (g : Grammar) (ed : Edition) (m : Assertion → Truth) (s : Sheet) (f : Filter) → filter g 16 128 s (λ f left rest. accept f) ≡ accept f → evaluateLines ed m 16 s .truth ≡ evaluate ed m f
+whole-read g ed m s f e = let r = filter-read g f ed m 16 128 s (λ f left rest. accept f) e in r .3 ∙ ap (evaluate ed m) (accepted (r .0) f (r .2))

@@ -20,7 +20,7 @@ pub record Bounds (G : Grammar) : Type 0 where
 module _ (top a b c l : ℕ) where
   requester-columns : inFormOf (requestForms top) 10 a b c l ≡ true → b ≤ 8
   unfolding requestForms inFormOf
-  requester-columns = by-form a b c l (form 10 (between 0 2) parts unnamed unnamed) _ (λ r. r .1 .1) no-form
+  requester-columns = by-form a b c l (form 10 (between 0 2) parts (between 0 1) unnamed) _ (λ r. r .1 .1) no-form
 
   base-columns : inFormOf (requestForms top) 11 a b c l ≡ true → (b ≤ 8) × (1 ≤ a) × (a ≤ 4) × (a ≤ 2 → c ≡ 0)
   unfolding requestForms inFormOf

@@ -10,7 +10,7 @@ use borrow.Author.Tests.{eq-eqb, ne-eqb, eqb-true, eqb-false}
 use Rattle.rules.specs.Sheet.{Bytes, Sheet}
 use Rattle.rules.specs.Filter.{Filter, and, none}
 use Rattle.rules.specs.Judge.{Verdict, accept, refuse, Grammar, due}
-use Rattle.rules.specs.Request.{Selection, Search, Operation, read, compare, list, search, selection, operation, filter}
+use Rattle.rules.specs.Request.{Selection, Search, Operation, read, compare, list, search, editionOf, selection, operation, filter}
 use Rattle.rules.specs.Places.{linesAt}
 use Rattle.sheet_line.specs.Line.{bytesOf, lineOf}
 use Rattle.sheet_line.specs.declared.Line.{Line}
@@ -25,7 +25,7 @@ use Rattle.request_filter.specs.Laws.Filters.{filter-follow}
 use Rattle.request_operation.specs.declared.Body.{Body}
 use Rattle.request_operation.specs.Operations.{reachedBy, filterFrom, selectionAt, assertionAt, subsetAt, readAt, compareAt, listAt, searchAt, bodyAt}
 use Rattle.request_sheet.specs.declared.Asked.{Asked}
-use Rattle.request_sheet.specs.Whole.{asked}
+use Rattle.request_sheet.specs.Whole.{editionIn, asked}
 use Rattle.request_sheet.specs.Noted.{NotedSelection, NotedOperation}
 use Rattle.request_sheet.specs.Laws.Bounds.{Bounds}
 
@@ -58,11 +58,11 @@ module _ (G : Grammar) (w : ℕ) (q : Bytes) where
 
 -- ---- the operation
 
--- what the rules take from the lines at `at` after K 11, `x`, by what the code finds
-pub record Leads (G : Grammar) (w : ℕ) (q : Bytes) (at : ℕ) (x : Line) (b : Body) : Type 1 where
+-- what the rules take from the lines at `at` after K 11, `x`, by what the code finds; `c` is column C of K 10
+pub record Leads (G : Grammar) (w : ℕ) (q : Bytes) (at c : ℕ) (x : Line) (b : Body) : Type 1 where
   pub asks : Operation
-  pub is : (A : Type 0) (k : Operation → Sheet → Verdict A) → operation G (lineOf q x) (linesAt w q at) k ≡ after (b .refusal) (k asks (linesAt w q (b .next)))
-  pub noted : b .refusal ≡ 0 → (requester : Line) → NotedOperation G w q asks (asked requester x b)
+  pub is : (A : Type 0) (k : Operation → Sheet → Verdict A) → operation G (editionOf c) (lineOf q x) (linesAt w q at) k ≡ after (b .refusal) (k asks (linesAt w q (b .next)))
+  pub noted : b .refusal ≡ 0 → (requester : Line) → requester .c ≡ c → NotedOperation G w q asks (asked requester x b)
 
 module _ (G : Grammar) (bounds : Bounds G) (w : ℕ) (q : Bytes) (at : ℕ) where
   -- the selection at a position
@@ -89,29 +89,29 @@ module _ (G : Grammar) (bounds : Bounds G) (w : ℕ) (q : Bytes) (at : ℕ) wher
         values = refl;
       })
 
-  module _ (x : Line) (small : x .a ≤ 2 → x .c ≡ 0) where
-    read-leads : x .a ≡ 1 → Leads G w q at x (readAt G w q at)
-    unfolding operation readAt
+  module _ (c : ℕ) (x : Line) (small : x .a ≤ 2 → x .c ≡ 0) where
+    read-leads : x .a ≡ 1 → Leads G w q at c x (readAt G w q at)
+    unfolding operation readAt editionIn
     read-leads op = record {
       asks = read selected;
       is = λ A k. rw (eq-eqb (x .a) 1 op) (selection-is A (λ r. k (read r)));
-      noted = λ z requester. record {
+      noted = λ z requester e. record {
         operation = op;
         limit = small (omega arith);
         selection = selection-noted z requester x (readAt G w q at) refl;
         no-assertion = record { attribute = refl; value = refl; count = refl };
-        no-filter = record { subset = refl; filter = refl };
+        no-filter = record { subset = refl; filter = refl; edition = rw (ne-eqb (x .a) 4 (λ y. omega arith)) };
       };
     }
 
-    compare-leads : x .a ≡ 2 → Leads G w q at x (compareAt G w q at)
-    unfolding operation compareAt
+    compare-leads : x .a ≡ 2 → Leads G w q at c x (compareAt G w q at)
+    unfolding operation compareAt editionIn
     compare-leads op =
         let d = assertionAt G w q at in
         record {
           asks = compare (d .line .a) (bytesOf q (d .line));
           is = λ A k. rw (ne-eqb (x .a) 1 (λ y. omega arith), eq-eqb (x .a) 2 op) (due-is G w q (reachedAt at) 14 (λ y. k (compare (y .a) (y .bytes))));
-          noted = λ z requester.
+          noted = λ z requester e.
               let f = took G w q (reachedAt at) 14 z .stands .fits in
               record {
                 operation = op;
@@ -120,54 +120,55 @@ module _ (G : Grammar) (bounds : Bounds G) (w : ℕ) (q : Bytes) (at : ℕ) wher
                 attribute = refl;
                 bytes = refl;
                 within = omega (arith, f .next, f .within);
-                no-filter = record { subset = refl; filter = refl };
+                no-filter = record { subset = refl; filter = refl; edition = rw (ne-eqb (x .a) 4 (λ y. omega arith)) };
               };
         }
 
-    list-leads : x .a ≡ 3 → Leads G w q at x (listAt at)
-    unfolding operation
+    list-leads : x .a ≡ 3 → Leads G w q at c x (listAt at)
+    unfolding operation editionIn
     list-leads op = record {
       asks = list (x .c);
       is = λ A k. rw (ne-eqb (x .a) 1 (λ y. omega arith), ne-eqb (x .a) 2 (λ y. omega arith), eq-eqb (x .a) 3 op);
-      noted = λ z requester. record {
+      noted = λ z requester e. record {
         operation = op;
         limit = refl;
         no-selection = record { listed = refl; types = refl; count = refl; values = refl };
         no-assertion = record { attribute = refl; value = refl; count = refl };
-        no-filter = record { subset = refl; filter = refl };
+        no-filter = record { subset = refl; filter = refl; edition = rw (ne-eqb (x .a) 4 (λ y. omega arith)) };
       };
     }
 
-    search-leads : x .a ≡ 4 → Leads G w q at x (searchAt G w q at)
-    unfolding operation searchAt
+    search-leads : x .a ≡ 4 → Leads G w q at c x (searchAt G w q at)
+    unfolding operation searchAt editionIn
     search-leads op =
         let d = subsetAt G w q at in
         let F = filtered G w q (afterDue d) in
         record {
-          asks = search (record { limit = x .c; selection = selected; subset = d .line .a; filter = F .one });
+          asks = search (record { limit = x .c; selection = selected; subset = d .line .a; filter = F .one; edition = editionOf c });
           is = λ A k.
               rw (ne-eqb (x .a) 1 (λ y. omega arith), ne-eqb (x .a) 2 (λ y. omega arith), ne-eqb (x .a) 3 (λ y. omega arith))
-              (selection-is A (λ r s. due G 15 s λ y s. filter G 16 128 s λ f left s. k (search (record { limit = x .c; selection = r; subset = y .a; filter = f })) s)
+              (selection-is A (λ r s. due G 15 s λ y s. filter G 16 128 s λ f left s. k (search (record { limit = x .c; selection = r; subset = y .a; filter = f; edition = editionOf c })) s)
               ∙ due-is G w q (afterGroup (selectionAt G w q at)) 15
-              (λ y s. filter G 16 128 s λ f left s. k (search (record { limit = x .c; selection = selected; subset = y .a; filter = f })) s)
-              ∙ F .is A (λ f s. k (search (record { limit = x .c; selection = selected; subset = d .line .a; filter = f })) s));
-          noted = λ z requester. record {
+              (λ y s. filter G 16 128 s λ f left s. k (search (record { limit = x .c; selection = selected; subset = y .a; filter = f; edition = editionOf c })) s)
+              ∙ F .is A (λ f s. k (search (record { limit = x .c; selection = selected; subset = d .line .a; filter = f; edition = editionOf c })) s));
+          noted = λ z requester e. record {
             operation = op;
             limit = refl;
             selection = selection-noted (took G w q (afterGroup (selectionAt G w q at)) 15 (F .clear z) .clear) requester x (searchAt G w q at) refl;
             no-assertion = record { attribute = refl; value = refl; count = refl };
             subset = refl;
             reads = F .reads z;
+            edition = rw (eq-eqb (x .a) 4 op, e);
           };
         }
 
     -- by the operation, 1 to 4
-    pub body-leads : 1 ≤ x .a → x .a ≤ 4 → Leads G w q at x (bodyAt G w q at (x .a))
+    pub body-leads : 1 ≤ x .a → x .a ≤ 4 → Leads G w q at c x (bodyAt G w q at (x .a))
     unfolding bodyAt
     body-leads low high = go (eqb (x .a) 1) refl (eqb (x .a) 2) refl (eqb (x .a) 3) refl
       where
         go : (t₁ : Bool) → eqb (x .a) 1 ≡ t₁ → (t₂ : Bool) → eqb (x .a) 2 ≡ t₂ → (t₃ : Bool) → eqb (x .a) 3 ≡ t₃
-            → Leads G w q at x (cond t₁ (readAt G w q at) (cond t₂ (compareAt G w q at) (cond t₃ (listAt at) (searchAt G w q at))))
+            → Leads G w q at c x (cond t₁ (readAt G w q at) (cond t₂ (compareAt G w q at) (cond t₃ (listAt at) (searchAt G w q at))))
         go true e₁ t₂ e₂ t₃ e₃ = read-leads (eqb-true (x .a) 1 e₁)
         go false e₁ true e₂ t₃ e₃ = compare-leads (eqb-true (x .a) 2 e₂)
         go false e₁ false e₂ true e₃ = list-leads (eqb-true (x .a) 3 e₃)

@@ -10,7 +10,7 @@ use Rattle.rules.specs.Sheet.{Bytes, Sheet}
 use Rattle.rules.specs.declared.Format.{Format}
 use Rattle.rules.specs.Judge.{Verdict, accept, refuse, refusalOf, refuseIf, Grammar, misplaced, atEnd, due, dueLines, nameOf}
 use Rattle.rules.specs.Laws.Judge.{refused-not, accepted-is}
-use Rattle.rules.specs.Request.{Operation, Request, requestGrammar, operation, request, requestOf}
+use Rattle.rules.specs.Request.{Operation, Request, requestGrammar, editionOf, operation, request, requestOf}
 use Rattle.rules.specs.Places.{linesAt}
 use Rattle.sheet_line.specs.Line.{lineOf}
 use Rattle.sheet_line.specs.declared.Line.{Line}
@@ -88,7 +88,7 @@ module _ (G : Grammar) (bounds : Bounds G) (w : ℕ) (q : Bytes) where
   ending o s = atEnd (requestWith o) s (misplaced G s)
 
   -- the operation's lines and the end
-  body-meets : length q ≤ 8192 → base .refusal ≡ 0 → Meets G w q (operation G (lineOf q (base .line)) (linesAt w q (base .next)) ending) (withBody G w q (requester .line) (base .line) body)
+  body-meets : length q ≤ 8192 → base .refusal ≡ 0 → Meets G w q (operation G (editionOf (requester .line .c)) (lineOf q (base .line)) (linesAt w q (base .next)) ending) (withBody G w q (requester .line) (base .line) body)
   unfolding ending requestWith withBody
   body-meets short z =
       rw (leads .is Request ending)
@@ -97,7 +97,7 @@ module _ (G : Grammar) (bounds : Bounds G) (w : ℕ) (q : Bytes) where
         level = refl;
         requester = name-noted requester t₁ (bounds .requester _ _ _ _ (took-columns (t₁ .head)));
         base = name-noted base t₂ (columns .0);
-        operation = leads .noted y (requester .line);
+        operation = leads .noted y (requester .line) refl;
         short = short;
       })))
     where
@@ -110,16 +110,16 @@ module _ (G : Grammar) (bounds : Bounds G) (w : ℕ) (q : Bytes) where
       columns : (base .line .b ≤ 8) × (1 ≤ base .line .a) × (base .line .a ≤ 4) × (base .line .a ≤ 2 → base .line .c ≡ 0)
       columns = bounds .base _ _ _ _ (took-columns (t₂ .head))
 
-      leads : Leads G w q (base .next) (base .line) body
-      leads = body-leads G bounds w q (base .next) (base .line) (columns .3) (columns .1) (columns .2)
+      leads : Leads G w q (base .next) (requester .line .c) (base .line) body
+      leads = body-leads G bounds w q (base .next) (requester .line .c) (base .line) (columns .3) (columns .1) (columns .2)
 
   -- the rules, part by part
-  request-is : request G (linesAt w q 0) ≡ after (base .refusal) (operation G (lineOf q (base .line)) (linesAt w q (base .next)) ending)
+  request-is : request G (linesAt w q 0) ≡ after (base .refusal) (operation G (editionOf (requester .line .c)) (lineOf q (base .line)) (linesAt w q (base .next)) ending)
   unfolding request ending requestWith
   request-is =
-      group-is G w q (reachedAt 0) 10 9 (λ x name s. due G 11 s λ y s. dueLines G 9 (y .b) s λ base s. operation G y s λ o s.
+      group-is G w q (reachedAt 0) 10 9 (λ x name s. due G 11 s λ y s. dueLines G 9 (y .b) s λ base s. operation G (editionOf (x .c)) y s λ o s.
       atEnd (record { requester = record { level = x .a; name = nameOf name }; base = nameOf base; operation = o }) s (misplaced G s))
-      ∙ group-is G w q (afterGroup requester) 11 9 (λ y base s. operation G y s λ o s.
+      ∙ group-is G w q (afterGroup requester) 11 9 (λ y base s. operation G (editionOf (requester .line .c)) y s λ o s.
       atEnd (record { requester = record { level = requester .line .a; name = nameOf (followers w q requester) }; base = nameOf base; operation = o }) s (misplaced G s))
 
   asked-by : (t : Bool) → ltb 8192 (length q) ≡ t

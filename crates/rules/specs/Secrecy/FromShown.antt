@@ -1,6 +1,6 @@
 -- The answer to a request comes from what the requester is shown: each operation over the shown entries gives what it gives over all.
 -- It holds for any sight that shows enough, so that a narrower sight serves requests that ask less.
-use mathlib.Core.Path.{_≡_, refl, sym, ap, ap₂, _∙_, subst, fun-ext}
+use mathlib.Core.Path.{_≡_, refl, sym, ap, ap₂, _∙_, subst}
 use Prim.Native.Nat.{ℕ, zero, suc, _-_}
 use mathlib.Core.Bool.{Bool, true, false, _&&_, _||_, not, cond}
 use mathlib.Core.Option.{Option, none, some}
@@ -22,6 +22,8 @@ use Rattle.rules.specs.Answer.{bit, outcome, nameLines, entryLines, valu
 use Rattle.rules.specs.Shown.{Sight, shownHeld, shownEntry, shownBy}
 use Rattle.rules.specs.Laws.Tests.{contra, and-left, and-right, and-cong, and-cong-left, cond-cong}
 use Rattle.rules.specs.Laws.Lists.{gather-sift, map-sift, any-sift, first-sift, once-sift, Once}
+use Rattle.rules.specs.Laws.Items.{own-items-decide}
+use Rattle.rules.specs.declared.Edition.{Edition}
 use Rattle.rules.specs.declared.Truth.{Truth}
 
 -- ---- what an entry holds
@@ -104,8 +106,8 @@ module _ (σ : Setting) (g : Sight) where
           (λ r. ap truth (satisfied-shown a (and-right (defined σ a) _ r))) (λ r. refl)
 
       -- items alone decide a filter
-      filter-shown : (f : Filter) → evaluate (itemTruth σ (shownEntry g e)) f ≡ evaluate (itemTruth σ e) f
-      filter-shown f = ap (λ (m : Assertion → Truth). evaluate m f) (fun-ext itemTruth-shown)
+      filter-shown : (ed : Edition) (f : Filter) → evaluate ed (itemTruth σ (shownEntry g e)) f ≡ evaluate ed (itemTruth σ e) f
+      filter-shown ed f = own-items-decide ed (itemTruth σ (shownEntry g e)) (itemTruth σ e) f (λ a k. itemTruth-shown a)
 
   -- ---- the matched name, and the entry that is named
 
@@ -265,7 +267,7 @@ module _ (σ : Setting) (g : Sight) where
         (λ e q. k .entryReturned (e .name)
         (and-right (granted σ (e .name) entry Browse || sameName (σ .schema) n (e .name) && granted σ (e .name) entry Read) _
         (and-right (inSubset σ (r .subset) n (e .name)) _ (and-left (candidate σ n (r .subset) e) _ q))))
-        (λ e q. ap (λ (t : Truth). candidate σ n (r .subset) e && isTrue t) (filter-shown e (k .typeFiltered (e .name)) (k .valueFiltered (e .name)) (r .filter)))
+        (λ e q. ap (λ (t : Truth). candidate σ n (r .subset) e && isTrue t) (filter-shown e (k .typeFiltered (e .name)) (k .valueFiltered (e .name)) (r .edition) (r .filter)))
         (λ e q. ap (λ (i : List Line). entryLines (e .name) ++ i)
         (information-shown (r .selection) e (k .typeRead (e .name)) (λ t v m. k .valueRead (e .name) t v)))
         es

@@ -40,7 +40,7 @@ evaluate-requires c κs = let A = c .before .before .before .before .before .bef
 
 returns : tie.Need-returns
 unfolding matchesAt
-returns c = λ σ es g f w read. c .is-true .ensures ∙ ap isTrue (ap (λ (r : Evaluated). r .truth) (c .before .evaluate .ensures .1 (width (now (c .before .before .before .before .before .before .before .before .before .before .before .args .book))) (now (c .before .before .before .before .before .before .before .before .before .before .before .args .q)) (itemTruth σ (entryOf (getD es (c .before .before .before .before .before .before .before .before .before .before .before .args .k) blank))) (c .before .before .before .before .before .before .before .before .before .before .before .pre .1) (c .before .before .before .before .note-truths .ensures σ es (c .before .before .before .before .before .before .before .before .before .before .before .args .extent .ranks) (w .entries) (c .before .before .before .before .before .before .before .ask .ensures σ es w) (c .before .before .before .before .before .before .before .before .before .before .before .pre .3))) ∙ whole-read g (itemTruth σ (entryOf (getD es (c .before .before .before .before .before .before .before .before .before .before .before .args .k) blank))) (linesAt (width (now (c .before .before .before .before .before .before .before .before .before .before .before .args .book))) (now (c .before .before .before .before .before .before .before .before .before .before .before .args .q)) (positionAt (now (c .before .before .before .before .before .before .before .before .before .before .before .args .rows)) 0)) f read)
+returns c = λ σ es g f w read. c .is-true .ensures ∙ ap isTrue (ap (λ (r : Evaluated). r .truth) (c .before .evaluate .ensures .1 (width (now (c .before .before .before .before .before .before .before .before .before .before .before .args .book))) (now (c .before .before .before .before .before .before .before .before .before .before .before .args .q)) (itemTruth σ (entryOf (getD es (c .before .before .before .before .before .before .before .before .before .before .before .args .k) blank))) (c .before .before .before .before .before .before .before .before .before .before .before .pre .1) (c .before .before .before .before .note-truths .ensures σ es (c .before .before .before .before .before .before .before .before .before .before .before .args .extent .ranks) (w .entries) (c .before .before .before .before .before .before .before .ask .ensures σ es w) (c .before .before .before .before .before .before .before .before .before .before .before .pre .3))) ∙ whole-read g (c .before .before .before .before .before .before .before .before .before .before .before .args .extent .edition) (itemTruth σ (entryOf (getD es (c .before .before .before .before .before .before .before .before .before .before .before .args .k) blank))) (linesAt (width (now (c .before .before .before .before .before .before .before .before .before .before .before .args .book))) (now (c .before .before .before .before .before .before .before .before .before .before .before .args .q)) (positionAt (now (c .before .before .before .before .before .before .before .before .before .before .before .args .rows)) 0)) f read)
 
 pub matches-spec : {M : Type 1} → statement M
 matches-spec =

@@ -240,9 +240,8 @@ fn world(
     let mut above = person.clone();
     above.pop();
     let ask = |name: &Name, operation| {
-        let request =
-            RequestSheet { level: 0, requester: person.clone(), name: name.clone(), operation };
-        request.to_bytes()
+        let (requester, name) = (person.clone(), name.clone());
+        RequestSheet { level: 0, edition: 0, requester, name, operation }.to_bytes()
     };
     let search = |filter| {
         let root = Name::new();

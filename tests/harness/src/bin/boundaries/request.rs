@@ -90,7 +90,11 @@ fn columns(test: &mut Explicit) {
     for (what, line, refusal) in [
         ("level 2", (10, 2, 0, 0, &b""[..]), 0),
         ("level 3", (10, 3, 0, 0, b""), 22),
-        ("requester with C", (10, 0, 0, 1, b""), 22),
+        ("the first edition", (10, 0, 0, 1, b""), 0),
+        ("edition 2", (10, 0, 0, 2, b""), 22),
+        ("edition 999999", (10, 0, 0, 999_999, b""), 22),
+        ("edition 2 at level 3", (10, 3, 0, 2, b""), 22),
+        ("the first edition with bytes", (10, 0, 0, 1, b"x"), 22),
         ("requester with bytes", (10, 0, 0, 0, b"x"), 22),
         ("operation 0", (11, 0, 0, 0, b""), 22),
         ("operation 5", (11, 5, 0, 0, b""), 22),

@@ -2,6 +2,7 @@
 
 mod blanks;
 mod decisions;
+mod editions;
 mod filters;
 mod operations;
 
@@ -14,5 +15,6 @@ fn main() -> ExitCode {
     filters::run(&mut test);
     operations::run(&mut test);
     blanks::run(&mut test);
+    editions::run(&mut test);
     test.finish()
 }

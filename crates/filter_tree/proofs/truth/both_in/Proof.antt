@@ -1,0 +1,13 @@
+-- By the edition.
+use borrow.Author.Needs.{needs}
+use Rattle.filter_tree.proofs.truth.both_in.Statement.{statement}
+use Rattle.filter_tree.proofs.truth.both_in.Tie as tie
+
+returns : tie.Need-returns
+returns c = rw (c .before .enum-told .given .1) (c .both .ensures)
+
+returns-2 : tie.Need-returns-2
+returns-2 c = rw (c .before .enum-told2 .given .1) (c .both-first .ensures)
+
+pub both-in-spec : {M : Type 1} → statement M
+both-in-spec = tie.close (tie.spec (λ c. search needs) (λ c κs. search needs) (λ c. search needs) (λ c κs. search needs) returns returns-2)
