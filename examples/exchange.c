@@ -1,28 +1,13 @@
 /* The exchange's side: reads a directory, permissions and a request, lends a buffer, and prints the answer or the refusal.
    usage: exchange DIRECTORY PERMISSIONS REQUEST */
 #include "dinghy.h"
+#include "sheet.h"
 
 #include <inttypes.h>
-#include <stdio.h>
 
-/* One byte more than a sheet may have, so that a longer file is refused as too long. */
-#define SHEET_MOST 65537
 #define ROOM 65536
 
 static uint8_t directory[SHEET_MOST], permissions[SHEET_MOST], request[SHEET_MOST], out[ROOM];
-
-/* Reads a file; 0 if that fails. */
-static int load(const char *path, uint8_t *sheet, size_t *length) {
-    FILE *file = fopen(path, "rb");
-    int good = 0;
-    if (file != NULL) {
-        *length = fread(sheet, 1, SHEET_MOST, file);
-        good = !ferror(file);
-    }
-    if (!good) perror(path);
-    if (file != NULL) fclose(file);
-    return good;
-}
 
 int main(int count, char **arguments) {
     size_t d, p, q;

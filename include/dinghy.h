@@ -1,4 +1,4 @@
-/* The hotel directory server: three sheets and a lent buffer in, one reply out. Link with libdinghy.a. */
+/* The hotel directory server: three sheets and a lent buffer in, one reply out, for the exchange and for corridor panels. Link with libdinghy.a. */
 #ifndef DINGHY_H
 #define DINGHY_H
 
@@ -15,8 +15,8 @@ struct dinghy_reply {
     uint64_t length;
 };
 
-/* Refusals, by who has to mend what. Directory comes first, then permissions, request and buffer; within a sheet its length, then the first
-   faulty line from the top, and on that line the lowest number. */
+/* Refusals, by who has to mend what. A panel's buffer comes first, then directory, permissions, request, and the answer's length; within a
+   sheet its length, then the first faulty line from the top, and on that line the lowest number. */
 enum dinghy_refusal {
     DINGHY_ANSWERED = 0,
 
@@ -40,10 +40,11 @@ enum dinghy_refusal {
     DINGHY_REQUEST_ORDER = 23,
 
     /* the calling program */
-    DINGHY_BUFFER_TOO_SHORT = 31 /* the answer is longer than the lent buffer */
+    DINGHY_BUFFER_TOO_SHORT = 31,     /* the answer is longer than the lent buffer */
+    DINGHY_PANEL_BUFFER_TOO_LONG = 33 /* a panel lends more than 1,024 bytes; no sheet was judged */
 };
 
-/* Answers one request over one directory under one permission sheet, and writes the answer at the front of out.
+/* For the exchange. Answers one request over one directory under one permission sheet, and writes the answer at the front of out.
    With a refusal, and beyond the answer's length, out is unchanged; the sheets are only read.
 
    The caller sees to it that
@@ -56,6 +57,16 @@ struct dinghy_reply dinghy_serve(const uint8_t *directory, size_t directory_leng
                                  const uint8_t *permissions, size_t permissions_length,
                                  const uint8_t *request, size_t request_length,
                                  uint8_t *out, size_t out_length);
+
+/* The most that a panel lends. */
+#define DINGHY_PANEL_ROOM 1024
+
+/* For a corridor panel: as dinghy_serve, with the same duties of the caller, but a list or search gives at most five entries (C of line 30 is 1
+   where there are more, as with a request's own limit), and an out_length above DINGHY_PANEL_ROOM gives DINGHY_PANEL_BUFFER_TOO_LONG. */
+struct dinghy_reply dinghy_serve_panel(const uint8_t *directory, size_t directory_length,
+                                       const uint8_t *permissions, size_t permissions_length,
+                                       const uint8_t *request, size_t request_length,
+                                       uint8_t *out, size_t out_length);
 
 #ifdef __cplusplus
 }

@@ -1,4 +1,4 @@
-/* Feeds the library sheets of any bytes and watches what it does with the lent buffer.
+/* Feeds both entries of the library sheets of any bytes and watches what they do with the lent buffer.
    SEED and RUNS (100,000) come from the environment. */
 #include "damage.h"
 #include "dinghy.h"
@@ -11,8 +11,15 @@
 #include <string.h>
 
 #define ROOM_MOST 262144
+#define PANEL_ROOM 1024
+#define PANEL_ENTRIES 5
 
-static const uint64_t refusals[] = {1, 2, 3, 4, 5, 6, 11, 12, 13, 14, 21, 22, 23, 31};
+/* The library's entry for the exchange or for a panel. */
+typedef struct dinghy_reply (*serve_entry)(const uint8_t *, size_t, const uint8_t *, size_t, const uint8_t *,
+                                           size_t, uint8_t *, size_t);
+static const serve_entry entries[] = {dinghy_serve, dinghy_serve_panel};
+
+static const uint64_t refusals[] = {1, 2, 3, 4, 5, 6, 11, 12, 13, 14, 21, 22, 23, 31, 33};
 #define REFUSALS (sizeof refusals / sizeof refusals[0])
 
 /* Where the sheets and the buffer are placed for a call. */
@@ -48,7 +55,7 @@ static void count(uint64_t run, uint64_t refusal) {
 }
 
 /* One call with everything it must keep. The answer is copied out. */
-static struct dinghy_reply call(uint64_t run, size_t room, int at_end, uint8_t pattern) {
+static struct dinghy_reply call(uint64_t run, serve_entry serve, size_t room, int at_end, uint8_t pattern) {
     uint8_t *placed[4];
     for (int i = 0; i < 3; i++) {
         placed[i] = guarded_place(&places[i], sheets[i].length, at_end, pattern);
@@ -56,15 +63,16 @@ static struct dinghy_reply call(uint64_t run, size_t room, int at_end, uint8_t p
     }
     uint8_t *out = placed[3] = guarded_place(&places[3], room, at_end, pattern);
     memset(out, pattern, room);
-    struct dinghy_reply reply =
-        dinghy_serve(placed[0], sheets[0].length, placed[1], sheets[1].length, placed[2],
-                     sheets[2].length, out, room);
+    struct dinghy_reply reply = serve(placed[0], sheets[0].length, placed[1], sheets[1].length, placed[2],
+                                      sheets[2].length, out, room);
     for (int i = 0; i < 3; i++)
         if (memcmp(placed[i], sheets[i].bytes, sheets[i].length) != 0 ||
             !guarded_intact(&places[i], placed[i], sheets[i].length, pattern))
             fail(run, "a sheet was changed");
     if (!guarded_intact(&places[3], out, room, pattern)) fail(run, "bytes around the buffer");
     if (reply.refusal != 0 && reply.length != 0) fail(run, "a refusal with a length");
+    if ((reply.refusal == 33) != (serve == dinghy_serve_panel && room > PANEL_ROOM))
+        fail(run, "33 is for a panel's long buffer");
     if (reply.length > room) {
         fail(run, "an answer longer than the buffer");
         reply.length = 0;
@@ -78,9 +86,10 @@ static struct dinghy_reply call(uint64_t run, size_t room, int at_end, uint8_t p
     return reply;
 }
 
-/* An answer is lines in form, the first of them K 30. */
-static int answer_in_form(size_t length) {
+/* An answer is lines in form, the first of them K 30. K 32 and 33 are counted. */
+static int answer_in_form(size_t length, size_t *listed) {
     size_t place = 0;
+    *listed = 0;
     if (length < 31 || memcmp(answer, "    30", 6) != 0) return 0;
     while (place < length) {
         if (length - place < 31) return 0;
@@ -92,14 +101,18 @@ static int answer_in_form(size_t length) {
             if (i >= 24 && !blank) value = value * 10 + (size_t)(byte - '0');
         }
         if (value > 64 || length - place < 31 + value || answer[place + 30 + value] != '\n') return 0;
+        *listed += memcmp(answer + place, "    32", 6) == 0 || memcmp(answer + place, "    33", 6) == 0;
         place += 31 + value;
     }
     return 1;
 }
 
-static size_t some_room(void) {
-    static const size_t rooms[] = {0, 30, 31, 32, 62, 1000, 4096, 65536, ROOM_MOST};
-    return random_below(4) == 0 ? PICK(rooms) : random_below(2000);
+/* A panel's is seldom too long. */
+static size_t some_room(serve_entry serve) {
+    static const size_t rooms[] = {0, 30, 31, 32, 62, 1000, 1024, 1025, 4096, 65536, ROOM_MOST};
+    size_t room = random_below(4) == 0 ? PICK(rooms) : random_below(2000);
+    int panels = serve == dinghy_serve_panel && random_below(8) != 0;
+    return panels && room > PANEL_ROOM ? random_below(PANEL_ROOM + 1) : room;
 }
 
 static void choose_sheets(void) {
@@ -118,23 +131,29 @@ static void choose_sheets(void) {
     }
 }
 
-static void run_once(uint64_t run) {
-    choose_sheets();
-    size_t room = some_room();
+static void run_entry(uint64_t run, serve_entry serve) {
+    size_t room = some_room(serve);
+    size_t listed;
     int at_end = random_below(4) != 0;
-    struct dinghy_reply first = call(run, room, at_end, (uint8_t)(0x5a + run % 3));
+    struct dinghy_reply first = call(run, serve, room, at_end, (uint8_t)(0x5a + run % 3));
     count(run, first.refusal);
     if (first.refusal != 0) return;
-    if (!answer_in_form(first.length)) fail(run, "an answer not in form");
+    if (!answer_in_form(first.length, &listed)) fail(run, "an answer not in form");
+    if (serve == dinghy_serve_panel && listed > PANEL_ENTRIES) fail(run, "too many entries for a panel");
     if (random_below(4) != 0) return;
     /* The same again in a buffer of just that length with other bytes in it; then one short. */
     static uint8_t before[ROOM_MOST];
     memcpy(before, answer, first.length);
-    struct dinghy_reply again = call(run, first.length, at_end, 0xc3);
+    struct dinghy_reply again = call(run, serve, first.length, at_end, 0xc3);
     if (again.refusal != 0 || again.length != first.length || memcmp(before, answer, again.length) != 0)
         fail(run, "another answer to the same request");
-    struct dinghy_reply shorter = call(run, first.length - 1, at_end, 0x3c);
+    struct dinghy_reply shorter = call(run, serve, first.length - 1, at_end, 0x3c);
     if (shorter.refusal != 31) fail(run, "no refusal of a buffer one byte short");
+}
+
+static void run_once(uint64_t run) {
+    choose_sheets();
+    for (size_t i = 0; i < sizeof entries / sizeof entries[0]; i++) run_entry(run, entries[i]);
 }
 
 int main(void) {

@@ -1,4 +1,4 @@
-// A request answered: the directory and the permissions judged, which is the ground; then the request; then its answer is planned, its length known, and
+// A request answered: the room that is lent, then the directory and the permissions judged, which is the ground; then the request; then its answer is planned, its length known, and
 // only then its bytes are written.
 mod respond;
 mod within;
@@ -9,13 +9,17 @@ use answer_reply::refused;
 use respond::requested;
 use rules::Format;
 use rules::Limits;
+use rules::refusal;
 use tables::book::BOOK;
 use tables::book::schema;
 use tables::held::HELD;
 ghost use lib.ListN.{length};
 ghost use Rattle.rules.specs.Sheet.{Usable};
 ghost use Rattle.rules.specs.Directory.{Directory};
-ghost use Rattle.rules.specs.Serve.{serveAt};
+ghost use mathlib.Core.Path.{_≡_};
+ghost use Prim.Native.Nat.{ℕ};
+ghost use Rattle.rules.specs.Serve.{judgedAt, serveAt};
+ghost use Rattle.rules.specs.Serve as Serve;
 ghost use Rattle.answer_reply.specs.Reply.{Replies};
 ghost use Rattle.engine.specs.Serve.{fromDirectory};
 ghost use Rattle.engine.specs.Judges.{DirectoryAt};
@@ -62,10 +66,10 @@ fn permitted(
     )
 }
 
-// The reply to the request `q` over the directory `d` and the permissions `p`, on these terms, and the answer in `out`.
-pub fn serve(d: &[u8], p: &[u8], q: &[u8], out: &mut [u8], terms: Terms) -> Reply
+// The reply to the request `q` over the directory `d` and the permissions `p`, and the answer in `out`, which is not above the limits.
+fn judged(d: &[u8], p: &[u8], q: &[u8], out: &mut [u8], terms: Terms) -> Reply
     requires { ⌜ Usable (terms .format) ⌝ }
-    ensures { λ r. ⌜ Replies (serveAt (terms .format) (terms .limits) (now (d .entry)) (now (p .entry)) (now (q .entry)) (length (now (out .entry)))) (now (out .entry)) r (now (out .exit)) ⌝ }
+    ensures { λ r. ⌜ Replies (judgedAt (terms .format) (terms .limits) (now (d .entry)) (now (p .entry)) (now (q .entry)) (length (now (out .entry)))) (now (out .entry)) r (now (out .exit)) ⌝ }
 {
     let mut held: [u64; HELD] = [0; HELD];
     let notes = directory_sheet::judge(d, terms.format, &mut held);
@@ -75,4 +79,25 @@ pub fn serve(d: &[u8], p: &[u8], q: &[u8], out: &mut [u8], terms: Terms) -> Repl
     let mut book: [u64; BOOK] = [0; BOOK];
     directory_book::note(terms.format, notes, &mut book);
     permitted(out, &book, &held, d, p, q, terms)
+}
+
+// Is more lent than the program may lend?
+fn above(limits: Limits, room: usize) -> bool
+    ensures { λ r. ⌜ r ≡ Serve.above limits room ⌝ }
+{
+    if limits.bytes == 0 {
+        return false;
+    }
+    limits.bytes < room as u64
+}
+
+// The reply to the request `q` over the directory `d` and the permissions `p`, on these terms, and the answer in `out`.
+pub fn serve(d: &[u8], p: &[u8], q: &[u8], out: &mut [u8], terms: Terms) -> Reply
+    requires { ⌜ Usable (terms .format) ⌝ }
+    ensures { λ r. ⌜ Replies (serveAt (terms .format) (terms .limits) (now (d .entry)) (now (p .entry)) (now (q .entry)) (length (now (out .entry)))) (now (out .entry)) r (now (out .exit)) ⌝ }
+{
+    if above(terms.limits, out.len()) {
+        return refused(refusal::PANEL_BUFFER_TOO_LONG);
+    }
+    judged(d, p, q, out, terms)
 }

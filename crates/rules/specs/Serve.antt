@@ -1,6 +1,6 @@
--- Document 01, "Who is refused, and why": "directory comes first, then permissions, request, answer".
+-- Document 01, "Who is refused, and why": "directory comes first, then permissions, request, answer"; #107: for the exchange and for panels.
 use Prim.Native.Nat.{ℕ}
-use mathlib.Core.Bool.{cond}
+use mathlib.Core.Bool.{Bool, _&&_, not, cond}
 use mathlib.Core.List.{List}
 use lib.Dec.{ltb, eqb}
 use lib.ListN.{length}
@@ -28,9 +28,17 @@ ground f d p = then (directoryOf f d) λ x. then (permissionsOf f (x .schema) p)
 
 -- the exchange has no limits
 abbrev pub exchange : Limits
-exchange = record { entries = 0 }
+exchange = record { entries = 0; bytes = 0 }
 
--- the smaller of two size limits, of which 0 is none
+-- #107: "at most five entries from a list or search and lends at most 1,024 bytes"
+abbrev pub panel : Limits
+panel = record { entries = 5; bytes = 1024 }
+
+-- more bytes are lent than the program may lend; 0 is no limit
+unfoldable pub above : Limits → ℕ → Bool
+above k room = not (eqb (k .bytes) 0) && ltb (k .bytes) room
+
+-- #107: "a request's own limit counts if it is smaller and not 0": the smaller of two size limits, of which 0 is none
 unfoldable pub tighter : ℕ → ℕ → ℕ
 tighter a b = cond (eqb a 0) b (cond (eqb b 0) a (cond (ltb b a) b a))
 
@@ -41,7 +49,7 @@ capped most (compare t v) = compare t v
 capped most (list limit) = list (tighter most limit)
 capped most (search s) = search (record { limit = tighter most (s .limit); selection = s .selection; subset = s .subset; filter = s .filter; edition = s .edition })
 
--- the request as it is asked for a program of these limits; document 01 names none, so that for the exchange it is the request itself (`within-exchange`)
+-- the request as it is asked for a program of these limits; for the exchange it is the request itself (`within-exchange`)
 unfoldable pub within : Limits → Request → Request
 within k r = record { requester = r .requester; base = r .base; operation = capped (k .entries) (r .operation) }
 
@@ -59,8 +67,12 @@ unfoldable pub respond : Format → Ground → Request → ℕ → Verdict Bytes
 respond f g r room = fitting room (print (f .width) (answer (settingOf (g .directory) (g .items) (r .requester)) (entries (g .directory)) (r .base) (r .operation)))
 
 -- the answer's bytes to the sheets `d`, `p` and `q`, or the refusal, for a program of the limits `k`
-unfoldable pub serveAt : Format → Limits → Bytes → Bytes → Bytes → ℕ → Verdict Bytes
-serveAt f k d p q room = then (ground f d p) λ g. then (requestOf f q) λ r. respond f g (within k r) room
+unfoldable pub judgedAt : Format → Limits → Bytes → Bytes → Bytes → ℕ → Verdict Bytes
+judgedAt f k d p q room = then (ground f d p) λ g. then (requestOf f q) λ r. respond f g (within k r) room
 
-abbrev pub serve : Bytes → Bytes → Bytes → ℕ → Verdict Bytes
-serve = serveAt narrow exchange
+-- #107: "33, a panel's answer buffer above 1,024 bytes, before any sheet is judged"
+unfoldable pub serveAt : Format → Limits → Bytes → Bytes → Bytes → ℕ → Verdict Bytes
+serveAt f k d p q room = refuseIf (above k room) 33 (judgedAt f k d p q room)
+
+abbrev pub serve : Limits → Bytes → Bytes → Bytes → ℕ → Verdict Bytes
+serve = serveAt narrow

@@ -7,6 +7,7 @@ use crate::requests::request;
 use crate::values::variant;
 use crate::world::{world, World};
 use peer::builder::{EntryLines, FilterLines, RequestSheet, Selected};
+use peer::caller::{Caller, PANEL_ROOM};
 
 pub struct Case {
     pub dir: Vec<u8>,
@@ -53,8 +54,19 @@ impl Cases {
         case
     }
 
-    /// A buffer length for an answer of a length: too short, equal, longer.
-    pub fn room(&mut self, answer: usize) -> usize {
+    /// A buffer length for an answer of a length; a panel's seldom too long.
+    pub fn room(&mut self, caller: Caller, answer: usize) -> usize {
+        match (caller, self.random.below(20)) {
+            (Caller::Exchange, _) => self.any_room(answer),
+            (Caller::Panel, 0..=3) => PANEL_ROOM,
+            (Caller::Panel, 4) => PANEL_ROOM + 1,
+            (Caller::Panel, 5) => PANEL_ROOM + self.random.below(9_000),
+            (Caller::Panel, _) => self.any_room(answer).min(PANEL_ROOM),
+        }
+    }
+
+    /// Too short, equal, longer.
+    fn any_room(&mut self, answer: usize) -> usize {
         let random = &mut self.random;
         match random.below(20) {
             0 => 0,
@@ -80,7 +92,7 @@ fn damage_one(random: &mut Random, case: &mut Case) {
 /// One sheet just within or just beyond a limit, the others plain.
 fn at_the_limits(random: &mut Random) -> Case {
     let over = random.below(2);
-    let mut directory = limits::wide_directory(random.between(1, 5));
+    let mut directory = limits::wide_directory(random.between(1, 8));
     directory.entries[0].values.push((2, b"Banana".to_vec()));
     directory.entries[0].values.push((3, b"-7".to_vec()));
     let mut permissions = limits::open_permissions();

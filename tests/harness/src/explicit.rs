@@ -8,26 +8,35 @@ use peer::builder::{
     DirectorySheet, EntryLines, FilterLines, ItemLines, Name, OperationLines, PermissionSheet,
     RequestSheet, Selected, Thing,
 };
+use peer::caller::{Caller, PANEL_ROOM};
 use std::process::ExitCode;
-
-pub const ROOM: usize = 65_536;
 
 pub struct Explicit {
     server: Box<dyn Server>,
+    /// As which calling program the server is asked.
+    pub caller: Caller,
     report: Report,
 }
 
 impl Explicit {
     pub fn new(name: &'static str) -> Self {
-        Explicit { server: subject(), report: Report::new(name) }
+        Explicit { server: subject(), caller: Caller::Exchange, report: Report::new(name) }
     }
 
     pub fn finish(self) -> ExitCode {
         self.report.finish()
     }
 
+    /// The longest buffer that the caller lends here.
+    pub fn room(&self) -> usize {
+        match self.caller {
+            Caller::Exchange => 65_536,
+            Caller::Panel => PANEL_ROOM,
+        }
+    }
+
     pub fn check(&mut self, good: bool, what: &str) {
-        self.report.explicit(good, what);
+        self.report.explicit(good, &format!("{:?}: {what}", self.caller));
     }
 
     /// The answer or the refusal, and whether the lent buffer was treated well.
@@ -38,13 +47,13 @@ impl Explicit {
         req: &[u8],
         room: usize,
     ) -> (Result<Vec<u8>, u64>, bool) {
-        let outcome = ask(self.server.as_ref(), dir, perm, req, room);
+        let outcome = ask(self.server.as_ref(), self.caller, dir, perm, req, room);
         (outcome.answer().map(<[u8]>::to_vec), outcome.is_sound())
     }
 
     /// Expects a refusal number, or 0 for any answer.
     pub fn expect(&mut self, what: &str, refusal: u64, dir: &[u8], perm: &[u8], req: &[u8]) {
-        self.expect_in(ROOM, what, refusal, dir, perm, req);
+        self.expect_in(self.room(), what, refusal, dir, perm, req);
     }
 
     /// As `expect`, with a buffer of a length.
@@ -66,7 +75,7 @@ impl Explicit {
     /// Expects an answer byte for byte.
     pub fn answers(&mut self, what: &str, world: &Situation, request: &RequestSheet, text: &str) {
         let (dir, perm) = (world.directory.to_bytes(), world.permissions.to_bytes());
-        let (reply, sound) = self.ask(&dir, &perm, &request.to_bytes(), ROOM);
+        let (reply, sound) = self.ask(&dir, &perm, &request.to_bytes(), self.room());
         let good = reply.as_deref() == Ok(text.as_bytes()) && sound;
         let given = reply.map(|answer| String::from_utf8_lossy(&answer).into_owned());
         self.check(good, &format!("{what}\nexpected\n{text}given {given:?}"));
@@ -77,7 +86,7 @@ impl Explicit {
         let matches = |filter: FilterLines| {
             let (dir, perm) = (world.directory.to_bytes(), world.permissions.to_bytes());
             let request = RequestSheet { edition, ..search_root(2, filter) };
-            let (reply, _) = self.ask(&dir, &perm, &request.to_bytes(), ROOM);
+            let (reply, _) = self.ask(&dir, &perm, &request.to_bytes(), self.room());
             reply.is_ok_and(|answer| answer.len() > 31)
         };
         match (matches(filter.clone()), matches(FilterLines::Not(Box::new(filter)))) {

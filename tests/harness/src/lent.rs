@@ -1,6 +1,7 @@
 //! A buffer lent to a server, filled with a pattern and guarded on both sides.
 
 use crate::server::{Reply, Server};
+use peer::caller::Caller;
 use std::sync::OnceLock;
 
 const GUARD: usize = 64;
@@ -23,10 +24,17 @@ pub struct Outcome {
     lent: Vec<u8>,
 }
 
-/// Asks with a fresh buffer.
-pub fn ask(server: &dyn Server, dir: &[u8], perm: &[u8], req: &[u8], room: usize) -> Outcome {
+/// Asks as a calling program, with a fresh buffer.
+pub fn ask(
+    server: &dyn Server,
+    caller: Caller,
+    dir: &[u8],
+    perm: &[u8],
+    req: &[u8],
+    room: usize,
+) -> Outcome {
     let mut lent = pattern()[..room + 2 * GUARD].to_vec();
-    let reply = server.serve(dir, perm, req, &mut lent[GUARD..GUARD + room]);
+    let reply = server.serve(caller, dir, perm, req, &mut lent[GUARD..GUARD + room]);
     Outcome { reply, lent }
 }
 

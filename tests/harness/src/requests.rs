@@ -88,7 +88,8 @@ fn spoil(random: &mut Random, directory: &DirectorySheet, name: &mut Name) {
 fn limit(random: &mut Random) -> u32 {
     match random.below(20) {
         0..=9 => 0,
-        10..=18 => random.between(1, 4) as u32,
+        10..=16 => random.between(1, 4) as u32,
+        17 | 18 => random.between(4, 7) as u32,
         _ => *random.pick(&[5, 10, 100, 256, 999_999]),
     }
 }

@@ -1,5 +1,6 @@
 //! Servers: the peer, with or without a planted fault, and the library.
 
+use peer::caller::Caller;
 use peer::fault::{planted, with_fault, Fault};
 
 #[repr(C)]
@@ -10,11 +11,11 @@ pub struct Reply {
 }
 
 pub trait Server {
-    fn serve(&self, dir: &[u8], perm: &[u8], req: &[u8], out: &mut [u8]) -> Reply;
+    fn serve(&self, caller: Caller, dir: &[u8], perm: &[u8], req: &[u8], out: &mut [u8]) -> Reply;
 }
 
 /// Every number a server may refuse with.
-pub const REFUSALS: [u64; 14] = [1, 2, 3, 4, 5, 6, 11, 12, 13, 14, 21, 22, 23, 31];
+pub const REFUSALS: [u64; 15] = [1, 2, 3, 4, 5, 6, 11, 12, 13, 14, 21, 22, 23, 31, 33];
 
 #[derive(Clone, Copy, Default)]
 pub struct Peer {
@@ -22,10 +23,11 @@ pub struct Peer {
 }
 
 impl Server for Peer {
-    fn serve(&self, dir: &[u8], perm: &[u8], req: &[u8], out: &mut [u8]) -> Reply {
+    fn serve(&self, caller: Caller, dir: &[u8], perm: &[u8], req: &[u8], out: &mut [u8]) -> Reply {
         with_fault(self.fault, || {
-            let room = if planted(Fault::AnswerCutToRoom) { usize::MAX } else { out.len() };
-            match peer::serve(dir, perm, req, room) {
+            let cut = planted(Fault::AnswerCutToRoom) && caller == Caller::Exchange;
+            let room = if cut { usize::MAX } else { out.len() };
+            match peer::serve_for(caller, dir, perm, req, room) {
                 Ok(answer) => {
                     let length = answer.len().min(out.len());
                     out[..length].copy_from_slice(&answer[..length]);
@@ -64,15 +66,30 @@ mod foreign {
             out: *mut u8,
             out_len: usize,
         ) -> Reply;
+
+        pub fn dinghy_serve_panel(
+            dir: *const u8,
+            dir_len: usize,
+            perm: *const u8,
+            perm_len: usize,
+            req: *const u8,
+            req_len: usize,
+            out: *mut u8,
+            out_len: usize,
+        ) -> Reply;
     }
 }
 
 #[cfg(feature = "library")]
 impl Server for Library {
-    fn serve(&self, dir: &[u8], perm: &[u8], req: &[u8], out: &mut [u8]) -> Reply {
+    fn serve(&self, caller: Caller, dir: &[u8], perm: &[u8], req: &[u8], out: &mut [u8]) -> Reply {
+        let entry = match caller {
+            Caller::Exchange => foreign::dinghy_serve,
+            Caller::Panel => foreign::dinghy_serve_panel,
+        };
         // The library reads three sheets and writes at most out.len() bytes to out.
         unsafe {
-            foreign::dinghy_serve(
+            entry(
                 dir.as_ptr(),
                 dir.len(),
                 perm.as_ptr(),

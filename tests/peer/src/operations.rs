@@ -1,6 +1,7 @@
 //! Read, compare, list and search.
 
 use crate::answer::{Answer, Outcome};
+use crate::caller::SizeLimit;
 use crate::decide::Judge;
 use crate::directory::{Directory, Number, ROOT};
 use crate::edition::Edition;
@@ -10,12 +11,19 @@ use crate::name::Asked;
 use crate::permissions::{Mask, Permissions, BROWSE, COMPARE, DISCLOSE_ON_ERROR, READ, RETURN_DN};
 use crate::request::{Operation, Purported, Request, Selection, Subset};
 
-pub fn answer(directory: &Directory, permissions: &Permissions, request: &Request) -> Vec<u8> {
+/// The answer to a request, with at most so many entries, if there is a limit.
+pub fn answer(
+    directory: &Directory,
+    permissions: &Permissions,
+    request: &Request,
+    most: Option<u32>,
+) -> Vec<u8> {
     let mut service = Service {
         directory,
         judge: Judge::new(directory, permissions, &request.requester),
         edition: request.edition,
         operation: request.operation.number(),
+        most,
         asked: &request.name,
         path: directory.walk(request.name.iter().map(Option::as_ref)),
     };
@@ -27,6 +35,8 @@ struct Service<'d, 'a> {
     judge: Judge<'d, 'a>,
     edition: Edition,
     operation: u32,
+    /// The caller's limit of entries.
+    most: Option<u32>,
     asked: &'d Asked<'a>,
     /// The entries that the name asked for leads to, as far as they exist.
     path: Vec<Number>,
@@ -42,9 +52,10 @@ impl Service<'_, '_> {
         match operation {
             Operation::Read(selection) => self.read(base, selection),
             Operation::Compare(purported) => self.compare(base, purported),
-            Operation::List { limit } => self.list(base, *limit),
+            Operation::List { limit } => self.list(base, SizeLimit::new(*limit, self.most)),
             Operation::Search { limit, selection, subset, filter } => {
-                self.search(base, *limit, selection, *subset, filter)
+                let limit = SizeLimit::new(*limit, self.most);
+                self.search(base, limit, selection, *subset, filter)
             }
         }
     }
@@ -167,7 +178,7 @@ impl Service<'_, '_> {
         answer
     }
 
-    fn list(&mut self, base: Number, limit: u32) -> Answer {
+    fn list(&mut self, base: Number, limit: SizeLimit) -> Answer {
         let directory = self.directory;
         let mut count = Counter::new(self.answer(Outcome::Result), limit);
         for child in directory.children(base) {
@@ -190,7 +201,7 @@ impl Service<'_, '_> {
     fn search(
         &mut self,
         base: Number,
-        limit: u32,
+        limit: SizeLimit,
         selection: &Selection,
         subset: Subset,
         filter: &Filter,
@@ -246,7 +257,7 @@ impl Service<'_, '_> {
 
     /// The end of list and search: with nothing to return, noSuchObject unless disclosed.
     fn close(&mut self, base: Number, mut count: Counter) -> Answer {
-        if count.cut {
+        if count.cut && count.limit.marked {
             count.answer.mark_cut();
         }
         let unseen = count.taken == 0 && self.judge.enter(base) & DISCLOSE_ON_ERROR == 0;
@@ -310,10 +321,10 @@ impl Service<'_, '_> {
     }
 }
 
-/// Counts what is returned against the size limit.
+/// Counts what is returned against the size limits.
 struct Counter {
     answer: Answer,
-    limit: u32,
+    limit: SizeLimit,
     taken: u32,
     cut: bool,
     /// Counted though withheld: none but for a planted fault.
@@ -321,25 +332,29 @@ struct Counter {
 }
 
 impl Counter {
-    fn new(answer: Answer, limit: u32) -> Self {
+    fn new(answer: Answer, limit: SizeLimit) -> Self {
         Counter { answer, limit, taken: 0, cut: false, withheld: 0 }
     }
 
     /// Whether one more may be returned; if not, the answer is cut.
     fn take(&mut self) -> bool {
-        self.cut = self.limit != 0 && self.taken + self.withheld >= self.limit;
+        self.cut = self.limit.entries.is_some_and(|most| self.taken + self.withheld >= most);
         if !self.cut {
             self.taken += 1;
-            self.cut = planted(Fault::CutAtExactLimit) && self.taken == self.limit;
+            self.cut = planted(Fault::CutAtExactLimit) && self.is_full();
             return true;
         }
         false
     }
 
     fn withhold(&mut self) {
-        if planted(Fault::WithheldEntriesCut) && self.limit != 0 && self.taken == self.limit {
+        if planted(Fault::WithheldEntriesCut) && self.is_full() {
             self.cut = true;
         }
-        self.withheld += u32::from(planted(Fault::WithheldEntriesCounted));
+        self.withheld += u32::from(self.limit.of_withheld);
+    }
+
+    fn is_full(&self) -> bool {
+        self.limit.entries == Some(self.taken)
     }
 }

@@ -1,6 +1,7 @@
 -- Laws of `Serve`: what each refusal and each acceptance makes of the verdict.
 use Prim.Native.Nat.{ℕ}
 use mathlib.Core.Path.{_≡_, refl, subst}
+use mathlib.Core.Bool.{true, false}
 use mathlib.Core.List.{List}
 use lib.ListN.{length}
 use Rattle.rules.specs.Sheet.{Bytes}
@@ -8,7 +9,7 @@ use Rattle.rules.specs.Judge.{Verdict, accept, refuse, refusalOf, then}
 use Rattle.rules.specs.Directory.{Directory, directoryOf}
 use Rattle.rules.specs.Permission.{Item, permissionsOf}
 use Rattle.rules.specs.Request.{Request, requestOf}
-use Rattle.rules.specs.Serve.{Ground, ground, within, respond, serveAt}
+use Rattle.rules.specs.Serve.{Ground, ground, above, within, respond, judgedAt, serveAt}
 use Rattle.rules.specs.declared.Format.{Format}
 use Rattle.rules.specs.declared.Limits.{Limits}
 use Rattle.rules.specs.Places.{schemaOf}
@@ -23,12 +24,20 @@ unfolding replyOf leftOf
 replies-refused n v out r q e = record { reply = rw e q; left = rw e }
 
 module _ (f : Format) (k : Limits) (d p q : Bytes) (room : ℕ) where
-  pub directory-refuses : (n : ℕ) → directoryOf f d ≡ refuse n → serveAt f k d p q room ≡ refuse n
-  unfolding serveAt ground
+  pub room-refuses : above k room ≡ true → serveAt f k d p q room ≡ refuse 33
+  unfolding serveAt
+  room-refuses e = rw e
+
+  pub room-allows : above k room ≡ false → judgedAt f k d p q room ≡ serveAt f k d p q room
+  unfolding serveAt
+  room-allows e = rw e
+
+  pub directory-refuses : (n : ℕ) → directoryOf f d ≡ refuse n → judgedAt f k d p q room ≡ refuse n
+  unfolding judgedAt ground
   directory-refuses n e = rw e
 
-  pub directory-accepts : (x : Directory) → directoryOf f d ≡ accept x → fromDirectory f k x p q room ≡ serveAt f k d p q room
-  unfolding serveAt ground
+  pub directory-accepts : (x : Directory) → directoryOf f d ≡ accept x → fromDirectory f k x p q room ≡ judgedAt f k d p q room
+  unfolding judgedAt ground
   directory-accepts x e = rw e (go (permissionsOf f (x .schema) p))
     where
       go : (v : Verdict (List Item)) → then v (λ is. fromGround f k (record { directory = x; items = is }) q room)

@@ -10,13 +10,13 @@ use Rattle.rules.specs.Lists.{any}
 use Rattle.rules.specs.Sheet.{Bytes, Line, narrow, print}
 use Rattle.rules.specs.declared.Format.{Format}
 use Rattle.rules.specs.Name.{Schema, Name}
-use Rattle.rules.specs.Judge.{Verdict, accept, refuse, then}
+use Rattle.rules.specs.Judge.{Verdict, accept, refuse, refuseIf, then}
 use Rattle.rules.specs.Directory.{Directory, entries}
 use Rattle.rules.specs.Permission.{Item, permissionsOf, Read, ReturnDN, DiscloseOnError, Compare, FilterMatch}
 use Rattle.rules.specs.Decision.{Setting, Requester, entry, ofType, ofValue, granted}
 use Rattle.rules.specs.Request.{Operation, read, compare, list, search, Request, requestOf}
 use Rattle.rules.specs.Answer.{answer}
-use Rattle.rules.specs.Serve.{settingOf, ground, exchange, tighter, capped, within, fitting, respond, serveAt, serve}
+use Rattle.rules.specs.Serve.{settingOf, ground, exchange, above, tighter, capped, within, fitting, respond, judgedAt, serveAt, serve}
 use Rattle.rules.specs.declared.Limits.{Limits}
 use Rattle.rules.specs.Shown.{ofEntries, ofTypes, ofValues, sight, shown, Alike}
 use Rattle.rules.specs.Laws.Tests.{or-right}
@@ -68,10 +68,9 @@ then-cong : {A B : Type 0} (v : Verdict A) (f g : A → Verdict B) → ((a : A) 
 then-cong (accept a) f g h = h a refl
 then-cong (refuse n) f g h = refl
 
--- the theorem: for every permission sheet `p`, request sheet `q`, program and buffer length `room`
-pub demand-3-at : (f : Format) (k : Limits) (d₁ d₂ p q : Bytes) (room : ℕ) → Alike f p q d₁ d₂ → serveAt f k d₁ p q room ≡ serveAt f k d₂ p q room
-unfolding serveAt ground
-demand-3-at f k d₁ d₂ p q room alike = rw (alike .accepted₁, alike .accepted₂) inner
+judged-alike : (f : Format) (k : Limits) (d₁ d₂ p q : Bytes) (room : ℕ) → Alike f p q d₁ d₂ → judgedAt f k d₁ p q room ≡ judgedAt f k d₂ p q room
+unfolding judgedAt ground
+judged-alike f k d₁ d₂ p q room alike = rw (alike .accepted₁, alike .accepted₂) inner
   where
     D₁ : Directory
     D₁ = alike .first
@@ -98,8 +97,13 @@ demand-3-at f k d₁ d₂ p q room alike = rw (alike .accepted₁, alike .accept
     inner : from (D₁ .schema) D₁ ≡ from (D₂ .schema) D₂
     inner = by (permissionsOf f (D₁ .schema) p) refl ∙ ap (λ (S : Schema). from S D₂) (alike .schema)
 
-pub demand-3 : (d₁ d₂ p q : Bytes) (room : ℕ) → Alike narrow p q d₁ d₂ → serve d₁ p q room ≡ serve d₂ p q room
-demand-3 = demand-3-at narrow exchange
+-- the theorem: for every permission sheet `p`, request sheet `q`, program and buffer length `room`
+pub demand-3-at : (f : Format) (k : Limits) (d₁ d₂ p q : Bytes) (room : ℕ) → Alike f p q d₁ d₂ → serveAt f k d₁ p q room ≡ serveAt f k d₂ p q room
+unfolding serveAt
+demand-3-at f k d₁ d₂ p q room alike = ap (refuseIf (above k room) 33) (judged-alike f k d₁ d₂ p q room alike)
+
+pub demand-3 : (k : Limits) (d₁ d₂ p q : Bytes) (room : ℕ) → Alike narrow p q d₁ d₂ → serve k d₁ p q room ≡ serve k d₂ p q room
+demand-3 = demand-3-at narrow
 
 -- an exchange's request is asked as it stands
 pub within-exchange : (r : Request) → within exchange r ≡ r

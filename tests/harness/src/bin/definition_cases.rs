@@ -7,6 +7,7 @@
 
 use harness::cases::{Case, Cases};
 use harness::random::{number_from_environment, Random};
+use peer::caller::Caller;
 use std::fmt::Write as _;
 use std::fs;
 use std::io;
@@ -66,6 +67,7 @@ fn definitions(specs: &Path) -> io::Result<Vec<(String, Vec<String>)>> {
 
 struct Theorem {
     number: usize,
+    caller: Caller,
     case: Case,
     room: usize,
     expected: Result<Vec<u8>, u32>,
@@ -76,11 +78,12 @@ fn theorems(total: usize) -> Vec<Theorem> {
     let mut theorems = Vec::new();
     while theorems.len() < total {
         let case = cases.next_case();
+        let caller = Caller::ALL[theorems.len() % Caller::ALL.len()];
         let answer = peer::serve(&case.dir, &case.perm, &case.req, usize::MAX);
-        let room = cases.room(answer.as_ref().map_or(200, Vec::len));
+        let room = cases.room(caller, answer.as_ref().map_or(200, Vec::len));
         if case.dir.len() + case.perm.len() + case.req.len() <= BYTES {
-            let expected = peer::serve(&case.dir, &case.perm, &case.req, room);
-            theorems.push(Theorem { number: theorems.len() + 1, case, room, expected });
+            let expected = peer::serve_for(caller, &case.dir, &case.perm, &case.req, room);
+            theorems.push(Theorem { number: theorems.len() + 1, caller, case, room, expected });
         }
     }
     theorems
@@ -101,8 +104,9 @@ impl Theorem {
             Err(refusal) => format!("refuse {}", refusal + u32::from(wrong)),
         };
         let mut text = format!(
-            "case-{} : serve {} {} {} {} ≡ {expected}\nunfolding",
+            "case-{} : serve {} {} {} {} {} ≡ {expected}\nunfolding",
             self.number,
+            limits(self.caller),
             bytes(&self.case.dir),
             bytes(&self.case.perm),
             bytes(&self.case.req),
@@ -115,6 +119,14 @@ impl Theorem {
         }
         let _ = writeln!(text, "\ncase-{} = refl\n", self.number);
         text
+    }
+}
+
+/// The definition of a program's limits.
+fn limits(caller: Caller) -> &'static str {
+    match caller {
+        Caller::Exchange => "exchange",
+        Caller::Panel => "panel",
     }
 }
 
@@ -150,7 +162,7 @@ fn write_crate(
     let mut header = String::from(
         "use mathlib.Core.Path.{_≡_, refl}\nuse mathlib.Core.List.{[], _∷_}\n\
          use Rattle.rules.specs.Examples.{bytesOf}\nuse Rattle.rules.specs.Judge.{accept, refuse}\n\
-         use Rattle.rules.specs.Serve.{serve}\n",
+         use Rattle.rules.specs.Serve.{exchange, panel, serve}\n",
     );
     for (module, _) in opened {
         let _ = writeln!(header, "use Rattle.rules.specs.{module}");

@@ -1,5 +1,5 @@
-//! Compares the server under test with the peer over many cases, and shows by planted faults
-//! that a wrong server is found.
+//! Compares the server under test with the peer over many cases, each as the exchange and as a
+//! panel, and shows by planted faults that a wrong server is found.
 //!
 //! SEED and CASES (100,000) come from the environment; KEEP names a folder for the files dir,
 //! perm and request of the first case that differs.
@@ -9,6 +9,7 @@ use harness::lent::{ask, Outcome};
 use harness::random::{number_from_environment, Random};
 use harness::report::Report;
 use harness::server::{subject, Peer, REFUSALS};
+use peer::caller::{Caller, PANEL_ROOM};
 use peer::fault::Fault;
 use std::collections::BTreeMap;
 use std::path::Path;
@@ -31,27 +32,32 @@ fn main() -> ExitCode {
     for number in 1..=total {
         let case = cases.next_case();
         let Case { dir, perm, req } = &case;
-        let answer = peer::serve(dir, perm, req, usize::MAX);
-        let room = cases.room(answer.as_ref().map_or(200, Vec::len));
-        let expected = ask(&reference, dir, perm, req, room);
-        let given = ask(subject.as_ref(), dir, perm, req, room);
-        let good = given == expected && expected.is_sound() && given.is_sound();
-        if !good && report.failed() == 0 {
-            keep(&case);
-        }
-        report.case(good, || describe(number, &case, room, &expected, &given));
-        *met.entry(expected.reply.refusal).or_default() += 1;
-        if let Ok(answer) = expected.answer() {
-            // Operation, outcome and cut of line 30.
-            *outcomes.entry((answer[11], answer[17], answer[23])).or_default() += 1;
-        }
-        hidden.retain(|&fault| {
-            let same = ask(&Peer { fault: Some(fault) }, dir, perm, req, room) == expected;
-            if !same {
-                found.push((fault, number));
+        for caller in Caller::ALL {
+            let longest = if caller == Caller::Panel { PANEL_ROOM } else { usize::MAX };
+            let answer = peer::serve_for(caller, dir, perm, req, longest);
+            let room = cases.room(caller, answer.map_or(200, |answer| answer.len()));
+            let expected = ask(&reference, caller, dir, perm, req, room);
+            let given = ask(subject.as_ref(), caller, dir, perm, req, room);
+            let good = given == expected && expected.is_sound() && given.is_sound();
+            if !good && report.failed() == 0 {
+                keep(&case);
             }
-            same
-        });
+            let lent = format!("case {number}, {caller:?}, room {room}");
+            report.case(good, || describe(&lent, &case, &expected, &given));
+            *met.entry(expected.reply.refusal).or_default() += 1;
+            if let Ok(answer) = expected.answer() {
+                // Operation, outcome and cut of line 30.
+                *outcomes.entry((answer[11], answer[17], answer[23])).or_default() += 1;
+            }
+            hidden.retain(|&fault| {
+                let wrong = Peer { fault: Some(fault) };
+                let same = ask(&wrong, caller, dir, perm, req, room) == expected;
+                if !same {
+                    found.push((fault, number));
+                }
+                same
+            });
+        }
     }
 
     println!("replies by refusal number (0: answered): {met:?}");
@@ -86,10 +92,10 @@ fn keep(case: &Case) {
     }
 }
 
-fn describe(number: u64, case: &Case, room: usize, expected: &Outcome, given: &Outcome) -> String {
+fn describe(lent: &str, case: &Case, expected: &Outcome, given: &Outcome) -> String {
     let text = |sheet: &[u8]| String::from_utf8_lossy(&sheet[..sheet.len().min(4000)]).into_owned();
     format!(
-        "case {number}, room {room}\n-- dir\n{}-- perm\n{}-- request\n{}-- expected {}\n-- given {}",
+        "{lent}\n-- dir\n{}-- perm\n{}-- request\n{}-- expected {}\n-- given {}",
         text(&case.dir),
         text(&case.perm),
         text(&case.req),

@@ -1,8 +1,6 @@
 //! The examples of document 01, each through the server.
 
-use harness::explicit::{
-    asking, deny, grant, named, person, search_root, Explicit, Situation, ROOM,
-};
+use harness::explicit::{asking, deny, grant, named, person, search_root, Explicit, Situation};
 use harness::limits::{deep_directory, open, open_permissions, wide_directory};
 use peer::builder::{
     DirectorySheet, EntryLines, FilterLines, ItemLines, OperationLines, RequestSheet, Selected,
@@ -86,7 +84,8 @@ fn counts(test: &mut Explicit) {
     test.expect("12, depth 8", 0, &answered(deep_directory(8)), &perm, &list(0));
     test.expect("12, depth 9", 3, &answered(deep_directory(9)), &perm, &list(0));
     for (count, cut) in [(2, b'0'), (3, b'1')] {
-        let (reply, sound) = test.ask(&answered(wide_directory(count)), &perm, &list(2), ROOM);
+        let directory = answered(wide_directory(count));
+        let (reply, sound) = test.ask(&directory, &perm, &list(2), test.room());
         let good = sound && reply.is_ok_and(|answer| answer.get(23) == Some(&cut));
         test.check(good, &format!("12, limit 2 with {count}"));
     }

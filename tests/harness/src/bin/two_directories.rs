@@ -1,5 +1,6 @@
-//! Asks the same requests of two directories that are alike for the requester: refusal, length
-//! and bytes must be equal. Planted faults that leak show that a leak is found.
+//! Asks the same requests of two directories that are alike for the requester, as the exchange and
+//! as a panel: refusal, length and bytes must be equal. Planted faults that leak show that a leak
+//! is found.
 //!
 //! SEED and PAIRS (4,000) come from the environment.
 
@@ -11,6 +12,7 @@ use harness::report::Report;
 use harness::requests::request_of;
 use harness::server::{subject, Peer, Server};
 use harness::shown::shown;
+use peer::caller::{Caller, PANEL_ROOM};
 use peer::fault::Fault;
 use std::collections::BTreeMap;
 use std::process::ExitCode;
@@ -45,34 +47,37 @@ fn main() -> ExitCode {
             if random.once_in(20) {
                 spoil(&mut random, &one, &mut perm, &mut req);
             }
-            let room = room(&mut random, &one, &perm, &req);
-            let differs = |server: &dyn Server| {
-                let first = ask(server, &one, &perm, &req, room);
-                let second = ask(server, &other, &perm, &req, room);
-                let accepted = |refusal| !(1..=6).contains(&refusal);
-                let good = first == second
-                    && first.is_sound()
-                    && accepted(first.reply.refusal)
-                    && accepted(second.reply.refusal);
-                (!good).then(|| (first.describe(), second.describe()))
-            };
-            let reply = ask(subject.as_ref(), &one, &perm, &req, room);
-            let outcome = reply.answer().ok().and_then(|answer| answer.get(17)).copied();
-            *replies.entry((reply.reply.refusal, outcome.unwrap_or(b'-').into())).or_default() += 1;
-            let difference = differs(subject.as_ref());
-            report.case(difference.is_none(), || {
-                let text = |sheet: &[u8]| String::from_utf8_lossy(sheet).into_owned();
-                let (first, second) = difference.unwrap_or_default();
-                let sheets = [text(&one), text(&other), text(&perm), text(&req)];
-                format!("pair {pairs}, room {room}\n{}\n{first}\n{second}", sheets.join("--\n"))
-            });
-            hidden.retain(|&fault| {
-                let leak = differs(&Peer { fault: Some(fault) }).is_some();
-                if leak {
-                    println!("planted leak {fault:?}: found at pair {pairs}");
-                }
-                !leak
-            });
+            for caller in Caller::ALL {
+                let room = room(&mut random, caller, [&one, &perm, &req]);
+                let differs = |server: &dyn Server| {
+                    let first = ask(server, caller, &one, &perm, &req, room);
+                    let second = ask(server, caller, &other, &perm, &req, room);
+                    let accepted = |refusal| !(1..=6).contains(&refusal);
+                    let good = first == second
+                        && first.is_sound()
+                        && accepted(first.reply.refusal)
+                        && accepted(second.reply.refusal);
+                    (!good).then(|| (first.describe(), second.describe()))
+                };
+                let reply = ask(subject.as_ref(), caller, &one, &perm, &req, room);
+                let outcome = reply.answer().ok().and_then(|answer| answer.get(17)).copied();
+                let seen = (reply.reply.refusal, outcome.unwrap_or(b'-').into());
+                *replies.entry(seen).or_default() += 1;
+                let difference = differs(subject.as_ref());
+                report.case(difference.is_none(), || {
+                    let text = |sheet: &[u8]| String::from_utf8_lossy(sheet).into_owned();
+                    let (first, second) = difference.unwrap_or_default();
+                    let sheets = [text(&one), text(&other), text(&perm), text(&req)].join("--\n");
+                    format!("pair {pairs}, {caller:?}, room {room}\n{sheets}\n{first}\n{second}")
+                });
+                hidden.retain(|&fault| {
+                    let leak = differs(&Peer { fault: Some(fault) }).is_some();
+                    if leak {
+                        println!("planted leak {fault:?}: found at pair {pairs}");
+                    }
+                    !leak
+                });
+            }
         }
         let seen = shown(&pair.one, &pair.permissions, &pair.requester);
         showing += u64::from(!seen.is_empty());
@@ -116,11 +121,16 @@ fn spoil(random: &mut Random, dir: &[u8], perm: &mut Vec<u8>, req: &mut Vec<u8>)
     }
 }
 
-fn room(random: &mut Random, dir: &[u8], perm: &[u8], req: &[u8]) -> usize {
+fn room(random: &mut Random, caller: Caller, [dir, perm, req]: [&[u8]; 3]) -> usize {
+    let most = match caller {
+        Caller::Exchange => ROOM,
+        Caller::Panel if random.once_in(20) => PANEL_ROOM + 1,
+        Caller::Panel => PANEL_ROOM,
+    };
     if random.percent(70) {
-        return ROOM;
+        return most;
     }
-    let answer = peer::serve(dir, perm, req, ROOM).map_or(31, |answer| answer.len());
+    let answer = peer::serve_for(caller, dir, perm, req, most).map_or(31, |answer| answer.len());
     match random.below(4) {
         0 => answer.saturating_sub(1),
         1 => answer,

@@ -1,12 +1,14 @@
-//! Each limit and each refusal of document 01, at its place: what is just allowed and what is not.
+//! Each limit and each refusal at its place: what is just allowed and what is not.
 
 mod buffer;
 mod directory;
 mod form;
+mod panel;
 mod permissions;
 mod request;
 
 use harness::explicit::Explicit;
+use peer::caller::Caller;
 use std::process::ExitCode;
 
 /// A line as kind, A, B, C and bytes.
@@ -22,10 +24,15 @@ pub fn typed(lines: &[L]) -> Vec<u8> {
 
 fn main() -> ExitCode {
     let mut test = Explicit::new("boundaries");
-    form::run(&mut test);
-    directory::run(&mut test);
-    permissions::run(&mut test);
-    request::run(&mut test);
+    for caller in Caller::ALL {
+        test.caller = caller;
+        form::run(&mut test);
+        directory::run(&mut test);
+        permissions::run(&mut test);
+        request::run(&mut test);
+    }
+    test.caller = Caller::Exchange;
     buffer::run(&mut test);
+    panel::run(&mut test);
     test.finish()
 }

@@ -39,7 +39,7 @@ fn reads(test: &Explicit, items: Vec<ItemLines>, asker: &Asker, entry: &[&str]) 
         ..asking(named(entry), OperationLines::Read(selected))
     };
     let (dir, perm) = (world.directory.to_bytes(), world.permissions.to_bytes());
-    let (reply, sound) = test.ask(&dir, &perm, &request.to_bytes(), 65_536);
+    let (reply, sound) = test.ask(&dir, &perm, &request.to_bytes(), test.room());
     sound && reply.is_ok_and(|answer| answer.get(17) == Some(&b'0'))
 }
 
@@ -176,7 +176,7 @@ fn read_lines(test: &Explicit, items: Vec<ItemLines>) -> String {
     let world = Situation::new(vec![person(0, "Ann", &[(3, "1"), (3, "2")])], all);
     let request = asking(named(&["Ann"]), OperationLines::Read(Selected::ALL));
     let (dir, perm) = (world.directory.to_bytes(), world.permissions.to_bytes());
-    let (reply, _) = test.ask(&dir, &perm, &request.to_bytes(), 65_536);
+    let (reply, _) = test.ask(&dir, &perm, &request.to_bytes(), test.room());
     let answer = reply.unwrap_or_default();
     // Values, or the outcome.
     let text = String::from_utf8_lossy(&answer).into_owned();

@@ -5,16 +5,23 @@ mod decisions;
 mod editions;
 mod filters;
 mod operations;
+mod panels;
 
 use harness::explicit::Explicit;
+use peer::caller::Caller;
 use std::process::ExitCode;
 
 fn main() -> ExitCode {
     let mut test = Explicit::new("outcomes");
-    decisions::run(&mut test);
-    filters::run(&mut test);
-    operations::run(&mut test);
-    blanks::run(&mut test);
-    editions::run(&mut test);
+    // Few entries and short answers, so a panel gets what the exchange gets.
+    for caller in Caller::ALL {
+        test.caller = caller;
+        decisions::run(&mut test);
+        filters::run(&mut test);
+        operations::run(&mut test);
+        blanks::run(&mut test);
+        editions::run(&mut test);
+    }
+    panels::run(&mut test);
     test.finish()
 }
