@@ -13,7 +13,6 @@ ghost use Prim.Native.Nat.{_≤_};
 ghost use lib.ListN.{length, drop};
 ghost use Rattle.rules.specs.Value as Value;
 ghost use Rattle.rules.specs.Value.{text, folded, normalPiece};
-ghost use Rattle.value_text.specs.Walk.{isEqual};
 
 // Whether the syntax allows the value.
 pub fn fits(syntax: u64, v: &[u8]) -> bool
@@ -32,23 +31,12 @@ pub fn fits(syntax: u64, v: &[u8]) -> bool
     true
 }
 
-// Equal?
-fn equal(order: Order) -> bool
-    ensures { λ r. ⌜ r ≡ isEqual order ⌝ }
-{
-    match order {
-        Order::Equal => true,
-        Order::Less => false,
-        Order::Greater => false,
-    }
-}
-
 // The equality matching rule: whether two values that the syntax allows are equal.
 pub fn same(syntax: u64, v: &[u8], w: &[u8]) -> bool
     ensures { λ r. ⌜ r ≡ Value.same syntax (now (v .entry)) (now (w .entry)) ⌝ }
 {
     if syntax == TEXT {
-        return equal(value_text::order_text(v, w));
+        return value_text::same_text(v, w);
     }
     if v.len() != w.len() {
         return false;

@@ -10,7 +10,7 @@ use value_collation::small;
 ghost use mathlib.Core.Path.{_≡_};
 ghost use Prim.Native.Nat.{_≤_};
 ghost use lib.ListN.{length};
-ghost use Rattle.rules.specs.Value.{text, normal, orderBytes};
+ghost use Rattle.rules.specs.Value.{text, normal, same, orderBytes};
 ghost use Rattle.value_text.specs.Walk as Walk;
 
 // The order of two bytes that differ.
@@ -116,4 +116,35 @@ pub fn order_text(v: &[u8], w: &[u8]) -> Order
         }
     }
     order_after(v, w)
+}
+
+// Equal?
+fn equal(order: Order) -> bool
+    ensures { λ r. ⌜ r ≡ Walk.isEqual order ⌝ }
+{
+    match order {
+        Order::Equal => true,
+        Order::Less => false,
+        Order::Greater => false,
+    }
+}
+
+// Are two texts equal? Mostly the first bytes tell that they are not.
+pub fn same_text(v: &[u8], w: &[u8]) -> bool
+    ensures { λ r. ⌜ r ≡ same text (now (v .entry)) (now (w .entry)) ⌝ }
+{
+    if 0 < v.len() {
+        if 0 < w.len() {
+            let a = small(v[0]);
+            let b = small(w[0]);
+            if a != b {
+                if a != BLANK {
+                    if b != BLANK {
+                        return false;
+                    }
+                }
+            }
+        }
+    }
+    equal(order_after(v, w))
 }

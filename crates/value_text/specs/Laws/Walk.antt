@@ -184,6 +184,14 @@ module _ (v w : Bytes) (hv : 0 < length v) (hw : 0 < length w) (x y : ℕ) (is :
 
 -- ---- equality by order
 
+-- bytes that differ tell that texts are not equal
+pub apart-unequal : (x y : ℕ) → isEqual (apart x y) ≡ false
+apart-unequal x y = go (ltb x y)
+  where
+    go : (t : Bool) → isEqual (cond t Less Greater) ≡ false
+    go true = refl
+    go false = refl
+
 pub same-order : (v w : Bytes) → same text v w ≡ isEqual (orderBytes (normal text v) (normal text w))
 unfolding same identical orderBytes
 same-order v w = go (normal text v) (normal text w)
