@@ -7,7 +7,7 @@ use lib.ListN.{length}
 use Rattle.rules.specs.Sheet.{Bytes}
 use Rattle.rules.specs.Value.{order}
 use Rattle.rules.specs.FilterItem.{isLess}
-use Rattle.tables.specs.Held.{rankAt, placeAt, sizeAt, bytesAt}
+use Rattle.tables.specs.Held.{ROWS, rankAt, placeAt, sizeAt, bytesAt}
 use Rattle.filter_item.specs.Matchable.{bitAt}
 
 -- one of the `n` numbers from `i` on passes
@@ -33,6 +33,6 @@ besideBy s least v u = cond least (not (isLess (order s u v))) (not (isLess (ord
 
 -- the bytes of the rows from `first` to `end` are parts of the directory, and few
 pub record RowsWithin (d : Bytes) (held : List ℕ) (first end : ℕ) : Type 0 where
-  pub room : end ≤ 2115
+  pub room : end ≤ ROWS
   pub part : (i : ℕ) → first ≤ i → i < end → placeAt held i + sizeAt held i ≤ length d
   pub short : (i : ℕ) → first ≤ i → i < end → sizeAt held i ≤ 64

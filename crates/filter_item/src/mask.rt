@@ -10,12 +10,12 @@ ghost use mathlib.Core.Path.{_≡_};
 ghost use mathlib.Core.Bool.{not, _&&_};
 ghost use Prim.Native.Nat.{_≤_, _<_};
 ghost use lib.Dec.{ltb};
-ghost use Rattle.filter_lines.specs.Lines.{typeRank};
+ghost use Rattle.filter_lines.specs.Lines.{LINES, typeRank};
 ghost use Rattle.filter_item.specs.Mask.{operatorAt, Masks};
 
 // Is line `k` an item, of a type with a bit?
 fn sought(rows: &[u64; FILTER], k: usize) -> bool
-    requires { ⌜ k < 265 ⌝ }
+    requires { ⌜ k < LINES ⌝ }
     ensures { λ r. ⌜ r ≡ (not (operatorAt (now (rows .entry)) k) && ltb (typeRank (now (rows .entry)) k) 64) ⌝ }
 {
     let kind = rows[k * LINE];
@@ -30,7 +30,7 @@ fn sought(rows: &[u64; FILTER], k: usize) -> bool
 
 // The mask of the ranks that occur in the filter.
 pub fn mask(rows: &[u64; FILTER], lines: usize) -> u64
-    requires { ⌜ lines ≤ 265 ⌝ }
+    requires { ⌜ lines ≤ LINES ⌝ }
     ensures { λ r. ⌜ Masks (now (rows .entry)) lines r ⌝ }
 {
     let mut x: u64 = 0;

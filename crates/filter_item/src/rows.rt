@@ -15,7 +15,7 @@ ghost use Rattle.rules.specs.Value as Value;
 ghost use Rattle.rules.specs.FilterItem.{isLess};
 ghost use Rattle.rules.specs.Laws.Value.{reversed};
 ghost use Rattle.name.specs.Schema.{equalBy};
-ghost use Rattle.tables.specs.Held.{bytesAt};
+ghost use Rattle.tables.specs.Held.{ROWS, bytesAt};
 ghost use Rattle.filter_lines.specs.Lines.{RowsPlaced, piecesAt};
 ghost use Rattle.filter_item.specs.Rows.{matchableAt, heldRow, someRow, RowsWithin, besideBy};
 
@@ -28,7 +28,7 @@ pub struct RowsSought {
 
 // Is row `i` of the rank that is sought, and FilterMatch granted on its value?
 fn matchable_row(held: &[u64; HELD], values: &[u64; 34], sought: RowsSought, i: usize) -> bool
-    requires { ⌜ (sought .first ≤ i) × (i < 2115) ⌝ }
+    requires { ⌜ (sought .first ≤ i) × (i < ROWS) ⌝ }
     ensures { λ r. ⌜ r ≡ matchableAt (now (held .entry)) (now (values .entry)) (sought .first) (sought .rank) i ⌝ }
 {
     if held[i] as usize != sought.rank {
@@ -40,7 +40,7 @@ fn matchable_row(held: &[u64; HELD], values: &[u64; 34], sought: RowsSought, i: 
 
 // Is the rank held?
 pub(crate) fn holds(held: &[u64; HELD], sought: RowsSought) -> bool
-    requires { ⌜ sought .end ≤ 2115 ⌝ }
+    requires { ⌜ sought .end ≤ ROWS ⌝ }
     ensures { λ r. ⌜ r ≡ heldRow (now (held .entry)) (sought .first) (sought .end) (sought .rank) ⌝ }
 {
     let rank = sought.rank;

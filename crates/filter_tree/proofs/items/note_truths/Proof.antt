@@ -8,6 +8,7 @@ use Rattle.rules.specs.Directory.{Stored, blank, entryOf}
 use Rattle.rules.specs.Decision.{Setting}
 use Rattle.rules.specs.FilterItem.{itemTruth}
 use Rattle.tables.specs.World.{Entries}
+use Rattle.filter_lines.specs.Lines.{LINES}
 use Rattle.filter_item.specs.Mask.{Masks}
 use Rattle.filter_item.specs.Matchable.{MatchableAt}
 use Rattle.filter_tree.specs.Truths.{Truths}
@@ -17,7 +18,7 @@ use Rattle.filter_tree.proofs.items.note_truths.Statement.{statement}
 use Rattle.filter_tree.proofs.items.note_truths.Tie as tie
 
 abbrev Inv-loop : tie.InvT-loop
-Inv-loop book held d types values extent k q rows lines truths₀ line₀ truths line = (line ≤ lines) × (length truths ≡ 265) × ((σ : Setting) (es : List Stored) (asked : ℕ) → Entries σ es d book held → MatchableAt σ es d book held k asked types values → Masks rows lines asked → Truths (itemTruth σ (entryOf (getD es k blank))) q rows lines line truths)
+Inv-loop book held d types values extent k q rows lines truths₀ line₀ truths line = (line ≤ lines) × (length truths ≡ LINES) × ((σ : Setting) (es : List Stored) (asked : ℕ) → Entries σ es d book held → MatchableAt σ es d book held k asked types values → Masks rows lines asked → Truths (itemTruth σ (entryOf (getD es k blank))) q rows lines line truths)
 
 abbrev μ-loop : tie.MeasureT-loop
 μ-loop book held d types values extent k q rows lines truths₀ line₀ truths line = lines - line
