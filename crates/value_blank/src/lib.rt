@@ -29,30 +29,30 @@ fn pair(v: &[u8], i: usize) -> bool
     (v[i] == BLANK) & (v[i + 1] == BLANK)
 }
 
-// Are two blanks together, at one of four places?
-fn four(v: &[u8], i: usize) -> bool
-    requires { ⌜ i + 4 < length (now v) ⌝ }
-    ensures { λ r. ⌜ r ≡ ((Blank.pairAt (now (v .entry)) i || Blank.pairAt (now (v .entry)) (i + 1)) || (Blank.pairAt (now (v .entry)) (i + 2) || Blank.pairAt (now (v .entry)) (i + 3))) ⌝ }
+// Is byte `i + 1` a blank, with another beside it?
+fn beside(v: &[u8], i: usize) -> bool
+    requires { ⌜ i + 2 < length (now v) ⌝ }
+    ensures { λ r. ⌜ r ≡ (Blank.pairAt (now (v .entry)) i || Blank.pairAt (now (v .entry)) (i + 1)) ⌝ }
 {
-    (pair(v, i) | pair(v, i + 1)) | (pair(v, i + 2) | pair(v, i + 3))
+    if v[i + 1] == BLANK {
+        return (v[i] == BLANK) | (v[i + 2] == BLANK);
+    }
+    false
 }
 
-// Has the text a run of blanks? Four places at a time, and then those left one by one.
+// Has the text a run of blanks? Every other byte is looked at, and those beside it where it is a blank.
 pub fn run(v: &[u8]) -> bool
     ensures { λ r. ⌜ r ≡ Blank.hasRun (now (v .entry)) ⌝ }
 {
     let mut i: usize = 0;
-    while 5 <= v.len() - i {
-        if four(v, i) {
+    while 2 < v.len() - i {
+        if beside(v, i) {
             return true;
         }
-        i += 4;
+        i += 2;
     }
-    while 2 <= v.len() - i {
-        if pair(v, i) {
-            return true;
-        }
-        i += 1;
+    if 1 < v.len() - i {
+        return pair(v, i);
     }
     false
 }

@@ -1,16 +1,24 @@
 // A number that equal values share and few others do, so that bytes are compared only where the numbers agree.
 use value_blank::tidied;
 use value_blank::tidy;
-use value_collation::small;
 ghost use mathlib.Core.Path.{_≡_};
 ghost use Prim.Native.Nat.{_<_, _^_};
 ghost use Rattle.value_syntax.specs.Digest as Digest;
 
-// Four bytes as one number, letters without case.
+// A byte as a number, letters without case.
+fn caseless(b: u8) -> u64
+    ensures { λ r. ⌜ (r ≡ Digest.caseless b) × (r < 2 ^ 32) ⌝ }
+{
+    let w = b as u64;
+    w | (w & 64) / 2
+}
+
+// Four bytes as one number, letters without case: all four at once.
 fn word(a: u8, b: u8, c: u8, d: u8) -> u64
     ensures { λ r. ⌜ (r ≡ Digest.word a b c d) × (r < 2 ^ 32) ⌝ }
 {
-    small(a) as u64 + small(b) as u64 * 256 + small(c) as u64 * 65536 + small(d) as u64 * 16777216
+    let w = a as u64 + b as u64 * 256 + c as u64 * 65536 + d as u64 * 16777216;
+    w | (w & 1077952576) / 2
 }
 
 // A number below 2^32 mixed into `h`.
@@ -33,7 +41,7 @@ fn mixed(seed: u64, v: &[u8]) -> u64
         i += 4;
     }
     while i < v.len() {
-        h = stirred(h, small(v[i]) as u64);
+        h = stirred(h, caseless(v[i]));
         i += 1;
     }
     h % 4294967296

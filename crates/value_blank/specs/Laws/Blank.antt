@@ -23,26 +23,35 @@ use Rattle.value_blank.specs.Blank.{pairAt, doubledAt, hasRun, isTidy, b
 first-is : (v : Bytes) (i : ℕ) → i < length v → blankFirst (drop i v) ≡ eqb (getD v i 0) 32
 first-is v i h = rw (drop-cons v i 0)
 
-pub run-one : (v : Bytes) (i j : ℕ) → j ≡ i + 1 → j < length v → hasRun (drop i v) ≡ (pairAt v i || hasRun (drop j v))
+run-one : (v : Bytes) (i j : ℕ) → j ≡ i + 1 → j < length v → hasRun (drop i v) ≡ (pairAt v i || hasRun (drop j v))
 unfolding hasRun
 run-one v i j e h = rw (e, drop-cons v i 0 (omega arith), ← first-is v (i + 1) (omega arith), add-one i)
 
-pub run-four : (v : Bytes) (i : ℕ) → i + 4 < length v
-    → hasRun (drop i v) ≡ (((pairAt v i || pairAt v (i + 1)) || (pairAt v (i + 2) || pairAt v (i + 3))) || hasRun (drop (i + 4) v))
-run-four v i h =
-    rw (
-      run-one v i (i + 1) refl (omega arith),
-      run-one v (i + 1) (i + 2) (omega arith) (omega arith),
-      run-one v (i + 2) (i + 3) (omega arith) (omega arith),
-      run-one v (i + 3) (i + 4) (omega arith) h,
-    )
-    (go (pairAt v i) (pairAt v (i + 1)) (pairAt v (i + 2)) (pairAt v (i + 3)) (hasRun (drop (i + 4) v)))
-  where
-    go : (a b c d e : Bool) → (a || (b || (c || (d || e)))) ≡ (((a || b) || (c || d)) || e)
-    go true b c d e = refl
-    go false true c d e = refl
-    go false false true d e = refl
-    go false false false d e = refl
+-- two places at a time, by the byte between them
+module _ (v : Bytes) (i : ℕ) where
+  pub run-two : i + 2 < length v → hasRun (drop i v) ≡ ((pairAt v i || pairAt v (i + 1)) || hasRun (drop (i + 2) v))
+  run-two h =
+      rw (run-one v i (i + 1) refl (omega arith), run-one v (i + 1) (i + 2) (omega arith) h) (go (pairAt v i) (pairAt v (i + 1)) (hasRun (drop (i + 2) v)))
+    where
+      go : (x y z : Bool) → (x || (y || z)) ≡ ((x || y) || z)
+      go true y z = refl
+      go false y z = refl
+
+  pub pairs-beside : getD v (i + 1) 0 ≡ 32 → (eqb (getD v i 0) 32 || eqb (getD v (i + 2) 0) 32) ≡ (pairAt v i || pairAt v (i + 1))
+  pairs-beside e =
+      let two : i + 1 + 1 ≡ i + 2 = omega arith in
+      rw (two, eq-eqb (getD v (i + 1) 0) 32 e) (go (eqb (getD v i 0) 32) (eqb (getD v (i + 2) 0) 32))
+    where
+      go : (x y : Bool) → (x || y) ≡ ((x && true) || y)
+      go true y = refl
+      go false y = refl
+
+  pub pairs-none : (getD v (i + 1) 0 ≡ 32 → ⊥) → (pairAt v i || pairAt v (i + 1)) ≡ false
+  pairs-none e = rw (ne-eqb (getD v (i + 1) 0) 32 e) (go (eqb (getD v i 0) 32))
+    where
+      go : (x : Bool) → ((x && false) || false) ≡ false
+      go true = refl
+      go false = refl
 
 pub run-end : (v : Bytes) (i : ℕ) → length v - i < 2 → hasRun (drop i v) ≡ false
 run-end v i h = go (drop i v) (rw length-drop h)
@@ -55,6 +64,13 @@ run-end v i h = go (drop i v) (rw length-drop h)
         off true = refl
         off false = refl
     go (b ∷ (c ∷ cs)) h = absurd (omega arith)
+
+pub run-last : (v : Bytes) (i : ℕ) → length v - i ≤ 2 → 1 < length v - i → hasRun (drop i v) ≡ pairAt v i
+run-last v i m h = run-one v i (i + 1) refl (omega arith) ∙ rw (run-end v (i + 1) (omega arith)) (go (pairAt v i))
+  where
+    go : (t : Bool) → (t || false) ≡ t
+    go true = refl
+    go false = refl
 
 -- ---- a text that is tidied as it stands
 

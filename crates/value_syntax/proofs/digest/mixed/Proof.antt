@@ -35,7 +35,7 @@ loop2-holds c = (search needs, sym (mixed-few (c .before .before .before .args .
 loop2-again : tie.Need-loop2-again Inv-loop μ-loop Inv-loop2 μ-loop2
 loop2-again c = (
   search needs,
-  rw (c .stirred2 .ensures, c .before .small .ensures) (sym (singly-on _ _ _ (c .before .before .before .loop2-test .taken)) ∙ c .before .before .before .before .loop2 .inv .1),
+  rw (c .stirred2 .ensures, c .before .caseless .ensures .0) (sym (singly-on _ _ _ (c .before .before .before .loop2-test .taken)) ∙ c .before .before .before .before .loop2 .inv .1),
 )
 
 returns : tie.Need-returns Inv-loop μ-loop Inv-loop2 μ-loop2
@@ -46,5 +46,4 @@ mixed-spec =
     tie.close
     (tie.spec Inv-loop μ-loop Inv-loop2 μ-loop2 loop-holds (λ c. search needs) (λ c. search needs) (λ c. search needs) (λ c. search needs) (λ c. search needs)
     (λ c. search needs) (λ c. search needs) (λ c. search needs) (λ c κs. search needs) (λ c κs. search needs) (λ c. search needs) (λ c. search needs)
-    loop-again loop2-holds (λ c. search needs) (λ c κs. search needs) (λ c. search needs) (λ c κs. search needs) (λ c. search needs) (λ c. search needs)
-    loop2-again returns)
+    loop-again loop2-holds (λ c. search needs) (λ c κs. search needs) (λ c κs. search needs) (λ c. search needs) (λ c. search needs) loop2-again returns)

@@ -144,7 +144,8 @@ fn crowded(number: u32) -> Vec<u8> {
     let values = VALUES.get_or_init(|| {
         let all =
             (0..1 << 28).map(|number| [21, 14, 7, 0].map(|bits| (number >> bits) as u8 | 128));
-        all.filter(|value| digest(value) % 2048 == 0).take(1_800).collect()
+        let apart = all.filter(|value| value.map(caseless) == *value);
+        apart.filter(|value| digest(value) % 2048 == 0).take(1_800).collect()
     });
     values[number as usize].to_vec()
 }
@@ -180,7 +181,7 @@ fn colliding_blocks(sum: u64) -> [[u8; 8]; 4] {
         let Ok(second) = u32::try_from(second) else { continue };
         let [a, b, c, d] = first;
         let [e, f, g, h] = second.to_le_bytes();
-        if [e, f, g, h].iter().all(|byte| *byte >= 128) {
+        if [e, f, g, h].iter().all(|byte| *byte >= 128 && caseless(*byte) == *byte) {
             blocks.push([a, b, c, d, e, f, g, h]);
         }
     }
@@ -196,9 +197,14 @@ fn seed() -> u64 {
     258 * 64 + u64::from(KEY) - 1
 }
 
+/// A byte as the digest takes it, letters without case.
+fn caseless(byte: u8) -> u8 {
+    byte | (byte & 64) >> 1
+}
+
 fn digest_from(sum: u64, value: &[u8]) -> u64 {
-    let small = value.to_ascii_lowercase();
-    let words = small.chunks_exact(4);
+    let bytes: Vec<u8> = value.iter().map(|byte| caseless(*byte)).collect();
+    let words = bytes.chunks_exact(4);
     let left = words.remainder();
     let words = words.map(|word| u64::from(u32::from_le_bytes([word[0], word[1], word[2], word[3]])));
     let numbers = words.chain(left.iter().map(|byte| u64::from(*byte)));
