@@ -1,7 +1,9 @@
-/* The hotel directory server: three sheets and a lent buffer in, one reply out, for the exchange and for corridor panels. Link with libdinghy.a. */
+/* The hotel directory server: three sheets and a lent buffer in, one reply out, for the exchange and for corridor panels; and a directory sheet
+   moved to nine columns and back. Link with libdinghy.a. */
 #ifndef DINGHY_H
 #define DINGHY_H
 
+#include <stdbool.h>
 #include <stddef.h>
 #include <stdint.h>
 
@@ -16,7 +18,7 @@ struct dinghy_reply {
 };
 
 /* Refusals, by who has to mend what. A panel's buffer comes first, then directory, permissions, request, and the answer's length; within a
-   sheet its length, then the first faulty line from the top, and on that line the lowest number. */
+   sheet its length, then the first faulty line from the top, and on that line the lowest number. A move gives those of the directory, then its own. */
 enum dinghy_refusal {
     DINGHY_ANSWERED = 0,
 
@@ -40,8 +42,12 @@ enum dinghy_refusal {
     DINGHY_REQUEST_ORDER = 23,
 
     /* the calling program */
-    DINGHY_BUFFER_TOO_SHORT = 31,     /* the answer is longer than the lent buffer */
-    DINGHY_PANEL_BUFFER_TOO_LONG = 33 /* a panel lends more than 1,024 bytes; no sheet was judged */
+    DINGHY_BUFFER_TOO_SHORT = 31,      /* the answer is longer than the lent buffer */
+    DINGHY_PANEL_BUFFER_TOO_LONG = 33, /* a panel lends more than 1,024 bytes; no sheet was judged */
+
+    /* a move */
+    DINGHY_TYPE_TOO_HIGH = 35,  /* a type above 999 on the way back to six columns */
+    DINGHY_MOVED_TOO_LONG = 36  /* the moved sheet is longer than the lent buffer, or than 65,536 bytes */
 };
 
 /* For the exchange. Answers one request over one directory under one permission sheet, and writes the answer at the front of out.
@@ -67,6 +73,25 @@ struct dinghy_reply dinghy_serve_panel(const uint8_t *directory, size_t director
                                        const uint8_t *permissions, size_t permissions_length,
                                        const uint8_t *request, size_t request_length,
                                        uint8_t *out, size_t out_length);
+
+/* The same two, for a caller that names the form of its sheets. With wide, each number has nine columns and types go to 9,999,999, in the directory,
+   the permissions, the request and the answer alike; without it, six columns and 999, as above. Sizes in bytes are the same in both forms. */
+struct dinghy_reply dinghy_serve_form(const uint8_t *directory, size_t directory_length,
+                                      const uint8_t *permissions, size_t permissions_length,
+                                      const uint8_t *request, size_t request_length,
+                                      uint8_t *out, size_t out_length, bool wide);
+
+struct dinghy_reply dinghy_serve_panel_form(const uint8_t *directory, size_t directory_length,
+                                            const uint8_t *permissions, size_t permissions_length,
+                                            const uint8_t *request, size_t request_length,
+                                            uint8_t *out, size_t out_length, bool wide);
+
+/* A directory sheet moved from six columns to nine, and back: the moved sheet stands at the front of out, and its length is in the reply. The duties of
+   the caller, and what holds of out, are those of dinghy_serve. There and back, if neither is refused, gives the same bytes. A sheet of six columns
+   that has n lines gets 15 n bytes longer. */
+struct dinghy_reply dinghy_widen(const uint8_t *sheet, size_t sheet_length, uint8_t *out, size_t out_length);
+
+struct dinghy_reply dinghy_narrow(const uint8_t *sheet, size_t sheet_length, uint8_t *out, size_t out_length);
 
 #ifdef __cplusplus
 }

@@ -5,18 +5,17 @@
 #include <stdio.h>
 #include <string.h>
 
-#define HEAD 30
-
 /* The length of the line at a place, or of what is left if it is no line. */
 static size_t line_length(const struct sheet *sheet, size_t place) {
     size_t left = sheet->length - place;
-    if (left <= HEAD) return left;
+    size_t head = sheet_head(sheet);
+    if (left <= head) return left;
     size_t value = 0;
-    for (size_t i = 24; i < HEAD; i++) {
+    for (size_t i = head - sheet->width; i < head; i++) {
         uint8_t byte = sheet->bytes[place + i];
         if (byte >= '0' && byte <= '9') value = value * 10 + (size_t)(byte - '0');
     }
-    return left < HEAD + value + 1 ? left : HEAD + value + 1;
+    return left < head + value + 1 ? left : head + value + 1;
 }
 
 /* The start of a random line. */
@@ -32,15 +31,20 @@ static size_t some_line(const struct sheet *sheet) {
 static void write_column(struct sheet *sheet, size_t place) {
     static const unsigned numbers[] = {0,  1,  2,   3,   4,   5,   7,   8,   9,   10,  11,    12,
                                        15, 16, 17,  20,  22,  27,  28,  63,  64,  65,  127,   128,
-                                       255, 256, 257, 999, 1000, 65535, 99999, 100000, 999999};
+                                       255, 256, 257, 999, 1000, 65535, 99999, 100000, 999999,
+                                       1000000, 9999999, 10000000, 999999999};
     uint8_t text[16];
-    snprintf((char *)text, sizeof text, "%6u", PICK(numbers));
-    if (place + HEAD <= sheet->length) memcpy(sheet->bytes + place + 6 * random_below(5), text, 6);
+    size_t width = sheet->width;
+    unsigned number = PICK(numbers);
+    snprintf((char *)text, sizeof text, "%*u", (int)width, width == NARROW ? number % 1000000 : number);
+    if (place + sheet_head(sheet) <= sheet->length)
+        memcpy(sheet->bytes + place + width * random_below(5), text, width);
 }
 
 static void damage_line(struct sheet *sheet, const struct sheet *other) {
     size_t place = some_line(sheet);
     size_t length = line_length(sheet, place);
+    size_t head = sheet_head(sheet);
     size_t from = some_line(other);
     uint8_t kept[256];
     size_t borrowed = line_length(other, from);
@@ -60,8 +64,8 @@ static void damage_line(struct sheet *sheet, const struct sheet *other) {
         sheet_splice(sheet, place, length, kept, borrowed);
         break;
     case 4: /* The value changed. */
-        if (length > HEAD + 1)
-            sheet->bytes[place + HEAD + random_below(length - HEAD - 1)] = (uint8_t)random_word();
+        if (length > head + 1)
+            sheet->bytes[place + head + random_below(length - head - 1)] = (uint8_t)random_word();
         break;
     default:
         write_column(sheet, place);
@@ -95,7 +99,7 @@ static void damage_bytes(struct sheet *sheet) {
 }
 
 static void any_bytes(struct sheet *sheet) {
-    static const size_t lengths[] = {0, 1, 29, 30, 31, 32, 100, 1000, 8191, 8192, 8193};
+    static const size_t lengths[] = {0, 1, 29, 30, 31, 32, 45, 46, 47, 100, 1000, 8191, 8192, 8193};
     sheet->length = PICK(lengths);
     for (size_t i = 0; i < sheet->length; i++) sheet->bytes[i] = (uint8_t)random_word();
 }

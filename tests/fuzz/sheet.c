@@ -4,15 +4,17 @@
 #include <stdlib.h>
 #include <string.h>
 
-void sheet_init(struct sheet *sheet) {
+void sheet_init(struct sheet *sheet, size_t width) {
     sheet->bytes = malloc(SHEET_MOST);
     sheet->length = 0;
+    sheet->width = width;
     if (sheet->bytes == NULL) exit(2);
 }
 
 void sheet_copy(struct sheet *to, const struct sheet *from) {
     memcpy(to->bytes, from->bytes, from->length);
     to->length = from->length;
+    to->width = from->width;
 }
 
 void sheet_splice(struct sheet *sheet, size_t place, size_t removed, const uint8_t *bytes,
@@ -24,19 +26,20 @@ void sheet_splice(struct sheet *sheet, size_t place, size_t removed, const uint8
     sheet->length += added - removed;
 }
 
+size_t sheet_head(const struct sheet *sheet) {
+    return 5 * sheet->width;
+}
+
 void sheet_line(struct sheet *sheet, unsigned kind, unsigned a, unsigned b, unsigned c,
                 const char *bytes) {
     uint8_t line[128];
     size_t length = strlen(bytes);
-    int head = snprintf((char *)line, sizeof line, "%6u%6u%6u%6u%6zu", kind, a, b, c, length);
+    int w = (int)sheet->width;
+    int head = snprintf((char *)line, sizeof line, "%*u%*u%*u%*u%*zu", w, kind, w, a, w, b, w, c, w, length);
     memcpy(line + head, bytes, length);
     line[head + length] = '\n';
     sheet_splice(sheet, sheet->length, 0, line, (size_t)head + length + 1);
 }
-
-struct sheet sample_directories[DIRECTORIES];
-struct sheet sample_permissions[PERMISSIONS];
-struct sheet sample_requests[REQUESTS];
 
 static void three_types(struct sheet *dir) {
     sheet_line(dir, 1, 1, 0, 0, "");
@@ -52,9 +55,8 @@ static void person(struct sheet *dir, unsigned parent, const char *name, const c
     sheet_line(dir, 3, 3, 0, 0, number);
 }
 
-static void directories_init(void) {
-    struct sheet *dir = sample_directories;
-    for (int i = 0; i < DIRECTORIES; i++) sheet_init(&dir[i]);
+static void directories_init(struct sheet *dir, size_t width) {
+    for (int i = 0; i < DIRECTORIES; i++) sheet_init(&dir[i], width);
     /* 0 is empty. */
     three_types(&dir[1]);
     person(&dir[1], 0, "Ann", "-7");
@@ -85,6 +87,27 @@ static void directories_init(void) {
         sheet_line(&dir[5], 3, 1, 0, 0, value);
     }
     sheet_line(&dir[5], 3, 2, 0, 0, "ann  ");
+    /* The highest types of the form. */
+    unsigned top = width == WIDE ? 9999999 : 999;
+    sheet_line(&dir[6], 1, 999, 1, 0, "");
+    if (width == WIDE) sheet_line(&dir[6], 1, 1000, 2, 0, "");
+    if (width == WIDE) sheet_line(&dir[6], 1, top, 1, 0, "");
+    sheet_line(&dir[6], 2, 0, top, 0, "Ann");
+    sheet_line(&dir[6], 3, top, 0, 0, "ann");
+    /* Of 65,536 bytes in nine columns. */
+    three_types(&dir[7]);
+    sheet_line(&dir[7], 2, 0, 1, 0, "0");
+    sheet_line(&dir[7], 3, 1, 0, 0, "0");
+    size_t line = sheet_head(&dir[7]) + 1 + 15 * (width == NARROW);
+    size_t length = 5 * line + 2;
+    for (unsigned number = 1; length + line < 65536; number++) {
+        char value[65];
+        size_t left = 65536 - length - line;
+        int digits = left > 64 + line + 8 ? 64 : (int)(left > 64 ? left - line - 10 : left);
+        snprintf(value, sizeof value, "%0*u", digits, number);
+        sheet_line(&dir[7], 3, 1, 0, 0, value);
+        length += line + (size_t)digits;
+    }
 }
 
 static void item(struct sheet *perm, unsigned precedence, unsigned grants, unsigned what,
@@ -106,9 +129,8 @@ static void named_item(struct sheet *perm, unsigned who, unsigned parts, unsigne
     sheet_line(perm, 8, 9, 0, 0, "");
 }
 
-static void permissions_init(void) {
-    struct sheet *perm = sample_permissions;
-    for (int i = 0; i < PERMISSIONS; i++) sheet_init(&perm[i]);
+static void permissions_init(struct sheet *perm, size_t width) {
+    for (int i = 0; i < PERMISSIONS; i++) sheet_init(&perm[i], width);
     /* 0 is empty. */
     item(&perm[1], 0, 1, 0, 0, "", 63);
     item(&perm[1], 0, 1, 2, 0, "", 63);
@@ -140,9 +162,8 @@ static void search(struct sheet *req, unsigned parts, unsigned limit) {
     sheet_line(req, 15, 2, 0, 0, "");
 }
 
-static void requests_init(void) {
-    struct sheet *req = sample_requests;
-    for (int i = 0; i < REQUESTS; i++) sheet_init(&req[i]);
+static void requests_init(struct sheet *req, size_t width) {
+    for (int i = 0; i < REQUESTS; i++) sheet_init(&req[i], width);
     base(&req[0], 1, 1, 0);
     sheet_line(&req[0], 12, 0, 0, 1, "");
     base(&req[1], 1, 2, 0);
@@ -184,8 +205,8 @@ static void requests_init(void) {
     }
 }
 
-void samples_init(void) {
-    directories_init();
-    permissions_init();
-    requests_init();
+void samples_init(struct samples *samples, size_t width) {
+    directories_init(samples->directories, width);
+    permissions_init(samples->permissions, width);
+    requests_init(samples->requests, width);
 }

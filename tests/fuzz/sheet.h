@@ -8,28 +8,41 @@
 /* No sheet grows beyond this. */
 #define SHEET_MOST 131072
 
+/* Columns of a number in the two forms. */
+#define NARROW 6
+#define WIDE 9
+
 struct sheet {
     uint8_t *bytes;
     size_t length;
+    /* Columns of a number. */
+    size_t width;
 };
 
-void sheet_init(struct sheet *sheet);
+/* Empty. */
+void sheet_init(struct sheet *sheet, size_t width);
+/* The form too. */
 void sheet_copy(struct sheet *to, const struct sheet *from);
 /* Replaces `removed` bytes at `place` by others, as far as there is room. */
 void sheet_splice(struct sheet *sheet, size_t place, size_t removed, const uint8_t *bytes,
                   size_t added);
+/* Bytes of a line before its value. */
+size_t sheet_head(const struct sheet *sheet);
 /* Appends a line in form. */
 void sheet_line(struct sheet *sheet, unsigned kind, unsigned a, unsigned b, unsigned c,
                 const char *bytes);
 
-#define DIRECTORIES 6
+#define DIRECTORIES 8
 #define PERMISSIONS 5
 #define REQUESTS 12
 
-extern struct sheet sample_directories[DIRECTORIES];
-extern struct sheet sample_permissions[PERMISSIONS];
-extern struct sheet sample_requests[REQUESTS];
+/* Those of one form. */
+struct samples {
+    struct sheet directories[DIRECTORIES];
+    struct sheet permissions[PERMISSIONS];
+    struct sheet requests[REQUESTS];
+};
 
-void samples_init(void);
+void samples_init(struct samples *samples, size_t width);
 
 #endif

@@ -1,31 +1,54 @@
--- Demand 3 of what runs: both entries meet their contracts, and by these two calls of one entry over directories that are alike for the requester answer alike.
-use mathlib.Core.Path.{_≡_}
-use lib.ListN.{length}
-use Rattle.rules.specs.Sheet.{Bytes, narrow}
+-- What is promised of what runs: every entry meets its contract, that is, a call returns `replyOf` and leaves `leftOf` of the verdict that the rules
+-- give; and what is proved of these verdicts: demand 3 in either form, and what #109 claims of moves and of the two forms.
+use mathlib.Core.Bool.{Bool}
+use Rattle.rules.specs.Sheet.{narrow, formatOf}
 use Rattle.rules.specs.Serve.{exchange, panel}
-use Rattle.rules.specs.Shown.{Alike}
-use Rattle.rules.specs.declared.Limits.{Limits}
-use Rattle.dinghy.specs.Alike.{SameAnswer, same-answer}
+use Rattle.rules.specs.Theorems.{PrintedBack, RoundTrip, MovedAccepted, BackAgain, FormsAlike}
+use Rattle.rules.specs.Laws.Theorems.{printed-back, round-trip, moved-accepted, back-again, forms-alike}
+use Rattle.dinghy.specs.Alike.{AnswersAlike, answers-alike}
 use Rattle.dinghy.proofs.dinghy_serve.Statement as exchange-entry
 use Rattle.dinghy.proofs.dinghy_serve.Met as exchange-met
+use Rattle.dinghy.proofs.dinghy_serve_form.Statement as exchange-form-entry
+use Rattle.dinghy.proofs.dinghy_serve_form.Met as exchange-form-met
 use Rattle.dinghy.proofs.dinghy_serve_panel.Statement as panel-entry
 use Rattle.dinghy.proofs.dinghy_serve_panel.Met as panel-met
-
--- two calls by a program of the limits `k`
-abbrev pub AnswersAlike : Limits → Type 0
-AnswersAlike k = (d₁ d₂ p q one two : Bytes) → Alike narrow p q d₁ d₂ → length one ≡ length two → SameAnswer k d₁ d₂ p q one two
+use Rattle.dinghy.proofs.dinghy_serve_panel_form.Statement as panel-form-entry
+use Rattle.dinghy.proofs.dinghy_serve_panel_form.Met as panel-form-met
+use Rattle.dinghy.proofs.dinghy_widen.Statement as widen-entry
+use Rattle.dinghy.proofs.dinghy_widen.Met as widen-met
+use Rattle.dinghy.proofs.dinghy_narrow.Statement as narrow-entry
+use Rattle.dinghy.proofs.dinghy_narrow.Met as narrow-met
 
 pub record Demand (M : Type 1) : Type 2 where
-  -- every call returns `replyOf (serve ..)` and leaves `leftOf (serve ..)` in the buffer
   pub exchange-meets : exchange-entry.statement M
-  pub exchange-alike : AnswersAlike exchange
+  pub exchange-form-meets : exchange-form-entry.statement M
   pub panel-meets : panel-entry.statement M
-  pub panel-alike : AnswersAlike panel
+  pub panel-form-meets : panel-form-entry.statement M
+  pub widen-meets : widen-entry.statement M
+  pub narrow-meets : narrow-entry.statement M
+  -- demand 3
+  pub exchange-alike : (wide : Bool) → AnswersAlike (formatOf wide) exchange
+  pub panel-alike : (wide : Bool) → AnswersAlike (formatOf wide) panel
+  -- #109
+  pub printed-back : PrintedBack
+  pub round-trip : RoundTrip
+  pub moved-accepted : MovedAccepted
+  pub back-again : BackAgain
+  pub forms-alike : FormsAlike
 
 pub demand : {M : Type 1} → Demand M
 demand {M} = record {
   exchange-meets = exchange-met.met {M = M};
-  exchange-alike = same-answer exchange;
+  exchange-form-meets = exchange-form-met.met {M = M};
   panel-meets = panel-met.met {M = M};
-  panel-alike = same-answer panel;
+  panel-form-meets = panel-form-met.met {M = M};
+  widen-meets = widen-met.met {M = M};
+  narrow-meets = narrow-met.met {M = M};
+  exchange-alike = λ w. answers-alike (formatOf w) exchange;
+  panel-alike = λ w. answers-alike (formatOf w) panel;
+  printed-back = printed-back;
+  round-trip = round-trip;
+  moved-accepted = moved-accepted;
+  back-again = back-again;
+  forms-alike = forms-alike;
 }

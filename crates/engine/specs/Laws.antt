@@ -1,4 +1,3 @@
 pub mod Serve
-pub mod Refusals
 pub mod Respond
 pub mod Within

@@ -5,8 +5,8 @@ use mathlib.Core.Option.{Option, none, some}
 use mathlib.Core.List.{List, [], _∷_, _++_, map}
 use lib.Dec.{leb, ltb, eqb}
 use lib.ListN.{length, getD}
-use Rattle.rules.specs.Lists.{any, isEmpty, lastOr, optional}
-use Rattle.rules.specs.Sheet.{Bytes, Line, lines}
+use Rattle.rules.specs.Lists.{any, isEmpty, lastOr, optional, gather}
+use Rattle.rules.specs.Sheet.{Bytes, Line, line, lines}
 use Rattle.rules.specs.declared.Format.{Format}
 use Rattle.rules.specs.Columns.{inForm, directoryForms}
 use Rattle.rules.specs.Name.{Schema, Part, part, Name, allowed, samePart}
@@ -118,6 +118,19 @@ nothing = record { schema = []; complete = []; current = none }
 -- the directory, "at most 65,536 bytes", or the refusal
 unfoldable pub directoryOf : Format → Bytes → Verdict Directory
 directoryOf f s = refuseIf (ltb 65536 (length s)) 1 (fold (step (f .top)) finish 2 nothing (lines (f .width) s))
+
+-- ---- a directory as lines: those of its sheet (#109)
+
+-- K 1
+abbrev pub schemaLines : Schema → List Line
+schemaLines S = map (λ k. line 1 (k .number) (k .syntax) 0 []) S
+
+-- K 2, then its K 3
+unfoldable pub storedLines : Stored → List Line
+storedLines e = line 2 (e .parent) (e .naming .type) 0 (e .naming .value) ∷ map (λ v. line 3 (v .type) 0 0 (v .value)) (e .values)
+
+unfoldable pub directoryLines : Directory → List Line
+directoryLines d = schemaLines (d .schema) ++ gather storedLines (d .entries)
 
 -- ---- entries as the operations see them
 

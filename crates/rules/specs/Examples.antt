@@ -25,7 +25,7 @@ use Rattle.rules.specs.Filter.{conjunction, disjunction, allUndefined, n
 use Rattle.rules.specs.Request
 use Rattle.rules.specs.FilterItem
 use Rattle.rules.specs.Answer
-use Rattle.rules.specs.Serve.{exchange, serve, above, judgedAt, serveAt, ground, tighter, capped, within, respond, fitting}
+use Rattle.rules.specs.Serve.{exchange, above, judgedAt, serveAt, ground, tighter, capped, within, respond, fitting}
 use Rattle.rules.specs.declared.Edition.{Edition}
 use Rattle.rules.specs.declared.Edition.the-variants.{LaterLogic, FirstEdition}
 use Rattle.rules.specs.declared.Truth.{Truth}
@@ -209,7 +209,7 @@ printed = sheetOf (
     ∷ "    35     0     0     0     2-7"
     ∷ [])
 
-pub example-13 : serve exchange directory permissions request 65536 ≡ accept printed
+pub example-13 : serveAt narrow exchange directory permissions request 65536 ≡ accept printed
 unfolding directory permissions request printed serveAt judgedAt above ground tighter capped within respond fitting
     Sheet.strip Sheet.digits Sheet.numeral Sheet.columnOf Sheet.whole Sheet.frontOf Sheet.linesWithin Sheet.lines Sheet.leading Sheet.column Sheet.numbers Sheet.lineBytes Sheet.print
     Columns.takes Columns.directoryForms Columns.permissionForms Columns.requestForms Columns.inForm
@@ -310,9 +310,9 @@ unfoldable pub listTwo : Bytes
 listTwo = sheetOf ("    10     0     0     0     0" ∷ "    11     3     0     2     0" ∷ [])
 
 -- "limit 2 with two matches: C 0; with three: C 1"
-pub limits : (serve exchange (flat 2) open′ listTwo 65536
+pub limits : (serveAt narrow exchange (flat 2) open′ listTwo 65536
     ≡ accept (sheetOf ("    30     3     0     0     0" ∷ "    32     3     0     0     2aa" ∷ "    32     3     0     0     2ab" ∷ [])))
-    × (serve exchange (flat 3) open′ listTwo 65536
+    × (serveAt narrow exchange (flat 3) open′ listTwo 65536
     ≡ accept (sheetOf ("    30     3     0     1     0" ∷ "    32     3     0     0     2aa" ∷ "    32     3     0     0     2ab" ∷ [])))
 unfolding flat open′ listTwo serveAt judgedAt above ground tighter capped within respond fitting
     Sheet.strip Sheet.digits Sheet.numeral Sheet.columnOf Sheet.whole Sheet.frontOf Sheet.linesWithin Sheet.lines Sheet.leading Sheet.column Sheet.numbers Sheet.lineBytes Sheet.print
@@ -341,7 +341,7 @@ readCapitals = sheetOf (
     ∷ [])
 
 -- a name is printed as stored, not as asked
-pub stored-name : serve exchange (flat 1) open′ readCapitals 65536
+pub stored-name : serveAt narrow exchange (flat 1) open′ readCapitals 65536
     ≡ accept (sheetOf ("    30     1     0     0     0" ∷ "    33     0     1     0     0" ∷ "     9     3     0     0     2aa" ∷ []))
 unfolding flat open′ readCapitals serveAt judgedAt above ground tighter capped within respond fitting
     Sheet.strip Sheet.digits Sheet.numeral Sheet.columnOf Sheet.whole Sheet.frontOf Sheet.linesWithin Sheet.lines Sheet.leading Sheet.column Sheet.numbers Sheet.lineBytes Sheet.print

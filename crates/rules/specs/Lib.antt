@@ -12,6 +12,8 @@ pub mod Request
 pub mod FilterItem
 pub mod Answer
 pub mod Serve
+pub mod Move
+pub mod Theorems
 pub mod Shown
 pub mod Places
 pub mod Numbers

@@ -1,10 +1,11 @@
--- Document 01, "Who is refused, and why": "directory comes first, then permissions, request, answer"; #107: for the exchange and for panels.
+-- Document 01, "Who is refused, and why": "directory comes first, then permissions, request, answer"; #107: for the exchange and for panels; #109: in either
+-- form.
 use Prim.Native.Nat.{ℕ}
 use mathlib.Core.Bool.{Bool, _&&_, not, cond}
 use mathlib.Core.List.{List}
 use lib.Dec.{ltb, eqb}
 use lib.ListN.{length}
-use Rattle.rules.specs.Sheet.{Bytes, narrow, print}
+use Rattle.rules.specs.Sheet.{Bytes, print}
 use Rattle.rules.specs.declared.Format.{Format}
 use Rattle.rules.specs.Judge.{Verdict, accept, refuseIf, then}
 use Rattle.rules.specs.Directory.{Directory, directoryOf, entries}
@@ -73,6 +74,3 @@ judgedAt f k d p q room = then (ground f d p) λ g. then (requestOf f q) λ r. r
 -- #107: "33, a panel's answer buffer above 1,024 bytes, before any sheet is judged"
 unfoldable pub serveAt : Format → Limits → Bytes → Bytes → Bytes → ℕ → Verdict Bytes
 serveAt f k d p q room = refuseIf (above k room) 33 (judgedAt f k d p q room)
-
-abbrev pub serve : Limits → Bytes → Bytes → Bytes → ℕ → Verdict Bytes
-serve = serveAt narrow

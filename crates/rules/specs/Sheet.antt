@@ -1,6 +1,7 @@
--- Document 01, "Sheets": a sheet of bytes as lines, and lines as bytes. The width of a column is a parameter, `w`.
+-- Document 01, "Sheets": a sheet of bytes as lines, and lines as bytes. The width of a column is a parameter, `w`: what holds of a line leaves it
+-- open (#109).
 use Prim.Native.Nat.{ℕ, zero, suc, _+_, _-_, _*_, _/_, _%_, _≤_, _<_}
-use mathlib.Core.Bool.{cond}
+use mathlib.Core.Bool.{Bool, true, false, cond}
 use mathlib.Core.List.{List, [], _∷_, _++_}
 use lib.Dec.{leb, ltb, eqb}
 use lib.ListN.{length, getD, take, drop}
@@ -28,6 +29,15 @@ line k a b c bytes = record { kind = k; a = a; b = b; c = c; bytes = bytes }
 -- "each right-justified in six columns", "types are 1 to 999"
 abbrev pub narrow : Format
 narrow = record { width = 6; top = 999 }
+
+-- #109: "nine columns a number and types up to 9,999,999"
+abbrev pub wide : Format
+wide = record { width = 9; top = 9999999 }
+
+-- #109: "the caller names the form by a yes or no"
+abbrev pub formatOf : Bool → Format
+formatOf false = narrow
+formatOf true = wide
 
 -- a format whose numbers fit those of the code
 pub record Usable (f : Format) : Type 0 where
@@ -98,6 +108,11 @@ pub data Sheet : Type 0 where
   end : Sheet
   broken : Sheet
   row : Line → Sheet → Sheet
+
+-- the lines `ls`, then the sheet `t`
+abbrev pub rows : List Line → Sheet → Sheet
+rows [] t = t
+rows (x ∷ ls) t = row x (rows ls t)
 
 abbrev pub byFront : ℕ → Bytes → (Bytes → Sheet) → Front → Sheet
 byFront w s lines (Taken k a b c l) = row (line k a b c (valueOf w l s)) (lines (restOf w l s))

@@ -1,16 +1,18 @@
 -- What the loops over a column need: the definitions of `rules.Sheet` at a place of a list, a law for each way through the code.
-use Prim.Native.Nat.{ℕ, suc, _+_, _-_, _*_, _^_, _≤_, _<_}
+use Prim.Native.Nat.{ℕ, zero, suc, _+_, _-_, _*_, _^_, _≤_, _<_}
 use mathlib.Core.Path.{_≡_, refl, sym, _∙_}
+use mathlib.Core.Bool.{Bool, true, false}
 use mathlib.Core.List.{[], _∷_}
 use native.Mathlib.Numerals.{add-one}
 use native.Mathlib.Omega.{arith}
 use native.Mathlib.Nat.{lt-of-lt-of-le, pow-suc, pow-le-pow-right}
 use lib.ListN.{length, getD, take, drop, drop-of-length-le}
 use lib.Seq.{drop-cons}
-use borrow.Author.Tests.{eq-eqb, ne-eqb, le-leb, lt-leb}
+use lib.Dec.{ltb}
+use borrow.Author.Tests.{eq-eqb, ne-eqb, le-leb, lt-leb, ltb-true, ltb-false}
 use Rattle.rules.specs.Sheet.{Bytes, strip, digits, numeral, columnOf}
 use Rattle.rules.specs.declared.Column.{Column}
-use Rattle.sheet_column.specs.Coded.{Coded}
+use Rattle.sheet_column.specs.Coded.{Coded, Spaces}
 use Rattle.rules.specs.declared.Column.the-variants.{Number, Malformed}
 
 module _ (l : Bytes) (i : ℕ) (h : i < length l) where
@@ -79,7 +81,7 @@ module _ (l : Bytes) (k : ℕ) (e : drop k l ≡ strip l) where
       more [] = refl
       more (b ∷ bs) = rw (ne-eqb (getD l k 0) 48 z)
 
--- ---- a column of six bytes
+-- ---- a column with one digit or two
 
 -- a space on the left
 pub column-space : (t : ℕ) (r : Bytes) → t ≡ 32 → columnOf (t ∷ r) ≡ columnOf r
@@ -103,12 +105,42 @@ two-digits t u h g e f =
 byte-first : (l : Bytes) (i j : ℕ) → j ≡ i + 1 → i < length l → drop i l ≡ getD l i 0 ∷ drop j l
 byte-first l i j e h = rw (e, add-one, drop-cons l i 0)
 
--- four spaces, then two bytes
-pub six-short : (l : Bytes) (i : ℕ) → i + 6 ≤ length l → getD l i 0 ≡ 32 → getD l (i + 1) 0 ≡ 32 → getD l (i + 2) 0 ≡ 32 → getD l (i + 3) 0 ≡ 32
-    → columnOf (take 6 (drop i l)) ≡ columnOf (getD l (i + 4) 0 ∷ (getD l (i + 5) 0 ∷ []))
-six-short l i h e₀ e₁ e₂ e₃ =
-    rw (byte-first l i (i + 1) refl (omega arith), byte-first l (i + 1) (i + 2) (omega arith) (omega arith), byte-first l (i + 2) (i + 3) (omega arith) (omega arith), byte-first l (i + 3) (i + 4) (omega arith) (omega arith), byte-first l (i + 4) (i + 5) (omega arith) (omega arith), byte-first l (i + 5) (i + 6) (omega arith) (omega arith))
-    (column-space _ _ e₀ ∙ column-space _ _ e₁ ∙ column-space _ _ e₂ ∙ column-space _ _ e₃)
+-- four bytes, one by one
+pub four-each : (l : Bytes) (i : ℕ) → getD l i 0 ≡ 32 → getD l (i + 1) 0 ≡ 32 → getD l (i + 2) 0 ≡ 32 → getD l (i + 3) 0 ≡ 32 → Spaces l i 4
+four-each l i e₀ e₁ e₂ e₃ zero h = let z : i + 0 ≡ i = omega arith in rw z e₀
+four-each l i e₀ e₁ e₂ e₃ (suc zero) h = e₁
+four-each l i e₀ e₁ e₂ e₃ (suc (suc zero)) h = e₂
+four-each l i e₀ e₁ e₂ e₃ (suc (suc (suc zero))) h = e₃
+four-each l i e₀ e₁ e₂ e₃ (suc (suc (suc (suc j)))) h = absurd (omega arith)
+
+-- spaces, then a column
+spaces-first : (l : Bytes) (i n m : ℕ) → i + n ≤ length l → Spaces l i n → columnOf (take (n + m) (drop i l)) ≡ columnOf (take m (drop (i + n) l))
+spaces-first l i zero m h e = let z : i + 0 ≡ i = omega arith in let o : 0 + m ≡ m = omega arith in rw (z, o)
+spaces-first l i (suc n) m h e =
+    let z : i + 0 ≡ i = omega arith in
+    let k : (i + 1) + n ≡ i + suc n = omega arith in
+    let o : suc n + m ≡ suc (n + m) = omega arith in
+    rw (o, byte-first l i (i + 1) refl (omega arith))
+    (column-space (getD l i 0) (take (n + m) (drop (i + 1) l)) (rw z at (e 0 (omega arith)))
+    ∙ spaces-first l (i + 1) n m (omega arith) (λ j g. let q : (i + 1) + j ≡ i + suc j = omega arith in rw q (e (suc j) (omega arith)))
+    ∙ rw k)
+
+-- two fours of spaces that overlap or touch
+fours : (l : Bytes) (i w : ℕ) → 6 ≤ w → w ≤ 10 → Spaces l i 4 → Spaces l (i + w - 2 - 4) 4 → Spaces l i (w - 2)
+fours l i w h g e f j k = go (ltb j 4) refl
+  where
+    go : (b : Bool) → ltb j 4 ≡ b → getD l (i + j) 0 ≡ 32
+    go true b = e j (ltb-true j 4 b)
+    go false b = let high : 4 ≤ j = ltb-false j 4 b in let q : (i + w - 2 - 4) + (j + 6 - w) ≡ i + j = omega arith in rw q at (f (j + 6 - w) (omega arith))
+
+-- spaces, then two bytes
+pub brief-column : (l : Bytes) (i w : ℕ) → 6 ≤ w → w ≤ 10 → i + w ≤ length l → Spaces l i 4 → Spaces l (i + w - 2 - 4) 4
+    → columnOf (take w (drop i l)) ≡ columnOf (getD l (i + w - 2) 0 ∷ (getD l (i + w - 2 + 1) 0 ∷ []))
+brief-column l i w h g k e f =
+    let n : w - 2 + 2 ≡ w = omega arith in
+    let m : i + (w - 2) ≡ i + w - 2 = omega arith in
+    (rw n at (spaces-first l i (w - 2) 2 (omega arith) (fours l i w h g e f)))
+    ∙ rw (m, byte-first l (i + w - 2) (i + w - 2 + 1) refl (omega arith), byte-first l (i + w - 2 + 1) (i + w - 2 + 2) (omega arith) (omega arith))
 
 -- ---- a column as one number
 

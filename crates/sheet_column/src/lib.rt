@@ -6,7 +6,7 @@ ghost use mathlib.Core.List.{[], _∷_};
 ghost use Prim.Native.Nat.{_+_, _≤_, _<_};
 ghost use lib.ListN.{length, take, drop};
 ghost use Rattle.rules.specs.Sheet.{strip, digits, columnOf};
-ghost use Rattle.sheet_column.specs.Coded.{Coded};
+ghost use Rattle.sheet_column.specs.Coded.{Coded, Spaces};
 
 // The number of spaces on the left of a column.
 fn spaces(s: &[u8]) -> usize
@@ -70,6 +70,14 @@ fn spaces_all(a: u8, b: u8, c: u8, d: u8) -> bool
     (a as u64) + (b as u64) * 256 + (c as u64) * 65536 + (d as u64) * 16777216 == 538976288
 }
 
+// Are the four bytes from `at` on spaces?
+fn four_spaces(s: &[u8], at: usize) -> bool
+    requires { ⌜ at + 4 ≤ length (now s) ⌝ }
+    ensures { λ r. ⌜ (r ≡ true → Spaces (now (s .entry)) at 4) ⌝ }
+{
+    spaces_all(s[at], s[at + 1], s[at + 2], s[at + 3])
+}
+
 // Two bytes after spaces as a number, where they are a space and a digit, or two digits with no leading zero; else 100.
 fn pair(t: u8, u: u8) -> u64
     ensures { λ r. ⌜ (r < 100 → columnOf (t ∷ (u ∷ [])) ≡ Column.Number r) ⌝ }
@@ -94,14 +102,17 @@ fn pair(t: u8, u: u8) -> u64
     y * 10 + x - 528
 }
 
-// The column of six bytes that begins at `from`, where it is a number of one digit or two, as in nearly all lines; else 100.
-// Four bytes are tested at once.
-pub fn brief(s: &[u8], from: usize) -> u64
-    requires { ⌜ from + 6 ≤ length (now s) ⌝ }
-    ensures { λ r. ⌜ (r < 100 → columnOf (take 6 (drop from (now (s .entry)))) ≡ Column.Number r) ⌝ }
+// The column of width `w` that begins at `from`, where it is a number of one digit or two, as in nearly all lines; else 100.
+// Four bytes are tested at once, the first of the column and the last before two digits: in six columns these are the same.
+pub fn brief(s: &[u8], from: usize, w: usize) -> u64
+    requires { ⌜ (6 ≤ w) × (w ≤ 10) × (from + w ≤ length (now s)) ⌝ }
+    ensures { λ r. ⌜ (r < 100 → columnOf (take w (drop from (now (s .entry)))) ≡ Column.Number r) ⌝ }
 {
-    if spaces_all(s[from], s[from + 1], s[from + 2], s[from + 3]) {
-        return pair(s[from + 4], s[from + 5]);
+    let at = from + w - 2;
+    if four_spaces(s, from) {
+        if four_spaces(s, at - 4) {
+            return pair(s[at], s[at + 1]);
+        }
     }
     100
 }

@@ -102,6 +102,28 @@ fn put_numbers(out: &mut [u8], at: usize, w: usize, k: u64, a: u64, b: u64, c: u
 }
 
 // The line of these numbers and bytes from `at` on; the position after it is returned.
+pub fn put_numbered(
+    out: &mut [u8],
+    at: usize,
+    w: usize,
+    k: u64,
+    a: u64,
+    b: u64,
+    c: u64,
+    bytes: &[u8],
+) -> usize
+    requires { ⌜ (1 ≤ w) × (at + (5 * w + 1 + length (now bytes)) ≤ length (now out)) ⌝ }
+    ensures next { λ r. ⌜ r ≡ at + (5 * w + 1 + length (now (bytes .entry))) ⌝ }
+    ensures written { λ _. ⌜ now (out .exit) ≡ putAt (now (out .entry)) at (lineBytes w (line k a b c (now (bytes .entry)))) ⌝ }
+{
+    let from = put_numbers(out, at, w, k, a, b, c, bytes.len() as u64);
+    put(out, from, bytes);
+    let end = from + bytes.len();
+    out[end] = 10;
+    end + 1
+}
+
+// The line of this kind, these numbers and bytes.
 pub fn put_line(
     out: &mut [u8],
     at: usize,
@@ -116,9 +138,5 @@ pub fn put_line(
     ensures next { λ r. ⌜ r ≡ at + (5 * w + 1 + length (now (bytes .entry))) ⌝ }
     ensures written { λ _. ⌜ now (out .exit) ≡ putAt (now (out .entry)) at (lineBytes w (line (numberOf kind) a b c (now (bytes .entry)))) ⌝ }
 {
-    let from = put_numbers(out, at, w, number_of(kind), a, b, c, bytes.len() as u64);
-    put(out, from, bytes);
-    let end = from + bytes.len();
-    out[end] = 10;
-    end + 1
+    put_numbered(out, at, w, number_of(kind), a, b, c, bytes)
 }

@@ -2,7 +2,9 @@
 
 use crate::random::Random;
 use crate::values::{unfit, variant, TEXT};
+use crate::written::in_columns;
 use peer::builder::Sheet;
+use peer::form::Form;
 use peer::sheet::Lines;
 
 /// A sheet as lines that can be written back, in form or not.
@@ -12,8 +14,8 @@ struct Raw {
     bytes: Vec<u8>,
 }
 
-fn lines_of(sheet: &[u8]) -> Vec<Raw> {
-    Lines::new(sheet)
+fn lines_of(form: Form, sheet: &[u8]) -> Vec<Raw> {
+    Lines::new(form, sheet)
         .map_while(Result::ok)
         .map(|line| Raw {
             columns: [line.kind, line.a, line.b, line.c],
@@ -22,13 +24,13 @@ fn lines_of(sheet: &[u8]) -> Vec<Raw> {
         .collect()
 }
 
-fn sheet_of(lines: &[Raw]) -> Vec<u8> {
-    let mut sheet = Sheet::new();
+fn sheet_of(form: Form, lines: &[Raw]) -> Vec<u8> {
+    let mut sheet = Sheet::new(form);
     for line in lines {
         let [kind, a, b, c] = line.columns;
         sheet.line(kind, a, b, c, &line.bytes);
     }
-    sheet.0
+    sheet.bytes
 }
 
 #[derive(Clone, Copy, PartialEq, Eq)]
@@ -39,20 +41,29 @@ pub enum Which {
 }
 
 /// Damages a sheet in one way; the result may by chance be in order.
-pub fn damage(random: &mut Random, which: Which, sheet: &mut Vec<u8>) {
+pub fn damage(random: &mut Random, form: Form, which: Which, sheet: &mut Vec<u8>) {
     match random.below(20) {
-        0..=3 => damage_bytes(random, sheet),
-        4..=11 => damage_lines(random, which, sheet),
+        0 if random.percent(50) => *sheet = in_other_form(form, sheet),
+        0..=3 => damage_bytes(random, form, sheet),
+        4..=11 => damage_lines(random, form, which, sheet),
         12 => lengthen(random, which, sheet),
-        _ if which == Which::Directory => damage_directory(random, sheet),
-        _ if which == Which::Permissions => damage_permissions(random, sheet),
-        _ => damage_filter(random, sheet),
+        _ if which == Which::Directory => damage_directory(random, form, sheet),
+        _ if which == Which::Permissions => damage_permissions(random, form, sheet),
+        _ => damage_filter(random, form, sheet),
     }
 }
 
 const BYTES: &[u8] = b"  000123456789-+\t\n\r\0aA~\xff";
 
-fn damage_bytes(random: &mut Random, sheet: &mut Vec<u8>) {
+/// The same lines in the columns of the other form.
+fn in_other_form(form: Form, sheet: &[u8]) -> Vec<u8> {
+    match form {
+        Form::Narrow => in_columns(Form::Wide, sheet),
+        Form::Wide => sheet_of(Form::Narrow, &lines_of(form, sheet)),
+    }
+}
+
+fn damage_bytes(random: &mut Random, form: Form, sheet: &mut Vec<u8>) {
     let byte = if random.percent(80) { *random.pick(BYTES) } else { random.byte() };
     let place = random.below(sheet.len() + 1);
     match random.below(6) {
@@ -62,26 +73,26 @@ fn damage_bytes(random: &mut Random, sheet: &mut Vec<u8>) {
         }
         2 => sheet.truncate(place),
         3 => sheet.push(byte),
-        4 => blank_or_zero(random, sheet),
+        4 => blank_or_zero(random, form, sheet),
         _ if place < sheet.len() => sheet[place] = byte,
         _ => {}
     }
 }
 
 /// Spoils the writing of one column: blank, with a leading zero, left-justified, or no line end.
-fn blank_or_zero(random: &mut Random, sheet: &mut [u8]) {
+fn blank_or_zero(random: &mut Random, form: Form, sheet: &mut [u8]) {
     let mut starts = Vec::new();
     let mut start = 0;
-    for line in lines_of(sheet) {
+    for line in lines_of(form, sheet) {
         starts.push(start);
-        start += 31 + line.bytes.len();
+        start += form.line() + line.bytes.len();
     }
     if starts.is_empty() {
         return;
     }
     let start = *random.pick(&starts);
-    let column = start + 6 * random.below(5);
-    let digits = &mut sheet[column..column + 6];
+    let column = start + form.column() * random.below(5);
+    let digits = &mut sheet[column..column + form.column()];
     match random.below(4) {
         0 => digits.fill(b' '),
         1 => {
@@ -97,8 +108,8 @@ fn blank_or_zero(random: &mut Random, sheet: &mut [u8]) {
     }
 }
 
-fn damage_lines(random: &mut Random, which: Which, sheet: &mut Vec<u8>) {
-    let mut lines = lines_of(sheet);
+fn damage_lines(random: &mut Random, form: Form, which: Which, sheet: &mut Vec<u8>) {
+    let mut lines = lines_of(form, sheet);
     let place = random.below(lines.len() + 1);
     match random.below(8) {
         0 if place < lines.len() => {
@@ -111,10 +122,10 @@ fn damage_lines(random: &mut Random, which: Which, sheet: &mut Vec<u8>) {
         2 if place < lines.len() => lines.swap(place, random.below(place + 1)),
         3 => lines.insert(place, any_line(random, which)),
         4 => lines.truncate(place),
-        _ if place < lines.len() => damage_line(random, which, &mut lines[place]),
+        _ if place < lines.len() => damage_line(random, form, which, &mut lines[place]),
         _ => lines.push(any_line(random, which)),
     }
-    *sheet = sheet_of(&lines);
+    *sheet = sheet_of(form, &lines);
 }
 
 const NUMBERS: &[u32] = &[
@@ -122,42 +133,59 @@ const NUMBERS: &[u32] = &[
     1000, 99_999, 100_000, 999_999,
 ];
 
+/// Of nine columns.
+const LONG_NUMBERS: &[u32] = &[1_000_000, 9_999_999, 10_000_000, 99_999_999, 999_999_999];
+
+fn number(random: &mut Random, form: Form) -> u32 {
+    let long = form.is_wide() && random.once_in(6);
+    *random.pick(if long { LONG_NUMBERS } else { NUMBERS })
+}
+
+/// Numbers at the ends of the ranges of types.
+fn types(form: Form) -> &'static [u32] {
+    match form {
+        Form::Narrow => &[0, 1, 999, 1000],
+        Form::Wide => &[0, 1, 999, 1000, 9_999_999, 10_000_000],
+    }
+}
+
 /// Numbers at the ends of the ranges of A, B and C, by kind.
-fn ends(kind: u32) -> [&'static [u32]; 3] {
+fn ends(form: Form, kind: u32) -> [&'static [u32]; 3] {
+    let types = types(form);
     match kind {
-        1 => [&[0, 1, 999, 1000], &[0, 1, 2, 3], &[1]],
-        2 => [&[0, 1, 2, 3], &[0, 1, 999, 1000], &[1]],
-        3 | 9 | 13 | 14 | 23..=26 => [&[0, 1, 999, 1000], &[1], &[1]],
+        1 => [types, &[0, 1, 2, 3], &[1]],
+        2 => [&[0, 1, 2, 3], types, &[1]],
+        3 | 9 | 13 | 14 | 23..=26 => [types, &[1], &[1]],
         4 => [&[0, 255, 256], &[0, 2, 3], &[0, 1, 2]],
         5 => [&[0, 1, 2], &[0, 8, 9], &[1]],
         6 => [&[0, 1, 2, 3, 4], &[0, 1, 8, 9], &[1]],
-        7 => [&[0, 1, 2, 3, 4, 5, 6], &[0, 1, 999, 1000], &[1]],
+        7 => [&[0, 1, 2, 3, 4, 5, 6], types, &[1]],
         8 => [&[0, 1, 63, 64], &[1], &[1]],
         10 => [&[0, 2, 3], &[0, 8, 9], &[0, 1, 2]],
         11 => [&[0, 1, 2, 3, 4, 5], &[0, 8, 9], &[0, 1, 999_999]],
         12 => [&[0, 1, 2], &[0, 1, 16, 17], &[0, 1, 2]],
         15 => [&[0, 1, 2, 3], &[1], &[1]],
         20 | 21 => [&[0, 1, 127, 128], &[1], &[1]],
-        27 => [&[0, 1, 999, 1000], &[0, 1, 8, 9], &[1]],
+        27 => [types, &[0, 1, 8, 9], &[1]],
         28 => [&[0, 1, 2, 3], &[1], &[1]],
         _ => [&[1], &[1], &[1]],
     }
 }
 
-fn damage_line(random: &mut Random, which: Which, line: &mut Raw) {
+fn damage_line(random: &mut Random, form: Form, which: Which, line: &mut Raw) {
     match random.below(11) {
         0 => line.columns[0] = kind(random, which),
         8.. => {
             let column = random.below(3);
-            let number = *random.pick(ends(line.columns[0])[column]);
+            let number = *random.pick(ends(form, line.columns[0])[column]);
             line.columns[column + 1] = number;
         }
         1..=3 => {
             let column = &mut line.columns[random.between(1, 3)];
             *column = match random.below(3) {
-                0 => (*column + 1).min(999_999),
+                0 => (*column + 1).min(form.top_number()),
                 1 => column.saturating_sub(1),
-                _ => *random.pick(NUMBERS),
+                _ => number(random, form),
             };
         }
         4 => line.bytes.clear(),
@@ -204,19 +232,24 @@ fn any_line(random: &mut Random, which: Which) -> Raw {
 }
 
 /// Faults of meaning: duplicates, missing naming values, types and values outside the schema.
-fn damage_directory(random: &mut Random, sheet: &mut Vec<u8>) {
-    let mut lines = lines_of(sheet);
+fn damage_directory(random: &mut Random, form: Form, sheet: &mut Vec<u8>) {
+    let mut lines = lines_of(form, sheet);
     let of_kind = |lines: &[Raw], kind| -> Vec<usize> {
         (0..lines.len()).filter(|&place| lines[place].columns[0] == kind).collect()
     };
     let entries = of_kind(&lines, 2);
     let values = of_kind(&lines, 3);
     if entries.is_empty() || values.is_empty() {
-        return damage_lines(random, Which::Directory, sheet);
+        return damage_lines(random, form, Which::Directory, sheet);
     }
     let entry = *random.pick(&entries);
     let value = *random.pick(&values);
-    match random.below(7) {
+    match random.below(8) {
+        7 => {
+            // The last type goes up.
+            let last = entries[0].saturating_sub(1);
+            lines[last].columns[1] = *random.pick(types(form));
+        }
         0 => {
             // A value twice.
             let mut twin = lines[value].clone();
@@ -240,7 +273,7 @@ fn damage_directory(random: &mut Random, sheet: &mut Vec<u8>) {
                 let line = any_line(random, Which::Directory);
                 lines.insert(next, line);
             } else if next < lines.len() {
-                damage_line(random, Which::Directory, &mut lines[next]);
+                damage_line(random, form, Which::Directory, &mut lines[next]);
             }
         }
         4 => lines[value].columns[1] = *random.pick(&[4, 6, 998]),
@@ -257,16 +290,16 @@ fn damage_directory(random: &mut Random, sheet: &mut Vec<u8>) {
             lines.extend([twin, held]);
         }
     }
-    *sheet = sheet_of(&lines);
+    *sheet = sheet_of(form, &lines);
 }
 
 /// Types and values outside the schema.
-fn damage_permissions(random: &mut Random, sheet: &mut Vec<u8>) {
-    let mut lines = lines_of(sheet);
+fn damage_permissions(random: &mut Random, form: Form, sheet: &mut Vec<u8>) {
+    let mut lines = lines_of(form, sheet);
     let named = |line: &Raw| matches!(line.columns, [9, ..] | [7, 3..=5, ..]);
     let places: Vec<usize> = (0..lines.len()).filter(|&place| named(&lines[place])).collect();
     if places.is_empty() {
-        return damage_lines(random, Which::Permissions, sheet);
+        return damage_lines(random, form, Which::Permissions, sheet);
     }
     let line = &mut lines[*random.pick(&places)];
     if random.percent(50) {
@@ -276,17 +309,17 @@ fn damage_permissions(random: &mut Random, sheet: &mut Vec<u8>) {
         let syntax = random.below(3) as u32;
         line.bytes = unfit(random, syntax);
     }
-    *sheet = sheet_of(&lines);
+    *sheet = sheet_of(form, &lines);
 }
 
 /// Pieces out of their place, and operators with more or fewer parts.
-fn damage_filter(random: &mut Random, sheet: &mut Vec<u8>) {
-    let mut lines = lines_of(sheet);
+fn damage_filter(random: &mut Random, form: Form, sheet: &mut Vec<u8>) {
+    let mut lines = lines_of(form, sheet);
     let wanted = if random.percent(70) { 28..=28 } else { 20..=27 };
     let places: Vec<usize> =
         (0..lines.len()).filter(|&place| wanted.contains(&lines[place].columns[0])).collect();
     if places.is_empty() {
-        return damage_lines(random, Which::Request, sheet);
+        return damage_lines(random, form, Which::Request, sheet);
     }
     let place = *random.pick(&places);
     let line = &mut lines[place];
@@ -298,7 +331,7 @@ fn damage_filter(random: &mut Random, sheet: &mut Vec<u8>) {
             lines.remove(place);
         }
     }
-    *sheet = sheet_of(&lines);
+    *sheet = sheet_of(form, &lines);
 }
 
 /// Beyond the longest a sheet may be, or just as long.

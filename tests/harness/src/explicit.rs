@@ -1,26 +1,29 @@
 //! Explicit tests: one named expectation each.
 
-use crate::lent::ask;
+use crate::lent::{ask, ask_move};
 use crate::limits::TYPES;
 use crate::report::Report;
 use crate::server::{subject, Server};
+use crate::written::{digit, in_columns, Written};
 use peer::builder::{
     DirectorySheet, EntryLines, FilterLines, ItemLines, Name, OperationLines, PermissionSheet,
     RequestSheet, Selected, Thing,
 };
-use peer::caller::{Caller, PANEL_ROOM};
+use peer::caller::{Call, Caller, PANEL_ROOM};
+use peer::form::Form;
+use peer::moves::Way;
 use std::process::ExitCode;
 
 pub struct Explicit {
     server: Box<dyn Server>,
-    /// As which calling program the server is asked.
-    pub caller: Caller,
+    /// As which calling program and in which form the server is asked.
+    pub call: Call,
     report: Report,
 }
 
 impl Explicit {
     pub fn new(name: &'static str) -> Self {
-        Explicit { server: subject(), caller: Caller::Exchange, report: Report::new(name) }
+        Explicit { server: subject(), call: Call::ALL[0], report: Report::new(name) }
     }
 
     pub fn finish(self) -> ExitCode {
@@ -29,30 +32,62 @@ impl Explicit {
 
     /// The longest buffer that the caller lends here.
     pub fn room(&self) -> usize {
-        match self.caller {
+        match self.call.caller {
             Caller::Exchange => 65_536,
             Caller::Panel => PANEL_ROOM,
         }
     }
 
     pub fn check(&mut self, good: bool, what: &str) {
-        self.report.explicit(good, &format!("{:?}: {what}", self.caller));
+        let Call { caller, form } = self.call;
+        self.report.explicit(good, &format!("{caller:?}, {form:?}: {what}"));
+    }
+
+    pub fn form(&self) -> Form {
+        self.call.form
+    }
+
+    /// The highest type.
+    pub fn top(&self) -> u32 {
+        if self.form() == Form::Wide {
+            9_999_999
+        } else {
+            999
+        }
     }
 
     /// The answer or the refusal, and whether the lent buffer was treated well.
     pub fn ask(
         &self,
-        dir: &[u8],
-        perm: &[u8],
-        req: &[u8],
+        dir: &dyn Written,
+        perm: &dyn Written,
+        req: &dyn Written,
         room: usize,
     ) -> (Result<Vec<u8>, u64>, bool) {
-        let outcome = ask(self.server.as_ref(), self.caller, dir, perm, req, room);
+        let [dir, perm, req] = [dir, perm, req].map(|sheet| sheet.written(self.form()));
+        let outcome = ask(self.server.as_ref(), self.call, &dir, &perm, &req, room);
         (outcome.answer().map(<[u8]>::to_vec), outcome.is_sound())
     }
 
+    /// The answer or the refusal of a request in a situation.
+    pub fn reply(&self, world: &Situation, request: &RequestSheet) -> Result<Vec<u8>, u64> {
+        self.ask(&world.directory, &world.permissions, request, self.room()).0
+    }
+
+    /// A number of line 30 by its last digit: A 1, B 2, C 3.
+    pub fn digit(&self, answer: &[u8], number: usize) -> char {
+        digit(self.form(), answer, number)
+    }
+
     /// Expects a refusal number, or 0 for any answer.
-    pub fn expect(&mut self, what: &str, refusal: u64, dir: &[u8], perm: &[u8], req: &[u8]) {
+    pub fn expect(
+        &mut self,
+        what: &str,
+        refusal: u64,
+        dir: &dyn Written,
+        perm: &dyn Written,
+        req: &dyn Written,
+    ) {
         self.expect_in(self.room(), what, refusal, dir, perm, req);
     }
 
@@ -62,9 +97,9 @@ impl Explicit {
         room: usize,
         what: &str,
         refusal: u64,
-        dir: &[u8],
-        perm: &[u8],
-        req: &[u8],
+        dir: &dyn Written,
+        perm: &dyn Written,
+        req: &dyn Written,
     ) {
         let (reply, sound) = self.ask(dir, perm, req, room);
         let given = reply.err().unwrap_or(0);
@@ -72,22 +107,39 @@ impl Explicit {
         self.check(good, &format!("{what}: expected {refusal}, given {given}, sound {sound}"));
     }
 
-    /// Expects an answer byte for byte.
+    /// Expects an answer byte for byte, given in six columns.
     pub fn answers(&mut self, what: &str, world: &Situation, request: &RequestSheet, text: &str) {
-        let (dir, perm) = (world.directory.to_bytes(), world.permissions.to_bytes());
-        let (reply, sound) = self.ask(&dir, &perm, &request.to_bytes(), self.room());
-        let good = reply.as_deref() == Ok(text.as_bytes()) && sound;
+        let (dir, perm) = (&world.directory, &world.permissions);
+        let (reply, sound) = self.ask(dir, perm, request, self.room());
+        let good = reply.as_deref() == Ok(&in_columns(self.form(), text.as_bytes())[..]) && sound;
         let given = reply.map(|answer| String::from_utf8_lossy(&answer).into_owned());
         self.check(good, &format!("{what}\nexpected\n{text}given {given:?}"));
+    }
+
+    /// Expects a moved sheet, or a refusal number.
+    pub fn moves(
+        &mut self,
+        what: &str,
+        way: Way,
+        sheet: &[u8],
+        room: usize,
+        expected: Result<&[u8], u64>,
+    ) {
+        let outcome = ask_move(self.server.as_ref(), way, sheet, room);
+        let good = outcome.answer() == expected && outcome.is_sound();
+        let given = outcome.reply;
+        let expected = expected.map(<[u8]>::len);
+        self.report.explicit(
+            good,
+            &format!("{way:?}, {what}, {room} bytes lent: expected {expected:?}, given {given:?}"),
+        );
     }
 
     /// The truth of a filter in an edition for the only entry below the root: `T`, `F` or `U`.
     fn truth(&self, edition: u32, world: &Situation, filter: FilterLines) -> char {
         let matches = |filter: FilterLines| {
-            let (dir, perm) = (world.directory.to_bytes(), world.permissions.to_bytes());
             let request = RequestSheet { edition, ..search_root(2, filter) };
-            let (reply, _) = self.ask(&dir, &perm, &request.to_bytes(), self.room());
-            reply.is_ok_and(|answer| answer.len() > 31)
+            self.reply(world, &request).is_ok_and(|answer| answer.len() > self.form().line())
         };
         match (matches(filter.clone()), matches(FilterLines::Not(Box::new(filter)))) {
             (true, false) => 'T',

@@ -1,7 +1,8 @@
 //! A buffer lent to a server, filled with a pattern and guarded on both sides.
 
 use crate::server::{Reply, Server};
-use peer::caller::Caller;
+use peer::caller::Call;
+use peer::moves::Way;
 use std::sync::OnceLock;
 
 const GUARD: usize = 64;
@@ -16,7 +17,7 @@ fn pattern() -> &'static [u8] {
     })
 }
 
-/// What a server did with three sheets and a lent buffer.
+/// What a server did with sheets and a lent buffer.
 #[derive(PartialEq, Eq)]
 pub struct Outcome {
     pub reply: Reply,
@@ -24,17 +25,26 @@ pub struct Outcome {
     lent: Vec<u8>,
 }
 
-/// Asks as a calling program, with a fresh buffer.
+/// Asks as a calling program in a form, with a fresh buffer.
 pub fn ask(
     server: &dyn Server,
-    caller: Caller,
+    call: Call,
     dir: &[u8],
     perm: &[u8],
     req: &[u8],
     room: usize,
 ) -> Outcome {
+    lend(room, |out| server.serve(call, dir, perm, req, out))
+}
+
+/// Has a directory sheet moved, with a fresh buffer.
+pub fn ask_move(server: &dyn Server, way: Way, sheet: &[u8], room: usize) -> Outcome {
+    lend(room, |out| server.moved(way, sheet, out))
+}
+
+fn lend(room: usize, serve: impl FnOnce(&mut [u8]) -> Reply) -> Outcome {
     let mut lent = pattern()[..room + 2 * GUARD].to_vec();
-    let reply = server.serve(caller, dir, perm, req, &mut lent[GUARD..GUARD + room]);
+    let reply = serve(&mut lent[GUARD..GUARD + room]);
     Outcome { reply, lent }
 }
 

@@ -13,3 +13,4 @@ pub mod server;
 pub mod shown;
 pub mod values;
 pub mod world;
+pub mod written;

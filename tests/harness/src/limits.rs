@@ -2,23 +2,23 @@
 
 use peer::builder::{
     DirectorySheet, EntryLines, FilterLines, ItemLines, OperationLines, PermissionSheet,
-    RequestSheet, Selected, Sheet, Thing,
+    RequestSheet, Selected, Thing,
 };
+use peer::form::Form;
 
 /// The types of all sheets here: 1 octets, 2 text, 3 integer.
 pub const TYPES: [(u32, u32); 3] = [(1, 0), (2, 1), (3, 2)];
-/// Bytes of a line without a value.
-const LINE: usize = 31;
 
-/// Value lengths whose lines fill `total` bytes, which is at least 96.
-fn lengths(mut total: usize) -> Vec<usize> {
+/// Value lengths whose lines fill `total` bytes, which is more than a line of 64 bytes takes.
+fn lengths(form: Form, mut total: usize) -> Vec<usize> {
+    let line = form.line();
     let mut lengths = Vec::new();
-    while total > 2 * (LINE + 64) {
+    while total > 2 * (line + 64) {
         lengths.push(64);
-        total -= LINE + 64;
+        total -= line + 64;
     }
-    lengths.push(total / 2 - LINE);
-    lengths.push(total - total / 2 - LINE);
+    lengths.push(total / 2 - line);
+    lengths.push(total - total / 2 - line);
     lengths
 }
 
@@ -45,9 +45,9 @@ pub fn deep_directory(depth: usize) -> DirectorySheet {
     directory((0..depth).map(|parent| EntryLines::bare(parent as u32, 1, b"d")).collect())
 }
 
-pub fn directory_of_length(total: usize) -> DirectorySheet {
+pub fn directory_of_length(form: Form, total: usize) -> DirectorySheet {
     let mut directory = wide_directory(20);
-    let lengths = lengths(total - directory.to_bytes().len());
+    let lengths = lengths(form, total - directory.to_bytes(form).len());
     for (number, length) in lengths.into_iter().enumerate() {
         let value = numbered(1000 + number, length);
         directory.entries[number % 20].values.push((1, value));
@@ -91,26 +91,28 @@ pub fn permissions_of_items(count: usize) -> PermissionSheet {
     PermissionSheet { items }
 }
 
-pub fn permissions_of_length(total: usize) -> PermissionSheet {
+pub fn permissions_of_length(form: Form, total: usize) -> PermissionSheet {
+    let line = form.line();
     let mut items = open();
-    let mut left = total - PermissionSheet { items: items.clone() }.to_bytes().len();
+    let mut left = total - PermissionSheet { items: items.clone() }.to_bytes(form).len();
     let mut add = |parts: &[usize]| {
         let mut item = ItemLines::everywhere(0, true, Thing::Entry, 7);
         item.base = parts.iter().map(|&length| (1, numbered(7, length))).collect();
-        let length = 5 * LINE + parts.iter().map(|length| LINE + length).sum::<usize>();
+        let length = 5 * line + parts.iter().map(|length| line + length).sum::<usize>();
         items.push(item);
         length
     };
-    while left > 690 {
-        left -= add(&[64, 30]);
+    let usual: &[usize] = if form.is_wide() { &[64] } else { &[64, 30] };
+    while left > 2 * (7 * line + 128) {
+        left -= add(usual);
     }
-    // 380 to 690: two items of one part, or of two.
+    // Two items of one part, or of two.
     for half in [left / 2, left - left / 2] {
-        if left <= 500 {
-            add(&[half - 6 * LINE]);
+        if half <= 6 * line + 64 {
+            add(&[half - 6 * line]);
         } else {
-            let value = (half - 7 * LINE) / 2;
-            add(&[value, half - 7 * LINE - value]);
+            let value = (half - 7 * line) / 2;
+            add(&[value, half - 7 * line - value]);
         }
     }
     PermissionSheet { items }
@@ -126,8 +128,8 @@ pub fn search_with(filter: FilterLines, selected: Selected) -> RequestSheet {
     RequestSheet { level: 0, edition: 0, requester, name, operation }
 }
 
-pub fn request_of_length(total: usize) -> RequestSheet {
-    let parts = lengths(total - 5 * LINE)
+pub fn request_of_length(form: Form, total: usize) -> RequestSheet {
+    let parts = lengths(form, total - 5 * form.line())
         .into_iter()
         .map(|length| FilterLines::Equality(1, numbered(1, length)))
         .collect();
@@ -169,13 +171,4 @@ pub fn substrings_at_depth(depth: usize) -> FilterLines {
 /// A filter with as many substrings pieces in one item.
 pub fn substrings_of(count: usize) -> FilterLines {
     FilterLines::Substrings(2, vec![(1, b"a".to_vec()); count])
-}
-
-/// Lines as they are given: kind, columns, bytes.
-pub fn raw(lines: &[(u32, u32, u32, u32, &[u8])]) -> Vec<u8> {
-    let mut sheet = Sheet::new();
-    for &(kind, a, b, c, bytes) in lines {
-        sheet.line(kind, a, b, c, bytes);
-    }
-    sheet.0
 }

@@ -10,8 +10,11 @@ use crate::world::{
 };
 use peer::builder::{DirectorySheet, EntryLines, ItemLines, PermissionSheet, Thing, User};
 use peer::directory::Directory;
+use peer::form::Form;
 
 pub struct Pair {
+    /// Of both, and of what they are asked.
+    pub form: Form,
     pub one: DirectorySheet,
     pub other: DirectorySheet,
     pub permissions: PermissionSheet,
@@ -24,7 +27,8 @@ const ATTEMPTS: usize = 14;
 
 /// A pair whose directories differ, if one was found in a few attempts.
 pub fn pair(random: &mut Random) -> Option<Pair> {
-    let World { directory: one, mut permissions } = world(random);
+    let form = *random.pick(&Form::ALL);
+    let World { directory: one, mut permissions } = world(random, form);
     if one.types.is_empty() {
         return None;
     }
@@ -38,14 +42,14 @@ pub fn pair(random: &mut Random) -> Option<Pair> {
         let change = *random.pick(&Change::ALL);
         change.apply(random, &permissions, &mut changed);
         if changed != other
-            && Directory::decode(&changed.to_bytes()).is_ok()
+            && Directory::decode(form, &changed.to_bytes(form)).is_ok()
             && shown(&changed, &permissions, &requester) == before
         {
             other = changed;
             changes.push(change);
         }
     }
-    (other != one).then_some(Pair { one, other, permissions, requester, changes })
+    (other != one).then_some(Pair { form, one, other, permissions, requester, changes })
 }
 
 /// Adds items that hide entries, types or values from the requester.

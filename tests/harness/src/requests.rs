@@ -5,19 +5,21 @@ use crate::random::Random;
 use crate::values::{other_letters, unfit, value, variant, TEXT};
 use crate::world::{free_part, some_value, stored_name, user_name};
 use peer::builder::{DirectorySheet, FilterLines, Name, OperationLines, RequestSheet, Selected};
+use peer::form::Form;
 
 const MAX_FILTER_LINES: usize = 128;
 const MAX_FILTER_DEPTH: usize = 16;
 
-pub fn request(random: &mut Random, directory: &DirectorySheet) -> RequestSheet {
+pub fn request(random: &mut Random, form: Form, directory: &DirectorySheet) -> RequestSheet {
     let level = *random.pick(&[0, 0, 1, 2]);
     let requester = requester(random, directory);
-    request_of(random, directory, level, requester)
+    request_of(random, form, directory, level, requester)
 }
 
 /// A random request of a given requester.
 pub fn request_of(
     random: &mut Random,
+    form: Form,
     directory: &DirectorySheet,
     level: u32,
     requester: Name,
@@ -28,9 +30,9 @@ pub fn request_of(
             let (kind, value) = asserted(random, directory);
             OperationLines::Compare(kind, value)
         }
-        4 => OperationLines::List { limit: limit(random) },
+        4 => OperationLines::List { limit: limit(random, form) },
         _ => OperationLines::Search {
-            limit: limit(random),
+            limit: limit(random, form),
             selected: selected(random, directory),
             subset: *random.pick(&[0, 0, 1, 1, 1, 2, 2, 2, 2, 2]),
             filter: filter(random, directory),
@@ -85,11 +87,22 @@ fn spoil(random: &mut Random, directory: &DirectorySheet, name: &mut Name) {
     name.truncate(8);
 }
 
-fn limit(random: &mut Random) -> u32 {
+fn limit(random: &mut Random, form: Form) -> u32 {
     match random.below(20) {
         0..=9 => 0,
         10..=16 => random.between(1, 4) as u32,
         17 | 18 => random.between(4, 7) as u32,
+        // Seven digits and more are for nine columns.
+        _ if form.is_wide() => *random.pick(&[
+            5,
+            256,
+            999_999,
+            1_000_000,
+            1_000_001,
+            9_999_999,
+            123_000_002,
+            999_999_999,
+        ]),
         _ => *random.pick(&[5, 10, 100, 256, 999_999]),
     }
 }

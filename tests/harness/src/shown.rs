@@ -177,6 +177,7 @@ mod tests {
     use crate::world::world;
     use peer::decide::Judge;
     use peer::directory::Directory;
+    use peer::form::Form;
     use peer::permissions::Permissions;
     use peer::request::Request;
 
@@ -188,16 +189,18 @@ mod tests {
     #[test]
     fn the_peer_decides_alike() {
         let mut random = Random::new(7);
-        for _ in 0..1500 {
-            let world = world(&mut random);
-            let asked = request(&mut random, &world.directory);
-            let (dir, perm) = (world.directory.to_bytes(), world.permissions.to_bytes());
-            let req = asked.to_bytes();
-            let directory = Directory::decode(&dir).unwrap_or_else(|_| panic!("directory"));
-            let permissions =
-                Permissions::decode(&perm, &directory).unwrap_or_else(|_| panic!("permissions"));
-            let request =
-                Request::decode(&req, &directory.schema).unwrap_or_else(|_| panic!("request"));
+        for turn in 0..1500 {
+            let form = Form::ALL[turn % 2];
+            let world = world(&mut random, form);
+            let asked = request(&mut random, form, &world.directory);
+            let dir = world.directory.to_bytes(form);
+            let perm = world.permissions.to_bytes(form);
+            let req = asked.to_bytes(form);
+            let directory = Directory::decode(form, &dir).unwrap_or_else(|_| panic!("directory"));
+            let permissions = Permissions::decode(form, &perm, &directory)
+                .unwrap_or_else(|_| panic!("permissions"));
+            let request = Request::decode(form, &req, &directory.schema)
+                .unwrap_or_else(|_| panic!("request"));
             let mut judge = Judge::new(&directory, &permissions, &request.requester);
             let requester = Requester { level: asked.level, name: asked.requester };
             for number in 1..=directory.len() {

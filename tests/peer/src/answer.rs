@@ -2,7 +2,8 @@
 
 use crate::directory::{Directory, Number};
 use crate::fault::{planted, Fault};
-use crate::sheet::{write_line, HEAD};
+use crate::form::Form;
+use crate::sheet::{append, Line};
 
 /// Column B of line 30.
 #[derive(Clone, Copy, Debug, PartialEq, Eq)]
@@ -16,19 +17,20 @@ pub enum Outcome {
 }
 
 pub struct Answer {
+    form: Form,
     sheet: Vec<u8>,
 }
 
 impl Answer {
-    pub fn new(operation: u32, outcome: Outcome) -> Self {
-        let mut answer = Answer { sheet: Vec::new() };
+    pub fn new(form: Form, operation: u32, outcome: Outcome) -> Self {
+        let mut answer = Answer { form, sheet: Vec::new() };
         answer.line(30, operation, outcome as u32, &[]);
         answer
     }
 
     pub fn line(&mut self, kind: u32, a: u32, b: u32, bytes: &[u8]) {
         let bytes = if planted(Fault::BlanksDroppedInAnswers) { bytes.trim_ascii() } else { bytes };
-        write_line(&mut self.sheet, kind, a, b, 0, bytes);
+        append(&mut self.sheet, self.form, &Line { kind, a, b, c: 0, bytes });
     }
 
     /// K 9 for each part of an entry's stored name.
@@ -41,7 +43,8 @@ impl Answer {
 
     /// C of line 30: the size limit cut the answer.
     pub fn mark_cut(&mut self) {
-        self.sheet[HEAD - 7] = b'1';
+        let place = if planted(Fault::CutMarkedAtNarrowPlace) { Form::Narrow } else { self.form };
+        self.sheet[place.digit(3)] = b'1';
     }
 
     pub fn into_bytes(self) -> Vec<u8> {

@@ -1,19 +1,23 @@
 //! Sheets written from Rust values, for tests and generators. Nothing is checked: values may be
 //! as wrong as the test wants.
 
-use crate::sheet::write_line;
+use crate::form::Form;
+use crate::sheet::{append, Line};
 
-/// Lines one after the other.
-#[derive(Clone, Debug, Default)]
-pub struct Sheet(pub Vec<u8>);
+/// Lines one after the other, in one form.
+#[derive(Clone, Debug)]
+pub struct Sheet {
+    form: Form,
+    pub bytes: Vec<u8>,
+}
 
 impl Sheet {
-    pub fn new() -> Self {
-        Sheet::default()
+    pub fn new(form: Form) -> Self {
+        Sheet { form, bytes: Vec::new() }
     }
 
     pub fn line(&mut self, kind: u32, a: u32, b: u32, c: u32, bytes: &[u8]) -> &mut Self {
-        write_line(&mut self.0, kind, a, b, c, bytes);
+        append(&mut self.bytes, self.form, &Line { kind, a, b, c, bytes });
         self
     }
 
@@ -50,8 +54,8 @@ impl EntryLines {
 }
 
 impl DirectorySheet {
-    pub fn to_bytes(&self) -> Vec<u8> {
-        let mut sheet = Sheet::new();
+    pub fn to_bytes(&self, form: Form) -> Vec<u8> {
+        let mut sheet = Sheet::new(form);
         for &(number, syntax) in &self.types {
             sheet.line(1, number, syntax, 0, &[]);
         }
@@ -61,7 +65,7 @@ impl DirectorySheet {
                 sheet.line(3, *kind, 0, 0, value);
             }
         }
-        sheet.0
+        sheet.bytes
     }
 
     pub fn syntax(&self, kind: u32) -> Option<u32> {
@@ -131,8 +135,8 @@ pub struct PermissionSheet {
 }
 
 impl PermissionSheet {
-    pub fn to_bytes(&self) -> Vec<u8> {
-        let mut sheet = Sheet::new();
+    pub fn to_bytes(&self, form: Form) -> Vec<u8> {
+        let mut sheet = Sheet::new(form);
         for item in &self.items {
             sheet.line(4, item.precedence, item.level, item.grants.into(), &[]);
             sheet.line(5, item.subtree.into(), item.base.len() as u32, 0, &[]);
@@ -156,7 +160,7 @@ impl PermissionSheet {
             };
             sheet.line(8, item.mask, 0, 0, &[]);
         }
-        sheet.0
+        sheet.bytes
     }
 }
 
@@ -253,8 +257,8 @@ impl Sheet {
 }
 
 impl RequestSheet {
-    pub fn to_bytes(&self) -> Vec<u8> {
-        let mut sheet = Sheet::new();
+    pub fn to_bytes(&self, form: Form) -> Vec<u8> {
+        let mut sheet = Sheet::new(form);
         sheet.line(10, self.level, self.requester.len() as u32, self.edition, &[]);
         sheet.name(&self.requester);
         let (number, limit) = match &self.operation {
@@ -276,6 +280,6 @@ impl RequestSheet {
                 sheet.line(15, *subset, 0, 0, &[]).filter(filter);
             }
         }
-        sheet.0
+        sheet.bytes
     }
 }

@@ -1,12 +1,39 @@
 //! The calling programs, and the limits with which the one engine serves them.
 
 use crate::fault::{planted, Fault};
+use crate::form::Form;
 
 #[derive(Clone, Copy, Debug, PartialEq, Eq, PartialOrd, Ord)]
 pub enum Caller {
     Exchange,
     /// A small panel in the corridor.
     Panel,
+}
+
+/// Who calls, and the form of all the sheets.
+#[derive(Clone, Copy, Debug, PartialEq, Eq, PartialOrd, Ord)]
+pub struct Call {
+    pub caller: Caller,
+    pub form: Form,
+}
+
+impl Call {
+    pub const ALL: [Call; 4] = [
+        Call::new(Caller::Exchange, Form::Narrow),
+        Call::new(Caller::Panel, Form::Narrow),
+        Call::new(Caller::Exchange, Form::Wide),
+        Call::new(Caller::Panel, Form::Wide),
+    ];
+
+    pub const fn new(caller: Caller, form: Form) -> Self {
+        Call { caller, form }
+    }
+
+    /// The longest buffer that the caller may lend: the same in both forms.
+    pub fn may_lend(self, room: usize) -> bool {
+        let scaled = self.form.is_wide() && planted(Fault::WidePanelRoomScaled);
+        self.caller.may_lend(if scaled { room / 3 * 2 } else { room })
+    }
 }
 
 /// The longest answer buffer of a panel.

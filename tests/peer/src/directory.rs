@@ -1,6 +1,7 @@
 //! The directory sheet: schema, entries and their values.
 
 use crate::fault::{planted, Fault};
+use crate::form::Form;
 use crate::kinds;
 use crate::name::Part;
 use crate::schema::{Schema, Slot, MAX_TYPES};
@@ -66,8 +67,9 @@ pub struct Directory<'a> {
 }
 
 impl<'a> Directory<'a> {
-    pub fn decode(sheet: &'a [u8]) -> Result<Self, Reason> {
-        if sheet.len() > MAX_LENGTH + usize::from(planted(Fault::LongDirectoryAccepted)) {
+    pub fn decode(form: Form, sheet: &'a [u8]) -> Result<Self, Reason> {
+        let longest = form.longest(MAX_LENGTH);
+        if sheet.len() > longest + usize::from(planted(Fault::LongDirectoryAccepted)) {
             return Err(Reason::TooLong);
         }
         let mut directory = Directory {
@@ -77,18 +79,18 @@ impl<'a> Directory<'a> {
             values: Vec::new(),
             links: vec![Links::default()],
         };
-        for line in Lines::new(sheet) {
-            directory.add_line(line?)?;
+        for line in Lines::new(form, sheet) {
+            directory.add_line(form, line?)?;
         }
         directory.close_entry()?;
         Ok(directory)
     }
 
-    fn add_line(&mut self, line: Line<'a>) -> Result<(), Reason> {
+    fn add_line(&mut self, form: Form, line: Line<'a>) -> Result<(), Reason> {
         if planted(Fault::OrderBeforeColumns) && line.kind == 1 && !self.entries.is_empty() {
             return Err(Reason::OutOfOrder);
         }
-        kinds::check(&line, kinds::in_directory)?;
+        kinds::check(form, &line, kinds::in_directory)?;
         if planted(Fault::NamingJudgedBeforeAnyLine) && line.kind == 1 {
             self.close_entry()?;
         }

@@ -2,6 +2,7 @@
 
 use crate::builder::*;
 use crate::filter::{and, not, or, Truth};
+use crate::form::Form;
 use crate::serve;
 use crate::value::{substrings, Piece, Place, Syntax, Value};
 use std::cmp::Ordering;
@@ -40,7 +41,12 @@ fn may_read(items: Vec<ItemLines>) -> bool {
         operation: OperationLines::Read(Selected { types: Some(vec![]), values: false }),
     };
     let permissions = PermissionSheet { items };
-    let answer = serve(&directory.to_bytes(), &permissions.to_bytes(), &request.to_bytes(), 65_536);
+    let answer = serve(
+        &directory.to_bytes(Form::Narrow),
+        &permissions.to_bytes(Form::Narrow),
+        &request.to_bytes(Form::Narrow),
+        65_536,
+    );
     match &answer.unwrap()[..30] {
         b"    30     1     0     0     0" => true,
         b"    30     1     1     0     0" => false,
@@ -109,11 +115,12 @@ fn example_11_no_integers() {
 fn list_of_root(limit: u32) -> Vec<u8> {
     let (requester, name) = (Vec::new(), Vec::new());
     let operation = OperationLines::List { limit };
-    RequestSheet { level: 0, edition: 0, requester, name, operation }.to_bytes()
+    RequestSheet { level: 0, edition: 0, requester, name, operation }.to_bytes(Form::Narrow)
 }
 
 fn browse_all() -> Vec<u8> {
-    PermissionSheet { items: vec![ItemLines::everywhere(0, true, Thing::Entry, 6)] }.to_bytes()
+    PermissionSheet { items: vec![ItemLines::everywhere(0, true, Thing::Entry, 6)] }
+        .to_bytes(Form::Narrow)
 }
 
 #[test]
@@ -121,7 +128,7 @@ fn example_12_entries() {
     let wide = |count: u32| {
         let name = |number: u32| number.to_string().into_bytes();
         let entries = (1..=count).map(|number| EntryLines::bare(0, 1, &name(number))).collect();
-        DirectorySheet { types: vec![(1, 0)], entries }.to_bytes()
+        DirectorySheet { types: vec![(1, 0)], entries }.to_bytes(Form::Narrow)
     };
     assert!(serve(&wide(256), &browse_all(), &list_of_root(0), 65_536).is_ok());
     assert_eq!(serve(&wide(257), &browse_all(), &list_of_root(0), 65_536), Err(3));
@@ -131,7 +138,7 @@ fn example_12_entries() {
 fn example_12_depth() {
     let deep = |depth: u32| {
         let entries = (0..depth).map(|parent| EntryLines::bare(parent, 1, b"x")).collect();
-        DirectorySheet { types: vec![(1, 0)], entries }.to_bytes()
+        DirectorySheet { types: vec![(1, 0)], entries }.to_bytes(Form::Narrow)
     };
     assert!(serve(&deep(8), &browse_all(), &list_of_root(0), 65_536).is_ok());
     assert_eq!(serve(&deep(9), &browse_all(), &list_of_root(0), 65_536), Err(3));
@@ -141,7 +148,7 @@ fn example_12_depth() {
 fn example_12_size_limit() {
     let cut = |count: u8| {
         let entries = (0..count).map(|name| EntryLines::bare(0, 1, &[name])).collect();
-        let directory = DirectorySheet { types: vec![(1, 0)], entries }.to_bytes();
+        let directory = DirectorySheet { types: vec![(1, 0)], entries }.to_bytes(Form::Narrow);
         let answer = serve(&directory, &browse_all(), &list_of_root(2), 65_536).unwrap();
         let lines = answer.iter().filter(|&&byte| byte == b'\n').count();
         (answer[23], lines)
@@ -199,7 +206,11 @@ fn example_13_prints() {
     34     5     1     0     0
     35     0     0     0     2-7
 ";
-    let (dir, perm, req) = (directory.to_bytes(), permissions.to_bytes(), request.to_bytes());
+    let (dir, perm, req) = (
+        directory.to_bytes(Form::Narrow),
+        permissions.to_bytes(Form::Narrow),
+        request.to_bytes(Form::Narrow),
+    );
     assert_eq!(serve(&dir, &perm, &req, 65_536), Ok(printed.as_bytes().to_vec()));
     assert!(serve(&dir, &perm, &req, printed.len()).is_ok());
     assert_eq!(serve(&dir, &perm, &req, printed.len() - 1), Err(31));

@@ -1,9 +1,9 @@
 //! Which kinds a sheet has, and which columns each kind allows wherever it stands.
 
 use crate::fault::{planted, Fault};
+use crate::form::Form;
 use crate::sheet::{Line, Reason};
 
-pub const MAX_TYPE: u32 = 999;
 pub const MAX_PARTS: u32 = 8;
 
 pub fn in_directory(kind: u32) -> bool {
@@ -18,14 +18,10 @@ pub fn in_request(kind: u32) -> bool {
     matches!(kind, 9..=15 | 20..=28)
 }
 
-fn is_type(number: u32) -> bool {
-    (1..=MAX_TYPE).contains(&number)
-}
-
 /// `NotAllowed` unless the sheet has the kind and every column is in its range. The parent
 /// number of an entry depends on the entry's own number and is left to the directory.
-pub fn check(line: &Line, sheet_has: fn(u32) -> bool) -> Result<(), Reason> {
-    if sheet_has(line.kind) && (columns_allowed(line) || wrongly_allowed(line)) {
+pub fn check(form: Form, line: &Line, sheet_has: fn(u32) -> bool) -> Result<(), Reason> {
+    if sheet_has(line.kind) && (columns_allowed(form, line) || wrongly_allowed(form, line)) {
         Ok(())
     } else if !sheet_has(line.kind) && planted(Fault::ForeignKindOutOfOrder) {
         Err(Reason::OutOfOrder)
@@ -34,7 +30,8 @@ pub fn check(line: &Line, sheet_has: fn(u32) -> bool) -> Result<(), Reason> {
     }
 }
 
-fn columns_allowed(line: &Line) -> bool {
+fn columns_allowed(form: Form, line: &Line) -> bool {
+    let is_type = |number: u32| (1..=form.top_type()).contains(&number);
     let Line { kind, a, b, c, bytes } = *line;
     let bare = bytes.is_empty();
     match kind {
@@ -63,7 +60,8 @@ fn columns_allowed(line: &Line) -> bool {
 }
 
 /// Columns that only a planted fault lets pass.
-fn wrongly_allowed(line: &Line) -> bool {
+fn wrongly_allowed(form: Form, line: &Line) -> bool {
+    let above = form.top_type() + 1;
     let Line { kind, a, b, c, bytes } = *line;
     match (kind, a, b, c) {
         (4, 256, 0..=2, 0..=1) => planted(Fault::Precedence256Accepted) && bytes.is_empty(),
@@ -71,7 +69,10 @@ fn wrongly_allowed(line: &Line) -> bool {
         (6, 0 | 2, 1..=8, 0) => planted(Fault::NameForAllUsersAccepted) && bytes.is_empty(),
         (8, 64, 0, 0) => planted(Fault::Mask64Accepted) && bytes.is_empty(),
         (8, 0, 0, 0) => planted(Fault::EmptyMaskAccepted) && bytes.is_empty(),
-        (3 | 9 | 14, 1000, 0, 0) => planted(Fault::Type1000IsUnknown),
+        (3 | 9 | 14, _, 0, 0) if a == above => planted(Fault::TypeAboveTopIsUnknown),
+        (1, _, 0..=2, 0) if a == above && form.is_wide() => {
+            planted(Fault::WideTypeOfEightDigits) && bytes.is_empty()
+        }
         (5 | 10, 0..=1, 9, 0) => planted(Fault::NineParts) && bytes.is_empty(),
         (10, 0..=2, 0..=8, 2) => planted(Fault::EditionTwoAccepted) && bytes.is_empty(),
         (11, 1 | 2, 0..=8, _) => planted(Fault::LimitOnReadAccepted) && bytes.is_empty(),

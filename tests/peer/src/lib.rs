@@ -12,7 +12,9 @@ pub mod directory;
 pub mod edition;
 pub mod fault;
 pub mod filter;
+pub mod form;
 pub mod kinds;
+pub mod moves;
 pub mod name;
 pub mod operations;
 pub mod permissions;
@@ -25,9 +27,10 @@ pub mod value;
 #[cfg(test)]
 mod examples;
 
-use caller::Caller;
+use caller::{Call, Caller};
 use directory::Directory;
 use fault::{planted, Fault};
+use form::Form;
 use permissions::Permissions;
 use request::Request;
 
@@ -37,35 +40,45 @@ pub const ANSWER_TOO_LONG: u32 = 31;
 /// Refusal of a panel: its answer buffer is longer than it may be.
 pub const BUFFER_TOO_LONG: u32 = 33;
 
-/// Answers one request of the exchange, or gives the refusal number. `room` is the length of the
-/// lent buffer.
+/// Answers one request of the exchange in six columns, or gives the refusal number. `room` is the
+/// length of the lent buffer.
 pub fn serve(dir: &[u8], perm: &[u8], req: &[u8], room: usize) -> Result<Vec<u8>, u32> {
-    serve_for(Caller::Exchange, dir, perm, req, room)
+    serve_for(Call::new(Caller::Exchange, Form::Narrow), dir, perm, req, room)
 }
 
-/// As `serve`, for either calling program.
+/// As `serve`, for either calling program and in either form.
 pub fn serve_for(
-    caller: Caller,
+    call: Call,
     dir: &[u8],
     perm: &[u8],
     req: &[u8],
     room: usize,
 ) -> Result<Vec<u8>, u32> {
     let late = planted(Fault::PanelRoomJudgedLate);
-    if !late && !caller.may_lend(room) {
+    if !late && !call.may_lend(room) {
         return Err(BUFFER_TOO_LONG);
     }
-    let directory = Directory::decode(dir).map_err(|reason| reason as u32)?;
-    if late && !caller.may_lend(room) {
+    let form = call.form;
+    let directory = Directory::decode(form, dir).map_err(|reason| reason as u32)?;
+    if late && !call.may_lend(room) {
         return Err(BUFFER_TOO_LONG);
     }
-    let permissions = Permissions::decode(perm, &directory).map_err(|reason| 10 + reason as u32)?;
-    let request = Request::decode(req, &directory.schema).map_err(|reason| 20 + reason as u32)?;
-    let most = caller.most_entries();
-    let answer = operations::answer(&directory, &permissions, &request, most);
+    let narrowed = |fault| if planted(fault) { Form::Narrow } else { form };
+    let permissions = Permissions::decode(narrowed(Fault::PermissionsStayNarrow), perm, &directory)
+        .map_err(|reason| 10 + reason as u32)?;
+    let request = Request::decode(narrowed(Fault::RequestStaysNarrow), req, &directory.schema)
+        .map_err(|reason| 20 + reason as u32)?;
+    let most = call.caller.most_entries();
+    let of_answer = match () {
+        _ if planted(Fault::AnswerInOtherForm) => form.other(),
+        _ => narrowed(Fault::AnswerStaysNarrow),
+    };
+    let answer = operations::answer(of_answer, &directory, &permissions, &request, most);
     let needed = match () {
         _ if planted(Fault::EqualLengthRefused) => answer.len() + 1,
-        _ if planted(Fault::RoomJudgedByDirectory) => answer.len().max(31 * directory.len()),
+        _ if planted(Fault::RoomJudgedByDirectory) => {
+            answer.len().max(form.line() * directory.len())
+        }
         _ if planted(Fault::AnswerCappedAt65536) && answer.len() > 65_536 => usize::MAX,
         _ => answer.len(),
     };

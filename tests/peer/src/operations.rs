@@ -7,18 +7,21 @@ use crate::directory::{Directory, Number, ROOT};
 use crate::edition::Edition;
 use crate::fault::{planted, Fault};
 use crate::filter::{Filter, Truth};
+use crate::form::Form;
 use crate::name::Asked;
 use crate::permissions::{Mask, Permissions, BROWSE, COMPARE, DISCLOSE_ON_ERROR, READ, RETURN_DN};
 use crate::request::{Operation, Purported, Request, Selection, Subset};
 
 /// The answer to a request, with at most so many entries, if there is a limit.
 pub fn answer(
+    form: Form,
     directory: &Directory,
     permissions: &Permissions,
     request: &Request,
     most: Option<u32>,
 ) -> Vec<u8> {
     let mut service = Service {
+        form,
         directory,
         judge: Judge::new(directory, permissions, &request.requester),
         edition: request.edition,
@@ -31,6 +34,8 @@ pub fn answer(
 }
 
 struct Service<'d, 'a> {
+    /// Of the answer.
+    form: Form,
     directory: &'d Directory<'a>,
     judge: Judge<'d, 'a>,
     edition: Edition,
@@ -61,7 +66,7 @@ impl Service<'_, '_> {
     }
 
     fn answer(&self, outcome: Outcome) -> Answer {
-        Answer::new(self.operation, outcome)
+        Answer::new(self.form, self.operation, outcome)
     }
 
     /// With the longest proper beginning of the name that names an entry open to disclosure.

@@ -2,6 +2,7 @@
 
 use crate::directory::{Directory, Number, ROOT};
 use crate::fault::{planted, Fault};
+use crate::form::Form;
 use crate::kinds;
 use crate::name::Part;
 use crate::schema::{Schema, Slot};
@@ -69,11 +70,12 @@ pub struct Permissions<'a> {
 }
 
 impl<'a> Permissions<'a> {
-    pub fn decode(sheet: &'a [u8], directory: &Directory) -> Result<Self, Reason> {
-        if sheet.len() > MAX_LENGTH + usize::from(planted(Fault::LongPermissionsAccepted)) {
+    pub fn decode(form: Form, sheet: &'a [u8], directory: &Directory) -> Result<Self, Reason> {
+        let longest = form.longest(MAX_LENGTH);
+        if sheet.len() > longest + usize::from(planted(Fault::LongPermissionsAccepted)) {
             return Err(Reason::TooLong);
         }
-        let mut reader = Reader { lines: Lines::new(sheet), schema: &directory.schema };
+        let mut reader = Reader { form, lines: Lines::new(form, sheet), schema: &directory.schema };
         let mut permissions = Permissions::default();
         while let Some(first) = reader.next()? {
             let most = MAX_ITEMS + usize::from(planted(Fault::Item257Accepted));
@@ -133,6 +135,7 @@ fn covers(directory: &Directory, name: &[Part], subtree: bool) -> Covers {
 }
 
 struct Reader<'a, 's> {
+    form: Form,
     lines: Lines<'a>,
     schema: &'s Schema,
 }
@@ -141,7 +144,7 @@ impl<'a> Reader<'a, '_> {
     fn next(&mut self) -> Result<Option<Line<'a>>, Reason> {
         let line = self.lines.next().transpose()?;
         if let Some(line) = &line {
-            kinds::check(line, kinds::in_permissions)?;
+            kinds::check(self.form, line, kinds::in_permissions)?;
         }
         Ok(line)
     }

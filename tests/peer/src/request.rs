@@ -4,6 +4,7 @@ use crate::decide::Requester;
 use crate::edition::Edition;
 use crate::fault::{planted, Fault};
 use crate::filter::{Assertion, Filter};
+use crate::form::Form;
 use crate::kinds;
 use crate::name::{Asked, Part};
 use crate::schema::{Schema, Slot};
@@ -72,11 +73,12 @@ pub enum Subset {
 }
 
 impl<'a> Request<'a> {
-    pub fn decode(sheet: &'a [u8], schema: &Schema) -> Result<Self, Reason> {
-        if sheet.len() > MAX_LENGTH + usize::from(planted(Fault::LongRequestAccepted)) {
+    pub fn decode(form: Form, sheet: &'a [u8], schema: &Schema) -> Result<Self, Reason> {
+        let longest = form.longest(MAX_LENGTH);
+        if sheet.len() > longest + usize::from(planted(Fault::LongRequestAccepted)) {
             return Err(Reason::TooLong);
         }
-        let mut reader = Reader { lines: Lines::new(sheet), schema, filter_lines: 0 };
+        let mut reader = Reader { form, lines: Lines::new(form, sheet), schema, filter_lines: 0 };
         let user = reader.expect(10)?;
         let edition = Edition::of(&user);
         let mut requester = Requester { level: user.a, name: reader.name(user.b)? };
@@ -85,7 +87,7 @@ impl<'a> Request<'a> {
         }
         let line = reader.expect(11)?;
         let name = reader.name(line.b)?;
-        let limit = line.c;
+        let limit = if planted(Fault::LimitOfSixDigits) { line.c % 1_000_000 } else { line.c };
         let operation = match line.a {
             1 => Operation::Read(reader.selection()?),
             2 => Operation::Compare(reader.purported()?),
@@ -119,6 +121,7 @@ fn spoil(requester: &mut Requester) {
 }
 
 struct Reader<'a, 's> {
+    form: Form,
     lines: Lines<'a>,
     schema: &'s Schema,
     filter_lines: u32,
@@ -128,7 +131,7 @@ impl<'a> Reader<'a, '_> {
     fn next(&mut self) -> Result<Option<Line<'a>>, Reason> {
         let line = self.lines.next().transpose()?;
         if let Some(line) = &line {
-            kinds::check(line, kinds::in_request)?;
+            kinds::check(self.form, line, kinds::in_request)?;
         }
         Ok(line)
     }

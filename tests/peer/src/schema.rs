@@ -3,6 +3,8 @@
 use crate::value::{Syntax, Value};
 
 pub const MAX_TYPES: usize = 64;
+/// Numbers below it have their slot in a table.
+const TABLED: usize = 1000;
 const UNKNOWN: u8 = u8::MAX;
 
 /// Place of a type among the type lines: 0 to 63, rising with the number.
@@ -10,17 +12,19 @@ pub type Slot = u8;
 
 pub struct Schema {
     types: Vec<(u32, Syntax)>,
-    slots: [u8; 1000],
+    slots: [u8; TABLED],
 }
 
 impl Schema {
     pub fn new() -> Self {
-        Schema { types: Vec::new(), slots: [UNKNOWN; 1000] }
+        Schema { types: Vec::new(), slots: [UNKNOWN; TABLED] }
     }
 
-    /// Adds a type of 1 to 999, higher than all before.
+    /// Adds a type higher than all before.
     pub fn add(&mut self, number: u32, syntax: Syntax) {
-        self.slots[number as usize] = self.types.len() as u8;
+        if let Some(slot) = self.slots.get_mut(number as usize) {
+            *slot = self.types.len() as u8;
+        }
         self.types.push((number, syntax));
     }
 
@@ -37,7 +41,13 @@ impl Schema {
     }
 
     pub fn slot(&self, number: u32) -> Option<Slot> {
-        self.slots.get(number as usize).copied().filter(|&slot| slot != UNKNOWN)
+        match self.slots.get(number as usize) {
+            Some(&slot) => (slot != UNKNOWN).then_some(slot),
+            None => {
+                let place = self.types.binary_search_by_key(&number, |&(number, _)| number);
+                place.ok().map(|place| place as Slot)
+            }
+        }
     }
 
     pub fn number(&self, slot: Slot) -> u32 {

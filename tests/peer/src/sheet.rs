@@ -1,10 +1,8 @@
-//! Lines: five columns of six, the bytes, byte 10.
+//! Lines: five numbers in columns, the bytes, byte 10.
 
 use crate::fault::{planted, Fault};
+use crate::form::Form;
 
-pub const COLUMN: usize = 6;
-/// Bytes of a line before its value.
-pub const HEAD: usize = 5 * COLUMN;
 pub const MAX_BYTES: u32 = 64;
 
 /// Why a sheet is refused, in the order in which the numbers rise.
@@ -34,12 +32,13 @@ pub struct Line<'a> {
 
 /// Takes lines off the front of a sheet. A line not in form is `NotAllowed`.
 pub struct Lines<'a> {
+    form: Form,
     rest: &'a [u8],
 }
 
 impl<'a> Lines<'a> {
-    pub fn new(sheet: &'a [u8]) -> Self {
-        Lines { rest: sheet }
+    pub fn new(form: Form, sheet: &'a [u8]) -> Self {
+        Lines { form, rest: sheet }
     }
 }
 
@@ -50,12 +49,14 @@ impl<'a> Iterator for Lines<'a> {
         if self.rest.is_empty() {
             return None;
         }
-        match take(self.rest) {
+        match take(self.form, self.rest) {
             Some((line, rest)) => {
                 self.rest = rest;
                 Some(Ok(line))
             }
-            None if planted(Fault::BrokenLineIsMissing) && self.rest.len() <= HEAD => None,
+            None if planted(Fault::BrokenLineIsMissing) && self.rest.len() < self.form.line() => {
+                None
+            }
             None => {
                 self.rest = &[];
                 Some(Err(Reason::NotAllowed))
@@ -64,10 +65,10 @@ impl<'a> Iterator for Lines<'a> {
     }
 }
 
-fn take(sheet: &[u8]) -> Option<(Line<'_>, &[u8])> {
-    let (head, rest) = sheet.split_first_chunk::<HEAD>()?;
+fn take(form: Form, sheet: &[u8]) -> Option<(Line<'_>, &[u8])> {
+    let (head, rest) = sheet.split_at_checked(form.head())?;
     let mut columns = [0; 5];
-    for (number, digits) in columns.iter_mut().zip(head.chunks_exact(COLUMN)) {
+    for (number, digits) in columns.iter_mut().zip(head.chunks_exact(form.column())) {
         *number = column(digits)?;
     }
     let [kind, a, b, c, length] = columns;
@@ -102,11 +103,12 @@ fn column(digits: &[u8]) -> Option<u32> {
     (!digits.is_empty()).then_some(number)
 }
 
-/// Appends one line. Numbers must fit six columns and `bytes` 64.
-pub fn write_line(sheet: &mut Vec<u8>, kind: u32, a: u32, b: u32, c: u32, bytes: &[u8]) {
-    let mut head = [b' '; HEAD];
-    let columns = [kind, a, b, c, bytes.len() as u32];
-    for (digits, mut number) in head.chunks_exact_mut(COLUMN).zip(columns) {
+/// Appends one line. Numbers must fit the columns and the bytes 64.
+pub fn append(sheet: &mut Vec<u8>, form: Form, line: &Line) {
+    let start = sheet.len();
+    sheet.resize(start + form.head(), b' ');
+    let columns = [line.kind, line.a, line.b, line.c, line.bytes.len() as u32];
+    for (digits, mut number) in sheet[start..].chunks_exact_mut(form.column()).zip(columns) {
         for digit in digits.iter_mut().rev() {
             *digit = b'0' + (number % 10) as u8;
             number /= 10;
@@ -115,8 +117,7 @@ pub fn write_line(sheet: &mut Vec<u8>, kind: u32, a: u32, b: u32, c: u32, bytes:
             }
         }
     }
-    sheet.extend_from_slice(&head);
-    sheet.extend_from_slice(bytes);
+    sheet.extend_from_slice(line.bytes);
     sheet.push(b'\n');
 }
 
@@ -124,8 +125,8 @@ pub fn write_line(sheet: &mut Vec<u8>, kind: u32, a: u32, b: u32, c: u32, bytes:
 mod tests {
     use super::*;
 
-    fn only(sheet: &[u8]) -> Option<(u32, u32, u32, u32, Vec<u8>)> {
-        let mut lines = Lines::new(sheet);
+    fn only(form: Form, sheet: &[u8]) -> Option<(u32, u32, u32, u32, Vec<u8>)> {
+        let mut lines = Lines::new(form, sheet);
         let line = lines.next()?.ok()?;
         assert!(lines.next().is_none());
         Some((line.kind, line.a, line.b, line.c, line.bytes.to_vec()))
@@ -133,10 +134,18 @@ mod tests {
 
     #[test]
     fn a_line_is_read_as_written() {
+        let line = Line { kind: 3, a: 999, b: 0, c: 999_999, bytes: b"a\nb" };
         let mut sheet = Vec::new();
-        write_line(&mut sheet, 3, 999, 0, 999_999, b"a\nb");
+        append(&mut sheet, Form::Narrow, &line);
         assert_eq!(sheet, b"     3   999     0999999     3a\nb\n");
-        assert_eq!(only(&sheet), Some((3, 999, 0, 999_999, b"a\nb".to_vec())));
+        assert_eq!(only(Form::Narrow, &sheet), Some((3, 999, 0, 999_999, b"a\nb".to_vec())));
+        assert_eq!(only(Form::Wide, &sheet), None);
+        sheet.clear();
+        append(&mut sheet, Form::Wide, &Line { a: 9_999_999, c: 999_999_999, ..line });
+        assert_eq!(sheet, b"        3  9999999        0999999999        3a\nb\n");
+        let read = Some((3, 9_999_999, 0, 999_999_999, b"a\nb".to_vec()));
+        assert_eq!(only(Form::Wide, &sheet), read);
+        assert_eq!(only(Form::Narrow, &sheet), None);
     }
 
     #[test]
@@ -155,10 +164,10 @@ mod tests {
             b"     1     0     0     0    65\n",
             b"     1",
         ] {
-            let mut lines = Lines::new(sheet);
+            let mut lines = Lines::new(Form::Narrow, sheet);
             assert_eq!(lines.next().map(|line| line.err()), Some(Some(Reason::NotAllowed)));
             assert!(lines.next().is_none());
         }
-        assert!(Lines::new(b"").next().is_none());
+        assert!(Lines::new(Form::Narrow, b"").next().is_none());
     }
 }

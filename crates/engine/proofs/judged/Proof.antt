@@ -1,8 +1,9 @@
 use lib.ListN.{length}
 use denote.Ref.{now}
 use Rattle.tables.specs.Book.{BOOK}
-use Rattle.engine.specs.Laws.Serve.{replies-refused, replies-same, directory-refuses, directory-accepts}
-use Rattle.engine.specs.Laws.Refusals.{directory-refused, directory-accepted}
+use Rattle.answer_reply.specs.Laws.Reply.{replies-refused, replies-same}
+use Rattle.engine.specs.Laws.Serve.{directory-refuses, directory-accepts}
+use Rattle.directory_sheet.specs.Laws.Refusals.{directory-refused, directory-accepted}
 use Rattle.engine.specs.Laws.Respond.{directory-at, cleared}
 use borrow.Author.Needs.{needs}
 use Rattle.engine.proofs.judged.Statement.{statement}

@@ -7,7 +7,8 @@ use Rattle.rules.specs.Serve.{settingOf}
 use Rattle.rules.specs.Places.{schemaOf}
 use Rattle.tables.specs.Book.{width}
 use Rattle.access_items.specs.Laws.Sorted.{sorted-of}
-use Rattle.engine.specs.Laws.Serve.{replies-refused, replies-same, permissions-refuse, permissions-accept}
+use Rattle.answer_reply.specs.Laws.Reply.{replies-refused, replies-same}
+use Rattle.engine.specs.Laws.Serve.{permissions-refuse, permissions-accept}
 use Rattle.engine.specs.Laws.Respond.{order-front, order-room, sorted-in}
 use borrow.Author.Needs.{needs}
 use Rattle.engine.proofs.permitted.Statement.{statement}

@@ -2,7 +2,8 @@
 use mathlib.Core.Path.{sym, _∙_}
 use lib.ListN.{length}
 use denote.Ref.{now}
-use Rattle.engine.specs.Laws.Serve.{replies-refused, replies-same, room-refuses, room-allows}
+use Rattle.answer_reply.specs.Laws.Reply.{replies-refused, replies-same}
+use Rattle.engine.specs.Laws.Serve.{room-refuses, room-allows}
 use borrow.Author.Needs.{needs}
 use Rattle.engine.proofs.serve.Statement.{statement}
 use Rattle.engine.proofs.serve.Tie as tie

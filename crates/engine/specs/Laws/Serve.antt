@@ -1,6 +1,6 @@
 -- Laws of `Serve`: what each refusal and each acceptance makes of the verdict.
 use Prim.Native.Nat.{ℕ}
-use mathlib.Core.Path.{_≡_, refl, subst}
+use mathlib.Core.Path.{_≡_, refl}
 use mathlib.Core.Bool.{true, false}
 use mathlib.Core.List.{List}
 use lib.ListN.{length}
@@ -15,13 +15,7 @@ use Rattle.rules.specs.declared.Limits.{Limits}
 use Rattle.rules.specs.Places.{schemaOf}
 use Rattle.permission_sheet.specs.Noted as Permissions
 use Rattle.permission_sheet.specs.declared.NotedItems.{NotedItems}
-use Rattle.answer_reply.specs.declared.Reply.{Reply}
-use Rattle.answer_reply.specs.Reply.{replyOf, leftOf, Replies}
 use Rattle.engine.specs.Serve.{fromGround, fromDirectory}
-
-pub replies-refused : (n : ℕ) (v : Verdict Bytes) (out : Bytes) (r : Reply) → r ≡ record { refusal = n; length = 0 } → v ≡ refuse n → Replies v out r out
-unfolding replyOf leftOf
-replies-refused n v out r q e = record { reply = rw e q; left = rw e }
 
 module _ (f : Format) (k : Limits) (d p q : Bytes) (room : ℕ) where
   pub room-refuses : above k room ≡ true → serveAt f k d p q room ≡ refuse 33
@@ -63,7 +57,3 @@ module _ (f : Format) (k : Limits) (g : Ground) (q : Bytes) (room : ℕ) where
 
   pub request-accepts : (r : Request) → requestOf f q ≡ accept r → respond f g (within k r) room ≡ fromGround f k g q room
   request-accepts r e = rw e
-
--- a reply to the same verdict by another word
-pub replies-same : {v u : Verdict Bytes} {before after : Bytes} {r : Reply} → v ≡ u → Replies v before r after → Replies u before r after
-replies-same {before = before} {after = after} {r = r} e k = subst (λ (x : Verdict Bytes). Replies x before r after) e k

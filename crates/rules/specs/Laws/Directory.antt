@@ -4,25 +4,25 @@ use Prim.Native.Nat.{ℕ, zero, suc, _+_, _≤_, _<_}
 use native.Mathlib.Nat.{not-suc-le-zero}
 use native.Mathlib.Omega.{arith}
 use native.Mathlib.Decide.{decLt}
-use mathlib.Core.Bool.{Bool, true, false, _&&_, _||_, not, cond, true≢false, false≢true}
+use mathlib.Core.Bool.{true, false, _&&_, not, true≢false, false≢true}
 use mathlib.Core.Option.{Option, none, some}
 use mathlib.Core.List.{List, [], _∷_, _++_, map, append-nil}
 use lib.ListN.{length, getD, length-append, length-map, List·getD-append, List·getD-map}
 use lib.Seq.{getD-at}
-use lib.Dec.{eqb, ltb, leb}
-use borrow.Author.Tests.{ltb-false, eq-eqb}
-use Rattle.rules.specs.Lists.{any, isEmpty, lastOr, optional}
+use lib.Dec.{eqb}
+use borrow.Author.Tests.{eq-eqb}
+use Rattle.rules.specs.Lists.{isEmpty, optional}
 use Rattle.rules.specs.Sheet.{Bytes, Line, Sheet, end, broken, row, lines}
 use Rattle.rules.specs.declared.Format.{Format}
-use Rattle.rules.specs.Columns.{inForm, directoryForms}
-use Rattle.rules.specs.Name.{Schema, part, Name, allowed, samePart, sameName}
-use Rattle.rules.specs.Judge.{Verdict, accept, refuse, then, fold}
+use Rattle.rules.specs.Name.{Schema, Name, samePart, sameName}
+use Rattle.rules.specs.Judge.{accept}
 use Rattle.rules.specs.Directory
-use Rattle.rules.specs.Directory.{Stored, blank, nameAt, Reading, entriesOf, typeLine, lacksNaming, clashes, newEntry, withValue, entryLine, valueLine, step, finish, nothing, directoryOf, Entry, entryOf, entries}
+use Rattle.rules.specs.Directory.{Stored, blank, nameAt, Reading, entriesOf, lacksNaming, clashes, step, finish, nothing, directoryOf, Entry, entryOf, entries}
 use Rattle.rules.specs.Laws.Tests.{both}
 use Rattle.rules.specs.Laws.Lists.{Once, none-at, once-by-index}
 use Rattle.rules.specs.Laws.Name.{samePart-sym, sameName-join, nil-snoc, snoc-nil, snoc-snoc}
-use Rattle.rules.specs.Laws.Judge.{refused-not, accepted-is, not-refused}
+use Rattle.rules.specs.Laws.Judge.{accepted-is, not-refused, Run}
+use Rattle.rules.specs.Laws.Step.{Taken, ofType, ofEntry, ofValue, step-taken, accepted-run}
 
 -- of the directory's rules, those that names rest on
 pub record Accepted (S : Schema) (es : List Stored) : Type 0 where
@@ -115,71 +115,31 @@ sound-all st ok = go (st .current) (ok .last)
     go none f = subst (λ (es : List Stored). Accepted (st .schema) es) (sym (append-nil (st .complete))) (ok .before)
     go (some e) f = accepted-more (st .schema) (st .complete) e (ok .before) f
 
-type-sound : (st : Reading) (x : Line) (next : Reading) → typeLine st x ≡ accept next → SoundReading next
-unfolding typeLine entriesOf
-type-sound st x next e =
-    let h = not-refused _ 3 _ next e in
-    subst SoundReading (accepted-is (h .1)) (go (st .complete) (st .current) (first-false (not (isEmpty (st .complete ++ optional (st .current)))) _ (h .0)))
+step-sound : (st : Reading) (x : Line) (next : Reading) (top : ℕ) → SoundReading st → Taken st x next top → SoundReading next
+unfolding entriesOf
+step-sound st x next top ok (ofType f t) = subst SoundReading (t .is) (go (st .complete) (st .current) (t .first))
   where
-    first-false : (a b : Bool) → (a || b) ≡ false → a ≡ false
-    first-false true b e = absurd (true≢false e)
-    first-false false b e = refl
-
     go : (es : List Stored) (o : Option Stored) → not (isEmpty (es ++ optional o)) ≡ false
         → SoundReading (record { schema = st .schema ++ (record { number = x .a; syntax = x .b } ∷ []); complete = es; current = o })
     go [] none h = record { before = none-accepted _; last = tt }
     go [] (some c) h = absurd (true≢false h)
     go (c ∷ cs) o h = absurd (true≢false h)
+step-sound st x next top ok (ofEntry f t) =
+    subst SoundReading (t .is) (record { before = sound-all st ok; last = record { parent = t .parent; name = refl; alone = t .alone } })
+step-sound st x next top ok (ofValue f t) =
+    let l : FreshLast (st .schema) (st .complete) (some (t .last)) = subst (FreshLast (st .schema) (st .complete)) (t .current) (ok .last) in
+    subst SoundReading (t .is) (record { before = ok .before; last = record { parent = l .parent; name = l .name; alone = l .alone } })
 
-entry-sound : (st : Reading) (x : Line) (next : Reading) → SoundReading st → entryLine st x ≡ accept next → SoundReading next
-unfolding entryLine
-entry-sound st x next ok e =
-    let h₂ = not-refused (ltb (length (entriesOf st)) (x .a)) 2 _ next e in
-    let h₆ = not-refused (lacksNaming (st .schema) (st .current)) 6 _ next (h₂ .1) in
-    let h₃ = not-refused (leb 256 (length (entriesOf st)) || ltb 8 (length (newEntry (entriesOf st) x .name))) 3 _ next (h₆ .1) in
-    let h₄ = not-refused (not (allowed (st .schema) (x .b) (x .bytes))) 4 _ next (h₃ .1) in
-    let h₅ = not-refused (clashes (st .schema) (entriesOf st) (x .a) (part (x .b) (x .bytes))) 5 _ next (h₄ .1) in
-    let s : SoundReading (record { schema = st .schema; complete = entriesOf st; current = some (newEntry (entriesOf st) x) })
-    = record { before = sound-all st ok; last = record { parent = ltb-false _ _ (h₂ .0); name = refl; alone = h₅ .0 } } in
-    subst SoundReading (accepted-is (h₅ .1)) s
-
-value-sound : (st : Reading) (x : Line) (next : Reading) (o : Option Stored) → Accepted (st .schema) (st .complete) → FreshLast (st .schema) (st .complete) o
-    → valueLine st o x ≡ accept next → SoundReading next
-unfolding valueLine
-value-sound st x next none ok f e = absurd (refused-not 3 next e)
-value-sound st x next (some c) ok f e =
-    let h₃ = not-refused (ltb (x .a) ((lastOr (part 0 []) (c .values)) .type)) 3 _ next e in
-    let h₄ = not-refused (not (allowed (st .schema) (x .a) (x .bytes))) 4 _ next (h₃ .1) in
-    let h₅ = not-refused (any (samePart (st .schema) (part (x .a) (x .bytes))) (c .values)) 5 _ next (h₄ .1) in
-    let s : SoundReading (record { schema = st .schema; complete = st .complete; current = some (withValue c (part (x .a) (x .bytes))) })
-    = record { before = ok; last = record { parent = f .parent; name = f .name; alone = f .alone } } in
-    subst SoundReading (accepted-is (h₅ .1)) s
-
-step-sound : (top : ℕ) (st : Reading) (x : Line) (next : Reading) → SoundReading st → step top st x ≡ accept next → SoundReading next
-unfolding step
-step-sound top st x next ok e = go (eqb (x .kind) 1) (eqb (x .kind) 2) ((not-refused (not (inForm (directoryForms top) x)) 2 _ next e) .1)
-  where
-    go : (a b : Bool) → cond a (typeLine st x) (cond b (entryLine st x) (valueLine st (st .current) x)) ≡ accept next → SoundReading next
-    go true b h = type-sound st x next h
-    go false true h = entry-sound st x next ok h
-    go false false h = value-sound st x next (st .current) (ok .before) (ok .last) h
-
-fold-sound : (top : ℕ) (s : Sheet) (st : Reading) (d : Directory.Directory) → SoundReading st → fold (step top) finish 2 st s ≡ accept d → Accepted (d .schema) (d .entries)
-unfolding fold finish
-fold-sound top end st d ok e =
-    subst (λ (x : Directory.Directory). Accepted (x .schema) (x .entries)) (accepted-is ((not-refused (lacksNaming (st .schema) (st .current)) 6 _ d e) .1)) (sound-all st ok)
-fold-sound top broken st d ok e = absurd (refused-not 2 d e)
-fold-sound top (row x rest) st d ok e = go (step top st x) refl e (λ next. fold-sound top rest next d)
-  where
-    go : (v : Verdict Reading) → step top st x ≡ v → then v (λ next. fold (step top) finish 2 next rest) ≡ accept d
-        → ((next : Reading) → SoundReading next → fold (step top) finish 2 next rest ≡ accept d → Accepted (d .schema) (d .entries)) → Accepted (d .schema) (d .entries)
-    go (accept next) p q ih = ih next (step-sound top st x next ok p) q
-    go (refuse n) p q ih = absurd (refused-not n d q)
+run-sound : (top : ℕ) (s : Sheet) (st : Reading) (d : Directory.Directory) → SoundReading st → Run (step top) finish st s d → Accepted (d .schema) (d .entries)
+unfolding finish
+run-sound top end st d ok r =
+    subst (λ (x : Directory.Directory). Accepted (x .schema) (x .entries)) (accepted-is ((not-refused (lacksNaming (st .schema) (st .current)) 6 _ d r) .1)) (sound-all st ok)
+run-sound top broken st d ok r = absurd r
+run-sound top (row x rest) st d ok (next, e, r) = run-sound top rest next d (step-sound st x next top ok (step-taken st x next top e)) r
 
 -- what an accepted sheet tells
 pub accepted-means : (f : Format) (s : Bytes) (d : Directory.Directory) → directoryOf f s ≡ accept d → Accepted (d .schema) (d .entries)
-unfolding directoryOf
-accepted-means f s d e = fold-sound (f .top) (lines (f .width) s) nothing d (record { before = none-accepted []; last = tt }) ((not-refused (ltb 65536 (length s)) 1 _ d e) .1)
+accepted-means f s d e = run-sound (f .top) (lines (f .width) s) nothing d (record { before = none-accepted []; last = tt }) (accepted-run f s d e)
 
 -- ---- a name names at most one entry
 

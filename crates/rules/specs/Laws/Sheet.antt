@@ -1,6 +1,6 @@
 -- Laws of `Sheet`: the lines of a sheet one by one, and a line that is printed is read back.
 use Prim.Native.Nat.{ℕ, zero, suc, _+_, _-_, _*_, _/_, _%_, _^_, _≤_, _<_}
-use mathlib.Core.Path.{_≡_, refl, sym, ap, _∙_}
+use mathlib.Core.Path.{_≡_, refl, sym, ap, _∙_, subst}
 use mathlib.Core.Bool.{Bool, true, false, cond}
 use mathlib.Core.List.{List, [], _∷_, _++_, append-assoc, append-nil}
 use native.Mathlib.Omega.{arith}
@@ -10,50 +10,65 @@ use lib.ListN.{length, getD, take, drop, length-append, length-drop}
 use lib.Seq.{length-take-le, take-at, take-all, drop-at, getD-at, drop-drop}
 use borrow.Author.Tests.{eq-eqb, ne-eqb, le-leb, lt-ltb, le-ltb, ltb-true, leb-true, eqb-true, eqb-false}
 use Rattle.rules.specs.Lists.{gather}
-use Rattle.rules.specs.Sheet.{Bytes, Line, line, strip, digits, numeral, columnOf, columnAt, whole, frontOf, valueOf, restOf, Sheet, end, broken, row, byFront, linesWithin, lines, leading, column, numbers, lineBytes, print}
+use Rattle.rules.specs.Sheet.{Bytes, Line, line, strip, digits, numeral, columnOf, columnAt, whole, frontOf, valueOf, restOf, Sheet, end, broken, row, byFront, linesWithin, lines, leading, column, numbers, lineBytes, print, rows}
+use Rattle.rules.specs.Laws.Each.{Each}
 use Rattle.rules.specs.declared.Column.{Column}
 use Rattle.rules.specs.declared.Column.the-variants.{Number, Malformed}
 use Rattle.rules.specs.declared.Front.{Front}
 use Rattle.rules.specs.declared.Front.the-variants.{Taken, NotInForm, End}
 
--- ---- a line taken fits the sheet
+-- ---- what stands at the front
 
-malformed-taken : {k a b c l : ℕ} → NotInForm ≡ Taken k a b c l → ⊥
-malformed-taken e = let z : _≡_ {A = ℕ} 0 1 = cc in omega arith
+pub no-bytes : (v : Bytes) → length v ≡ 0 → v ≡ []
+no-bytes [] e = refl
+no-bytes (b ∷ bs) e = absurd (omega arith)
 
-end-taken : {k a b c l : ℕ} → End ≡ Taken k a b c l → ⊥
-end-taken e = let z : _≡_ {A = ℕ} 0 1 = cc in omega arith
+-- a line taken: its columns, that it fits the sheet, and its end
+pub record LineAt (w : ℕ) (s : Bytes) (k a b c l : ℕ) : Type 0 where
+  pub col₀ : columnOf (columnAt w 0 s) ≡ Number k
+  pub col₁ : columnOf (columnAt w 1 s) ≡ Number a
+  pub col₂ : columnOf (columnAt w 2 s) ≡ Number b
+  pub col₃ : columnOf (columnAt w 3 s) ≡ Number c
+  pub col₄ : columnOf (columnAt w 4 s) ≡ Number l
+  pub short : l ≤ 64
+  pub fits : 5 * w + l < length s
+  pub stop : getD s (5 * w + l) 0 ≡ 10
 
-module _ (w : ℕ) (s : Bytes) {k a b c l : ℕ} where
-  tests-fit : (k′ a′ b′ c′ n : ℕ) (t₁ t₂ t₃ : Bool) → leb n 64 ≡ t₁ → ltb (5 * w + n) (length s) ≡ t₂
-      → cond t₁ (cond t₂ (cond t₃ (Taken k′ a′ b′ c′ n) NotInForm) NotInForm) NotInForm ≡ Taken k a b c l → (l ≤ 64) × (5 * w + l < length s)
-  tests-fit k′ a′ b′ c′ n true true true p q e =
-      let h : n ≡ l = cc in
-      let g : 5 * w + n < length s = ltb-true (5 * w + n) (length s) q in
-      let f : n ≤ 64 = leb-true n 64 p in
-      omega arith
-  tests-fit k′ a′ b′ c′ n true true false p q e = absurd (malformed-taken e)
-  tests-fit k′ a′ b′ c′ n true false t₃ p q e = absurd (malformed-taken e)
-  tests-fit k′ a′ b′ c′ n false t₂ t₃ p q e = absurd (malformed-taken e)
+abbrev pub Tells : ℕ → Bytes → Front → Type 0
+Tells w s (Taken k a b c l) = LineAt w s k a b c l
+Tells w s NotInForm = Unit {0}
+Tells w s End = s ≡ []
 
-  whole-fits : (f₀ f₁ f₂ f₃ f₄ : Column) → whole w s f₀ f₁ f₂ f₃ f₄ ≡ Taken k a b c l → (l ≤ 64) × (5 * w + l < length s)
+module _ (w : ℕ) (s : Bytes) where
+  whole-tells : (f₀ f₁ f₂ f₃ f₄ : Column) → columnOf (columnAt w 0 s) ≡ f₀ → columnOf (columnAt w 1 s) ≡ f₁ → columnOf (columnAt w 2 s) ≡ f₂
+      → columnOf (columnAt w 3 s) ≡ f₃ → columnOf (columnAt w 4 s) ≡ f₄ → Tells w s (whole w s f₀ f₁ f₂ f₃ f₄)
   unfolding whole
-  whole-fits Malformed f₁ f₂ f₃ f₄ e = absurd (malformed-taken e)
-  whole-fits (Number k₁) Malformed f₂ f₃ f₄ e = absurd (malformed-taken e)
-  whole-fits (Number k₁) (Number a₁) Malformed f₃ f₄ e = absurd (malformed-taken e)
-  whole-fits (Number k₁) (Number a₁) (Number b₁) Malformed f₄ e = absurd (malformed-taken e)
-  whole-fits (Number k₁) (Number a₁) (Number b₁) (Number c₁) Malformed e = absurd (malformed-taken e)
-  whole-fits (Number k₁) (Number a₁) (Number b₁) (Number c₁) (Number n) e =
-      tests-fit k₁ a₁ b₁ c₁ n (leb n 64) (ltb (5 * w + n) (length s)) (eqb (getD s (5 * w + n) 0) 10) refl refl e
+  whole-tells Malformed f₁ f₂ f₃ f₄ e₀ e₁ e₂ e₃ e₄ = tt
+  whole-tells (Number k) Malformed f₂ f₃ f₄ e₀ e₁ e₂ e₃ e₄ = tt
+  whole-tells (Number k) (Number a) Malformed f₃ f₄ e₀ e₁ e₂ e₃ e₄ = tt
+  whole-tells (Number k) (Number a) (Number b) Malformed f₄ e₀ e₁ e₂ e₃ e₄ = tt
+  whole-tells (Number k) (Number a) (Number b) (Number c) Malformed e₀ e₁ e₂ e₃ e₄ = tt
+  whole-tells (Number k) (Number a) (Number b) (Number c) (Number l) e₀ e₁ e₂ e₃ e₄ = go (leb l 64) (ltb (5 * w + l) (length s)) (eqb (getD s (5 * w + l) 0) 10) refl refl refl
+    where
+      go : (t₁ t₂ t₃ : Bool) → leb l 64 ≡ t₁ → ltb (5 * w + l) (length s) ≡ t₂ → eqb (getD s (5 * w + l) 0) 10 ≡ t₃
+          → Tells w s (cond t₁ (cond t₂ (cond t₃ (Taken k a b c l) NotInForm) NotInForm) NotInForm)
+      go true true true p q r = record { col₀ = e₀; col₁ = e₁; col₂ = e₂; col₃ = e₃; col₄ = e₄; short = leb-true l 64 p; fits = ltb-true (5 * w + l) (length s) q; stop = eqb-true (getD s (5 * w + l) 0) 10 r }
+      go true true false p q r = tt
+      go true false t₃ p q r = tt
+      go false t₂ t₃ p q r = tt
 
-  front-fits-by : (t₁ t₂ : Bool) (f₀ f₁ f₂ f₃ f₄ : Column) → cond t₁ End (cond t₂ NotInForm (whole w s f₀ f₁ f₂ f₃ f₄)) ≡ Taken k a b c l → (l ≤ 64) × (5 * w + l < length s)
-  front-fits-by true t₂ f₀ f₁ f₂ f₃ f₄ e = absurd (end-taken e)
-  front-fits-by false true f₀ f₁ f₂ f₃ f₄ e = absurd (malformed-taken e)
-  front-fits-by false false f₀ f₁ f₂ f₃ f₄ e = whole-fits f₀ f₁ f₂ f₃ f₄ e
-
-  pub front-fits : frontOf w s ≡ Taken k a b c l → (l ≤ 64) × (5 * w + l < length s)
+  pub front-tells : (x : Front) → frontOf w s ≡ x → Tells w s x
   unfolding frontOf
-  front-fits e = front-fits-by (eqb (length s) 0) (ltb (length s) (5 * w)) _ _ _ _ _ e
+  front-tells x e = subst (Tells w s) e (go (eqb (length s) 0) (ltb (length s) (5 * w)) refl)
+    where
+      go : (t₁ t₂ : Bool) → eqb (length s) 0 ≡ t₁
+          → Tells w s (cond t₁ End (cond t₂ NotInForm (whole w s (columnOf (columnAt w 0 s)) (columnOf (columnAt w 1 s)) (columnOf (columnAt w 2 s)) (columnOf (columnAt w 3 s)) (columnOf (columnAt w 4 s)))))
+      go true t₂ p = no-bytes s (eqb-true (length s) 0 p)
+      go false true p = tt
+      go false false p = whole-tells _ _ _ _ _ refl refl refl refl refl
+
+  pub front-fits : {k a b c l : ℕ} → frontOf w s ≡ Taken k a b c l → (l ≤ 64) × (5 * w + l < length s)
+  front-fits {k} {a} {b} {c} {l} e = let f = front-tells (Taken k a b c l) e in (f .short, f .fits)
 
 pub front-end : (w : ℕ) (s : Bytes) → length s ≡ 0 → frontOf w s ≡ End
 unfolding frontOf
@@ -272,13 +287,7 @@ module _ (w : ℕ) (x : Line) (rest : Bytes) (f : FitsColumns (suc w) x) where
 
 -- all lines fit
 abbrev pub AllFit : ℕ → List Line → Type 0
-AllFit w [] = Unit {0}
-AllFit w (x ∷ ls) = FitsColumns w x × AllFit w ls
-
--- the lines `ls`, then `t`
-abbrev pub rows : List Line → Sheet → Sheet
-rows [] t = t
-rows (x ∷ ls) t = row x (rows ls t)
+AllFit w ls = Each (FitsColumns w) ls
 
 -- whatever follows
 pub printed-then : (w : ℕ) (ls : List Line) (rest : Bytes) → AllFit (suc w) ls → lines (suc w) (print (suc w) ls ++ rest) ≡ rows ls (lines (suc w) rest)
@@ -295,6 +304,21 @@ printed w ls f =
     ap (lines (suc w)) (sym (append-nil (print (suc w) ls)))
     ∙ printed-then w ls [] f
     ∙ ap (rows ls) (lines-step (suc w) [] ∙ rw (front-end (suc w) [] refl))
+
+-- ---- each line of a sheet
+
+abbrev pub AllRows : (Line → Type 0) → Sheet → Type 0
+AllRows P end = Unit {0}
+AllRows P broken = Unit {0}
+AllRows P (row x rest) = P x × AllRows P rest
+
+pub rows-each : (P : Line → Type 0) (ls : List Line) → AllRows P (rows ls end) → Each P ls
+rows-each P [] k = tt
+rows-each P (x ∷ ls) k = (k .0, rows-each P ls (k .1))
+
+pub each-rows : (P : Line → Type 0) (ls : List Line) → Each P ls → AllRows P (rows ls end)
+each-rows P [] k = tt
+each-rows P (x ∷ ls) k = (k .0, each-rows P ls (k .1))
 
 -- ---- a part of a sheet
 

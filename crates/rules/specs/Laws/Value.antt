@@ -23,7 +23,7 @@ use Rattle.rules.specs.declared.Order.{Order}
 use Rattle.rules.specs.declared.Order.the-variants.{Less, Equal, Greater}
 
 -- what follows where two answers that differ are said to be equal
-unlike : {A : Type 0} → _≡_ {A = ℕ} 0 1 → A
+pub unlike : {A : Type 0} → _≡_ {A = ℕ} 0 1 → A
 unlike e = absurd (omega arith)
 
 -- ---- identical bytes

@@ -7,7 +7,7 @@ use mathlib.Core.List.{List, [], _∷_}
 use lib.Dec.{eqb}
 use borrow.Author.Tests.{eqb-true}
 use Rattle.rules.specs.Lists.{any}
-use Rattle.rules.specs.Sheet.{Bytes, Line, narrow, print}
+use Rattle.rules.specs.Sheet.{Bytes, Line, print}
 use Rattle.rules.specs.declared.Format.{Format}
 use Rattle.rules.specs.Name.{Schema, Name}
 use Rattle.rules.specs.Judge.{Verdict, accept, refuse, refuseIf, then}
@@ -16,10 +16,11 @@ use Rattle.rules.specs.Permission.{Item, permissionsOf, Read, ReturnDN, 
 use Rattle.rules.specs.Decision.{Setting, Requester, entry, ofType, ofValue, granted}
 use Rattle.rules.specs.Request.{Operation, read, compare, list, search, Request, requestOf}
 use Rattle.rules.specs.Answer.{answer}
-use Rattle.rules.specs.Serve.{settingOf, ground, exchange, above, tighter, capped, within, fitting, respond, judgedAt, serveAt, serve}
+use Rattle.rules.specs.Serve.{settingOf, ground, exchange, above, tighter, capped, within, fitting, respond, judgedAt, serveAt}
 use Rattle.rules.specs.declared.Limits.{Limits}
 use Rattle.rules.specs.Shown.{ofEntries, ofTypes, ofValues, sight, shown, Alike}
 use Rattle.rules.specs.Laws.Tests.{or-right}
+use Rattle.rules.specs.Laws.Judge.{then-cong}
 use Rattle.rules.specs.Laws.Directory.{Accepted, accepted-means, once-named}
 use Rattle.rules.specs.Secrecy.FromShown.{Enough, answer-shown}
 
@@ -64,10 +65,6 @@ answers-alike d₁ d₂ is u ok₁ ok₂ e same n o =
     ∙ (λ i. answer (record { schema = e i; items = is; requester = u }) (same i) n o)
     ∙ sym (answer-from-shown (settingOf d₂ is u) d₂ refl ok₂ n o)
 
-then-cong : {A B : Type 0} (v : Verdict A) (f g : A → Verdict B) → ((a : A) → v ≡ accept a → f a ≡ g a) → then v f ≡ then v g
-then-cong (accept a) f g h = h a refl
-then-cong (refuse n) f g h = refl
-
 judged-alike : (f : Format) (k : Limits) (d₁ d₂ p q : Bytes) (room : ℕ) → Alike f p q d₁ d₂ → judgedAt f k d₁ p q room ≡ judgedAt f k d₂ p q room
 unfolding judgedAt ground
 judged-alike f k d₁ d₂ p q room alike = rw (alike .accepted₁, alike .accepted₂) inner
@@ -97,13 +94,10 @@ judged-alike f k d₁ d₂ p q room alike = rw (alike .accepted₁, alike .accep
     inner : from (D₁ .schema) D₁ ≡ from (D₂ .schema) D₂
     inner = by (permissionsOf f (D₁ .schema) p) refl ∙ ap (λ (S : Schema). from S D₂) (alike .schema)
 
--- the theorem: for every permission sheet `p`, request sheet `q`, program and buffer length `room`
-pub demand-3-at : (f : Format) (k : Limits) (d₁ d₂ p q : Bytes) (room : ℕ) → Alike f p q d₁ d₂ → serveAt f k d₁ p q room ≡ serveAt f k d₂ p q room
+-- the theorem: for every form, program, permission sheet `p`, request sheet `q` and buffer length `room`
+pub demand-3 : (f : Format) (k : Limits) (d₁ d₂ p q : Bytes) (room : ℕ) → Alike f p q d₁ d₂ → serveAt f k d₁ p q room ≡ serveAt f k d₂ p q room
 unfolding serveAt
-demand-3-at f k d₁ d₂ p q room alike = ap (refuseIf (above k room) 33) (judged-alike f k d₁ d₂ p q room alike)
-
-pub demand-3 : (k : Limits) (d₁ d₂ p q : Bytes) (room : ℕ) → Alike narrow p q d₁ d₂ → serve k d₁ p q room ≡ serve k d₂ p q room
-demand-3 = demand-3-at narrow
+demand-3 f k d₁ d₂ p q room alike = ap (refuseIf (above k room) 33) (judged-alike f k d₁ d₂ p q room alike)
 
 -- an exchange's request is asked as it stands
 pub within-exchange : (r : Request) → within exchange r ≡ r

@@ -10,7 +10,7 @@ use Rattle.rules.specs.Sheet.{Bytes, Line, leading, column, numbers, lineBytes}
 use Rattle.rules.specs.Laws.Sheet.{leading-length, column-length, numbers-length}
 use Rattle.sheet_write.specs.Put.{putAt, leadingByte}
 
-put-none : (d : Bytes) (at : ℕ) → putAt d at [] ≡ d
+pub put-none : (d : Bytes) (at : ℕ) → putAt d at [] ≡ d
 unfolding putAt
 put-none d at = let e : at + 0 ≡ at = omega arith in rw (append-nil (take at d), e) (take-append-drop at d)
 

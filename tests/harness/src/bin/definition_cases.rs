@@ -1,5 +1,5 @@
 //! Writes cases as theorems about the definitions in crates/rules: what the peer answers must be
-//! what `serve` computes to. `definitions/run` has the prover check them.
+//! what `serveAt`, `widened` and `narrowed` compute to. `definitions/run` has the prover check them.
 //!
 //! Arguments: the folder of the definitions, and the folder for two crates' specs: `cases`, which
 //! must be proved, and `wrong`, in which every expected answer is off by one and none may be.
@@ -7,7 +7,9 @@
 
 use harness::cases::{Case, Cases};
 use harness::random::{number_from_environment, Random};
-use peer::caller::Caller;
+use peer::caller::{Call, Caller};
+use peer::form::Form;
+use peer::moves::{moved, Way};
 use std::fmt::Write as _;
 use std::fs;
 use std::io;
@@ -67,24 +69,44 @@ fn definitions(specs: &Path) -> io::Result<Vec<(String, Vec<String>)>> {
 
 struct Theorem {
     number: usize,
-    caller: Caller,
-    case: Case,
-    room: usize,
+    /// What is computed.
+    asked: String,
     expected: Result<Vec<u8>, u32>,
 }
 
+/// Calls in either form, for either program, and every fifth a move of the directory.
 fn theorems(total: usize) -> Vec<Theorem> {
-    let mut cases = Cases::new(Random::from_environment());
+    let mut cases = Cases::of(&[Form::Narrow, Form::Wide], Random::from_environment());
     let mut theorems = Vec::new();
     while theorems.len() < total {
-        let case = cases.next_case();
-        let caller = Caller::ALL[theorems.len() % Caller::ALL.len()];
-        let answer = peer::serve(&case.dir, &case.perm, &case.req, usize::MAX);
-        let room = cases.room(caller, answer.as_ref().map_or(200, Vec::len));
-        if case.dir.len() + case.perm.len() + case.req.len() <= BYTES {
-            let expected = peer::serve_for(caller, &case.dir, &case.perm, &case.req, room);
-            theorems.push(Theorem { number: theorems.len() + 1, caller, case, room, expected });
+        let Case { form, dir, perm, req, .. } = cases.next_case();
+        if dir.len() + perm.len() + req.len() > BYTES {
+            continue;
         }
+        let number = theorems.len() + 1;
+        let (asked, expected) = if number % 5 == 0 {
+            let (way, name) = match form {
+                Form::Narrow => (Way::There, "widened"),
+                Form::Wide => (Way::Back, "narrowed"),
+            };
+            let length = moved(way, &dir, usize::MAX).map_or(200, |sheet| sheet.len());
+            let room = cases.room_to_move(length);
+            (format!("{name} {} {room}", bytes(&dir)), moved(way, &dir, room))
+        } else {
+            let call = Call::new(Caller::ALL[number % Caller::ALL.len()], form);
+            let answer = peer::serve_for(call, &dir, &perm, &req, usize::MAX);
+            let room = cases.room(call.caller, answer.as_ref().map_or(200, Vec::len));
+            let asked = format!(
+                "serveAt {} {} {} {} {} {room}",
+                format_of(form),
+                limits(call.caller),
+                bytes(&dir),
+                bytes(&perm),
+                bytes(&req),
+            );
+            (asked, peer::serve_for(call, &dir, &perm, &req, room))
+        };
+        theorems.push(Theorem { number, asked, expected });
     }
     theorems
 }
@@ -103,15 +125,7 @@ impl Theorem {
             }
             Err(refusal) => format!("refuse {}", refusal + u32::from(wrong)),
         };
-        let mut text = format!(
-            "case-{} : serve {} {} {} {} {} ≡ {expected}\nunfolding",
-            self.number,
-            limits(self.caller),
-            bytes(&self.case.dir),
-            bytes(&self.case.perm),
-            bytes(&self.case.req),
-            self.room
-        );
+        let mut text = format!("case-{} : {} ≡ {expected}\nunfolding", self.number, self.asked);
         for (module, names) in opened {
             for name in names {
                 let _ = write!(text, " {module}.{name}");
@@ -119,6 +133,14 @@ impl Theorem {
         }
         let _ = writeln!(text, "\ncase-{} = refl\n", self.number);
         text
+    }
+}
+
+/// The definition of a form.
+fn format_of(form: Form) -> &'static str {
+    match form {
+        Form::Narrow => "narrow",
+        Form::Wide => "wide",
     }
 }
 
@@ -162,7 +184,8 @@ fn write_crate(
     let mut header = String::from(
         "use mathlib.Core.Path.{_≡_, refl}\nuse mathlib.Core.List.{[], _∷_}\n\
          use Rattle.rules.specs.Examples.{bytesOf}\nuse Rattle.rules.specs.Judge.{accept, refuse}\n\
-         use Rattle.rules.specs.Serve.{exchange, panel, serve}\n",
+         use Rattle.rules.specs.Sheet.{narrow, wide}\n\
+         use Rattle.rules.specs.Serve.{exchange, panel, serveAt}\nuse Rattle.rules.specs.Move.{widened, narrowed}\n",
     );
     for (module, _) in opened {
         let _ = writeln!(header, "use Rattle.rules.specs.{module}");

@@ -1,16 +1,19 @@
 //! Compares the server under test with the peer over many cases, each as the exchange and as a
-//! panel, and shows by planted faults that a wrong server is found.
+//! panel, in either form, and over moves of their directories; and shows by planted faults that a
+//! wrong server is found.
 //!
 //! SEED and CASES (100,000) come from the environment; KEEP names a folder for the files dir,
 //! perm and request of the first case that differs.
 
 use harness::cases::{Case, Cases};
-use harness::lent::{ask, Outcome};
+use harness::lent::{ask, ask_move, Outcome};
 use harness::random::{number_from_environment, Random};
 use harness::report::Report;
-use harness::server::{subject, Peer, REFUSALS};
-use peer::caller::{Caller, PANEL_ROOM};
+use harness::server::{subject, Peer, Server, MOVE_REFUSALS, REFUSALS};
+use harness::written::digit;
+use peer::caller::{Call, Caller, PANEL_ROOM};
 use peer::fault::Fault;
+use peer::moves::{moved, Way};
 use std::collections::BTreeMap;
 use std::path::Path;
 use std::process::ExitCode;
@@ -21,64 +24,114 @@ const MET_AT_LEAST: u64 = 300;
 fn main() -> ExitCode {
     let total = number_from_environment("CASES", 100_000);
     let mut cases = Cases::new(Random::from_environment());
-    let subject = subject();
-    let reference = Peer::default();
-    let mut report = Report::new("differential");
+    let mut trial = Trial {
+        subject: subject(),
+        report: Report::new("differential"),
+        hidden: Fault::ALL.to_vec(),
+        found: Vec::new(),
+    };
     let mut met: BTreeMap<u64, u64> = BTreeMap::new();
-    let mut outcomes: BTreeMap<(u8, u8, u8), u64> = BTreeMap::new();
-    let mut hidden: Vec<Fault> = Fault::ALL.to_vec();
-    let mut found: Vec<(Fault, u64)> = Vec::new();
+    let mut met_by_moves: BTreeMap<u64, u64> = BTreeMap::new();
+    let mut outcomes: BTreeMap<(char, char, char), u64> = BTreeMap::new();
 
     for number in 1..=total {
         let case = cases.next_case();
-        let Case { dir, perm, req } = &case;
+        let Case { form, dir, perm, req } = &case;
         for caller in Caller::ALL {
+            let call = Call::new(caller, *form);
             let longest = if caller == Caller::Panel { PANEL_ROOM } else { usize::MAX };
-            let answer = peer::serve_for(caller, dir, perm, req, longest);
+            let answer = peer::serve_for(call, dir, perm, req, longest);
             let room = cases.room(caller, answer.map_or(200, |answer| answer.len()));
-            let expected = ask(&reference, caller, dir, perm, req, room);
-            let given = ask(subject.as_ref(), caller, dir, perm, req, room);
-            let good = given == expected && expected.is_sound() && given.is_sound();
-            if !good && report.failed() == 0 {
-                keep(&case);
-            }
-            let lent = format!("case {number}, {caller:?}, room {room}");
-            report.case(good, || describe(&lent, &case, &expected, &given));
+            let serve = |server: &dyn Server| ask(server, call, dir, perm, req, room);
+            let what = || format!("{call:?}, room {room}");
+            let expected = trial.compare(number, &case, what, serve);
             *met.entry(expected.reply.refusal).or_default() += 1;
             if let Ok(answer) = expected.answer() {
                 // Operation, outcome and cut of line 30.
-                *outcomes.entry((answer[11], answer[17], answer[23])).or_default() += 1;
+                let [operation, outcome, cut] = [1, 2, 3].map(|place| digit(*form, answer, place));
+                *outcomes.entry((operation, outcome, cut)).or_default() += 1;
             }
-            hidden.retain(|&fault| {
-                let wrong = Peer { fault: Some(fault) };
-                let same = ask(&wrong, caller, dir, perm, req, room) == expected;
-                if !same {
-                    found.push((fault, number));
-                }
-                same
-            });
+        }
+        for way in Way::ALL {
+            // Seldom a sheet of the form that it is to be moved to.
+            let often = dir.len() > 40_000 || number % 2 == 0;
+            if !often || (way.from() != *form && number % 16 != 0) {
+                continue;
+            }
+            let length = moved(way, dir, usize::MAX).map_or(200, |moved| moved.len());
+            let room = cases.room_to_move(length);
+            let serve = |server: &dyn Server| ask_move(server, way, dir, room);
+            let what = || format!("moved {way:?}, room {room}");
+            let expected = trial.compare(number, &case, what, serve);
+            *met_by_moves.entry(expected.reply.refusal).or_default() += 1;
         }
     }
 
     println!("replies by refusal number (0: answered): {met:?}");
+    println!("moves by refusal number (0: moved): {met_by_moves:?}");
     for ((operation, outcome, cut), count) in &outcomes {
-        let [operation, outcome, cut] = [operation, outcome, cut].map(|&byte| byte as char);
         println!("answers of operation {operation}, outcome {outcome}, cut {cut}: {count}");
     }
-    found.sort_by_key(|&(_, number)| number);
-    for (fault, number) in &found {
-        println!("planted fault {fault:?}: found at case {number}");
+    let mut often = |met: BTreeMap<u64, u64>, refusals: &[u64], least: u64| {
+        for refusal in refusals {
+            let enough = met.get(refusal).is_some_and(|&count| count >= least.min(total / 300));
+            trial.report.check(enough, &format!("refusal {refusal} was met too seldom"));
+        }
+    };
+    often(met, &REFUSALS, MET_AT_LEAST);
+    often(met_by_moves, &MOVE_REFUSALS, MET_AT_LEAST / 5);
+    trial.finish()
+}
+
+struct Trial {
+    subject: Box<dyn Server>,
+    report: Report,
+    /// Planted faults that have not been found, and those that have, with the case.
+    hidden: Vec<Fault>,
+    found: Vec<(Fault, u64)>,
+}
+
+impl Trial {
+    /// Asks the peer, the server under test and the peer with each fault that is still hidden.
+    fn compare(
+        &mut self,
+        number: u64,
+        case: &Case,
+        what: impl Fn() -> String,
+        serve: impl Fn(&dyn Server) -> Outcome,
+    ) -> Outcome {
+        let expected = serve(&Peer::default());
+        let given = serve(self.subject.as_ref());
+        let good = given == expected && expected.is_sound() && given.is_sound();
+        if !good && self.report.failed() == 0 {
+            keep(case);
+        }
+        self.report.case(good, || {
+            describe(&format!("case {number}, {}", what()), case, &expected, &given)
+        });
+        let found = &mut self.found;
+        self.hidden.retain(|&fault| {
+            let same = serve(&Peer { fault: Some(fault) }) == expected;
+            if !same {
+                found.push((fault, number));
+            }
+            same
+        });
+        expected
     }
-    let equal = report.failed() == 0;
-    report.check(equal, "the server under test differs from the peer");
-    for refusal in REFUSALS {
-        let enough = met.get(&refusal).is_some_and(|&count| count >= MET_AT_LEAST.min(total / 300));
-        report.check(enough, &format!("refusal {refusal} was met too seldom"));
+
+    fn finish(mut self) -> ExitCode {
+        for (fault, number) in &self.found {
+            println!("planted fault {fault:?}: found at case {number}");
+        }
+        let equal = self.report.failed() == 0;
+        self.report.check(equal, "the server under test differs from the peer");
+        for &fault in Fault::ALL {
+            let found = !self.hidden.contains(&fault);
+            self.report.check(found, &format!("planted fault {fault:?} was not found"));
+        }
+        self.report.finish()
     }
-    for &fault in Fault::ALL {
-        report.check(!hidden.contains(&fault), &format!("planted fault {fault:?} was not found"));
-    }
-    report.finish()
 }
 
 fn keep(case: &Case) {

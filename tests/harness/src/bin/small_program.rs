@@ -9,6 +9,7 @@ use harness::limits::{large_directory, open_permissions, search};
 use harness::random::{number_from_environment, Random};
 use harness::report::Report;
 use peer::builder::FilterLines;
+use peer::form::Form;
 use std::io::Result;
 use std::path::PathBuf;
 use std::process::{Command, ExitCode};
@@ -33,7 +34,7 @@ fn main() -> Result<ExitCode> {
     std::fs::create_dir(&folder)?;
     let mut trial = Trial { program, folder, report: Report::new("small_program") };
     let total = number_from_environment("PROGRAM_CASES", 200);
-    let mut cases = Cases::new(Random::from_environment());
+    let mut cases = Cases::of(&[Form::Narrow], Random::from_environment());
     for number in 1..=total {
         let case = cases.next_case();
         trial.answers(&format!("case {number}"), [&case.dir, &case.perm, &case.req], &[])?;
@@ -49,8 +50,9 @@ fn main() -> Result<ExitCode> {
 impl Trial {
     /// An answer that is too long, and files longer than a sheet may be.
     fn lengths(&mut self) -> Result<()> {
-        let request = search(FilterLines::Present(1)).to_bytes();
-        let (dir, perm) = (large_directory().to_bytes(), open_permissions().to_bytes());
+        let request = search(FilterLines::Present(1)).to_bytes(Form::Narrow);
+        let (dir, perm) =
+            (large_directory().to_bytes(Form::Narrow), open_permissions().to_bytes(Form::Narrow));
         self.answers("an answer longer than 65,536 bytes", [&dir, &perm, &request], &[])?;
         for length in [65_536, 65_537, 65_538, 200_000] {
             let long = vec![b' '; length];
@@ -64,8 +66,8 @@ impl Trial {
     /// Files with other names, and files that cannot be read: of those standard error is told, and
     /// nothing is printed.
     fn files(&mut self) -> Result<()> {
-        let perm = open_permissions().to_bytes();
-        let request = search(FilterLines::Present(1)).to_bytes();
+        let perm = open_permissions().to_bytes(Form::Narrow);
+        let request = search(FilterLines::Present(1)).to_bytes(Form::Narrow);
         self.answers("other names", [b"", &perm, &request], &["a", "b", "c"])?;
         self.answers("one other name", [b"", &perm, &request], &["a"])?;
         for wrong in ["absent", "."] {

@@ -3,18 +3,22 @@
 use harness::explicit::{asking, deny, grant, named, person, search_root, Explicit, Situation};
 use harness::limits::{deep_directory, open, open_permissions, wide_directory};
 use peer::builder::{
-    DirectorySheet, EntryLines, FilterLines, ItemLines, OperationLines, RequestSheet, Selected,
-    Thing, User,
+    EntryLines, FilterLines, ItemLines, OperationLines, RequestSheet, Selected, Thing, User,
 };
+use peer::caller::{Call, Caller};
+use peer::form::Form;
 use std::process::ExitCode;
 
 fn main() -> ExitCode {
     let mut test = Explicit::new("thirteen_examples");
-    truth_values(&mut test);
-    decisions(&mut test);
-    values(&mut test);
-    counts(&mut test);
-    printed(&mut test);
+    for form in Form::ALL {
+        test.call = Call::new(Caller::Exchange, form);
+        truth_values(&mut test);
+        decisions(&mut test);
+        values(&mut test);
+        counts(&mut test);
+        printed(&mut test);
+    }
     test.finish()
 }
 
@@ -70,23 +74,21 @@ fn values(test: &mut Explicit) {
     test.expect_truth("10, twice", &world, pieces(2), 'F');
     for wrong in ["-0", "9223372036854775808"] {
         let world = Situation::new(vec![person(0, "Ann", &[(3, wrong)])], open());
-        let (dir, perm) = (world.directory.to_bytes(), world.permissions.to_bytes());
-        test.expect(&format!("11, {wrong}"), 4, &dir, &perm, b"");
+        let (dir, perm) = (&world.directory, &world.permissions);
+        test.expect(&format!("11, {wrong}"), 4, dir, perm, b"");
     }
 }
 
 fn counts(test: &mut Explicit) {
-    let list = |limit| asking(vec![], OperationLines::List { limit }).to_bytes();
-    let perm = open_permissions().to_bytes();
-    let answered = |directory: DirectorySheet| directory.to_bytes();
-    test.expect("12, 256 entries", 0, &answered(wide_directory(256)), &perm, &list(0));
-    test.expect("12, 257 entries", 3, &answered(wide_directory(257)), &perm, &list(0));
-    test.expect("12, depth 8", 0, &answered(deep_directory(8)), &perm, &list(0));
-    test.expect("12, depth 9", 3, &answered(deep_directory(9)), &perm, &list(0));
-    for (count, cut) in [(2, b'0'), (3, b'1')] {
-        let directory = answered(wide_directory(count));
-        let (reply, sound) = test.ask(&directory, &perm, &list(2), test.room());
-        let good = sound && reply.is_ok_and(|answer| answer.get(23) == Some(&cut));
+    let list = |limit| asking(vec![], OperationLines::List { limit });
+    let perm = open_permissions();
+    test.expect("12, 256 entries", 0, &wide_directory(256), &perm, &list(0));
+    test.expect("12, 257 entries", 3, &wide_directory(257), &perm, &list(0));
+    test.expect("12, depth 8", 0, &deep_directory(8), &perm, &list(0));
+    test.expect("12, depth 9", 3, &deep_directory(9), &perm, &list(0));
+    for (count, cut) in [(2, '0'), (3, '1')] {
+        let (reply, sound) = test.ask(&wide_directory(count), &perm, &list(2), test.room());
+        let good = sound && reply.is_ok_and(|answer| test.digit(&answer, 3) == cut);
         test.check(good, &format!("12, limit 2 with {count}"));
     }
     test.expect("12, empty directory", 0, b"", &perm, &list(0));

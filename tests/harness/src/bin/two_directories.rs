@@ -1,5 +1,5 @@
 //! Asks the same requests of two directories that are alike for the requester, as the exchange and
-//! as a panel: refusal, length and bytes must be equal. Planted faults that leak show that a leak
+//! as a panel, in either form: refusal, length and bytes must be equal. Planted faults that leak show that a leak
 //! is found.
 //!
 //! SEED and PAIRS (4,000) come from the environment.
@@ -12,8 +12,10 @@ use harness::report::Report;
 use harness::requests::request_of;
 use harness::server::{subject, Peer, Server};
 use harness::shown::shown;
-use peer::caller::{Caller, PANEL_ROOM};
+use harness::written::digit;
+use peer::caller::{Call, Caller, PANEL_ROOM};
 use peer::fault::Fault;
+use peer::form::Form;
 use std::collections::BTreeMap;
 use std::process::ExitCode;
 
@@ -30,6 +32,7 @@ fn main() -> ExitCode {
     let (mut pairs, mut showing) = (0, 0);
     let mut replies: BTreeMap<(u64, char), u64> = BTreeMap::new();
     let mut changes: BTreeMap<Change, u64> = BTreeMap::new();
+    let mut forms: BTreeMap<Form, u64> = BTreeMap::new();
 
     while pairs < total {
         let Some(pair) = pair(&mut random) else {
@@ -39,19 +42,22 @@ fn main() -> ExitCode {
         for &change in &pair.changes {
             *changes.entry(change).or_default() += 1;
         }
-        let (one, other) = (pair.one.to_bytes(), pair.other.to_bytes());
-        let permissions = pair.permissions.to_bytes();
+        let form = pair.form;
+        *forms.entry(form).or_default() += 1;
+        let (one, other) = (pair.one.to_bytes(form), pair.other.to_bytes(form));
+        let permissions = pair.permissions.to_bytes(form);
         for _ in 0..REQUESTS {
             let mut perm = permissions.clone();
             let mut req = ask_about(&mut random, &pair);
             if random.once_in(20) {
-                spoil(&mut random, &one, &mut perm, &mut req);
+                spoil(&mut random, form, &one, &mut perm, &mut req);
             }
             for caller in Caller::ALL {
-                let room = room(&mut random, caller, [&one, &perm, &req]);
+                let call = Call::new(caller, form);
+                let room = room(&mut random, call, [&one, &perm, &req]);
                 let differs = |server: &dyn Server| {
-                    let first = ask(server, caller, &one, &perm, &req, room);
-                    let second = ask(server, caller, &other, &perm, &req, room);
+                    let first = ask(server, call, &one, &perm, &req, room);
+                    let second = ask(server, call, &other, &perm, &req, room);
                     let accepted = |refusal| !(1..=6).contains(&refusal);
                     let good = first == second
                         && first.is_sound()
@@ -59,16 +65,16 @@ fn main() -> ExitCode {
                         && accepted(second.reply.refusal);
                     (!good).then(|| (first.describe(), second.describe()))
                 };
-                let reply = ask(subject.as_ref(), caller, &one, &perm, &req, room);
-                let outcome = reply.answer().ok().and_then(|answer| answer.get(17)).copied();
-                let seen = (reply.reply.refusal, outcome.unwrap_or(b'-').into());
+                let reply = ask(subject.as_ref(), call, &one, &perm, &req, room);
+                let outcome = reply.answer().map_or('-', |answer| digit(form, answer, 2));
+                let seen = (reply.reply.refusal, outcome);
                 *replies.entry(seen).or_default() += 1;
                 let difference = differs(subject.as_ref());
                 report.case(difference.is_none(), || {
                     let text = |sheet: &[u8]| String::from_utf8_lossy(sheet).into_owned();
                     let (first, second) = difference.unwrap_or_default();
                     let sheets = [text(&one), text(&other), text(&perm), text(&req)].join("--\n");
-                    format!("pair {pairs}, {caller:?}, room {room}\n{sheets}\n{first}\n{second}")
+                    format!("pair {pairs}, {call:?}, room {room}\n{sheets}\n{first}\n{second}")
                 });
                 hidden.retain(|&fault| {
                     let leak = differs(&Peer { fault: Some(fault) }).is_some();
@@ -86,7 +92,7 @@ fn main() -> ExitCode {
     }
 
     println!("{pairs} pairs, {showing} of them showing something; hidden changes: {changes:?}");
-    println!("replies by refusal and outcome: {replies:?}");
+    println!("pairs by form: {forms:?}; replies by refusal and outcome: {replies:?}");
     report.check(showing > total / 2, "too few pairs show something");
     let equal = report.failed() == 0;
     report.check(equal, "alike directories gave different answers");
@@ -104,25 +110,28 @@ fn main() -> ExitCode {
 fn ask_about(random: &mut Random, pair: &Pair) -> Vec<u8> {
     let directory = if random.percent(50) { &pair.one } else { &pair.other };
     let requester = &pair.requester;
-    request_of(random, directory, requester.level, requester.name.clone()).to_bytes()
+    let name = requester.name.clone();
+    request_of(random, pair.form, directory, requester.level, name).to_bytes(pair.form)
 }
 
 /// Damages permissions or request. The pair need only be alike for the sheets it was made for,
 /// so damage stays only where it leads to a refusal.
-fn spoil(random: &mut Random, dir: &[u8], perm: &mut Vec<u8>, req: &mut Vec<u8>) {
+fn spoil(random: &mut Random, form: Form, dir: &[u8], perm: &mut Vec<u8>, req: &mut Vec<u8>) {
     let (mut worse_perm, mut worse_req) = (perm.clone(), req.clone());
     if random.percent(50) {
-        damage(random, Which::Permissions, &mut worse_perm);
+        damage(random, form, Which::Permissions, &mut worse_perm);
     } else {
-        damage(random, Which::Request, &mut worse_req);
+        damage(random, form, Which::Request, &mut worse_req);
     }
-    if matches!(peer::serve(dir, &worse_perm, &worse_req, usize::MAX), Err(11..=23)) {
+    let call = Call::new(Caller::Exchange, form);
+    let reply = peer::serve_for(call, dir, &worse_perm, &worse_req, usize::MAX);
+    if matches!(reply, Err(11..=23)) {
         (*perm, *req) = (worse_perm, worse_req);
     }
 }
 
-fn room(random: &mut Random, caller: Caller, [dir, perm, req]: [&[u8]; 3]) -> usize {
-    let most = match caller {
+fn room(random: &mut Random, call: Call, [dir, perm, req]: [&[u8]; 3]) -> usize {
+    let most = match call.caller {
         Caller::Exchange => ROOM,
         Caller::Panel if random.once_in(20) => PANEL_ROOM + 1,
         Caller::Panel => PANEL_ROOM,
@@ -130,7 +139,8 @@ fn room(random: &mut Random, caller: Caller, [dir, perm, req]: [&[u8]; 3]) -> us
     if random.percent(70) {
         return most;
     }
-    let answer = peer::serve_for(caller, dir, perm, req, most).map_or(31, |answer| answer.len());
+    let answer = peer::serve_for(call, dir, perm, req, most);
+    let answer = answer.map_or(call.form.line(), |answer| answer.len());
     match random.below(4) {
         0 => answer.saturating_sub(1),
         1 => answer,

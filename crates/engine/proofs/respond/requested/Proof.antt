@@ -7,7 +7,8 @@ use Rattle.rules.specs.Request.{requestGrammar}
 use Rattle.request_sheet.specs.Noted.{RequestNoted}
 use Rattle.tables.specs.Book.{width}
 use Rattle.request_sheet.specs.Laws.Noted.{judged-refused, judged-accepted}
-use Rattle.engine.specs.Laws.Serve.{replies-refused, replies-same, request-refuses, request-accepts}
+use Rattle.answer_reply.specs.Laws.Reply.{replies-refused, replies-same}
+use Rattle.engine.specs.Laws.Serve.{request-refuses, request-accepts}
 use Rattle.engine.specs.Laws.Respond.{asker-of, respond-is}
 use borrow.Author.Needs.{needs}
 use Rattle.engine.proofs.respond.requested.Statement.{statement}

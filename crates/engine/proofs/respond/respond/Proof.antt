@@ -14,7 +14,7 @@ use Rattle.tables.specs.Book.{width}
 use Rattle.tables.specs.World.{World}
 use Rattle.answer_choice.specs.Selected.{selectionOf}
 use Rattle.answer_choice.specs.Laws.Selected.{selection-noted}
-use Rattle.engine.specs.Laws.Serve.{replies-same}
+use Rattle.answer_reply.specs.Laws.Reply.{replies-same}
 use Rattle.answer_operation.specs.Posed.{Posed, KnownRequest}
 use Rattle.answer_operation.specs.Laws.Posed.{posed-choice}
 use Rattle.engine.specs.Laws.Respond.{name-whole, base-of}

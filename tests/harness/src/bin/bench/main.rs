@@ -9,12 +9,14 @@ mod worlds;
 use clock::processor_time;
 use harness::lent::ask;
 use harness::server::{Library, Peer, Reply, Server};
-use peer::caller::Caller;
+use peer::caller::{Call, Caller};
+use peer::form::Form;
 use std::env;
 use std::hint::black_box;
 use std::time::Duration;
 use worlds::{worlds, World};
 
+const CALL: Call = Call::new(Caller::Exchange, Form::Narrow);
 const ROOM: usize = 1 << 20;
 const ROUNDS: usize = 51;
 const ROUND: Duration = Duration::from_millis(1);
@@ -69,8 +71,7 @@ fn table() {
 /// Stops unless both servers give the same answer; its length.
 fn compared(world: &World, name: &str, request: &[u8]) -> usize {
     let (directory, permissions) = (&world.directory, &world.permissions);
-    let asked =
-        |server: &dyn Server| ask(server, Caller::Exchange, directory, permissions, request, ROOM);
+    let asked = |server: &dyn Server| ask(server, CALL, directory, permissions, request, ROOM);
     let (ours, theirs) = (asked(&Library), asked(&Peer::default()));
     let row = format!("{}, {name}", world.name);
     assert!(ours == theirs && ours.is_sound(), "{row}: the servers differ");
@@ -114,7 +115,7 @@ impl Timed {
 #[inline(never)]
 fn measured(server: &dyn Server, world: &World, request: &[u8], out: &mut [u8]) -> Reply {
     let (directory, permissions) = (black_box(&world.directory), black_box(&world.permissions));
-    black_box(server.serve(Caller::Exchange, directory, permissions, black_box(request), out))
+    black_box(server.serve(CALL, directory, permissions, black_box(request), out))
 }
 
 /// One measured call, after one that is not.
@@ -127,7 +128,7 @@ fn once(world: &str, request: &str, server: &str) {
     let mut out = vec![0; ROOM];
     each(|of, name, bytes| {
         if (of.name, name) == (world, request) {
-            server.serve(Caller::Exchange, &of.directory, &of.permissions, bytes, &mut out);
+            server.serve(CALL, &of.directory, &of.permissions, bytes, &mut out);
             measured(server, of, bytes, &mut out);
         }
     });

@@ -8,6 +8,7 @@ use peer::builder::{
     DirectorySheet, EntryLines, FilterLines, ItemLines, Name, OperationLines, PermissionSheet,
     RequestSheet, Selected, Thing, User,
 };
+use peer::form::Form;
 
 const NAME: u32 = 1;
 const ROOM: u32 = 2;
@@ -206,7 +207,8 @@ fn digest_from(sum: u64, value: &[u8]) -> u64 {
     let bytes: Vec<u8> = value.iter().map(|byte| caseless(*byte)).collect();
     let words = bytes.chunks_exact(4);
     let left = words.remainder();
-    let words = words.map(|word| u64::from(u32::from_le_bytes([word[0], word[1], word[2], word[3]])));
+    let words =
+        words.map(|word| u64::from(u32::from_le_bytes([word[0], word[1], word[2], word[3]])));
     let numbers = words.chain(left.iter().map(|byte| u64::from(*byte)));
     let mixed = numbers.fold(sum, |sum, number| {
         let product = (sum % (1 << 32) + number) * 1_540_483_477;
@@ -247,7 +249,7 @@ fn world(
     above.pop();
     let ask = |name: &Name, operation| {
         let (requester, name) = (person.clone(), name.clone());
-        RequestSheet { level: 0, edition: 0, requester, name, operation }.to_bytes()
+        RequestSheet { level: 0, edition: 0, requester, name, operation }.to_bytes(Form::Narrow)
     };
     let search = |filter| {
         let root = Name::new();
@@ -261,7 +263,12 @@ fn world(
         ("narrow search", search(FilterLines::Equality(*kind, held.clone()))),
         ("worst search", search(filter)),
     ];
-    World { name, directory: directory.to_bytes(), permissions: permissions.to_bytes(), requests }
+    World {
+        name,
+        directory: directory.to_bytes(Form::Narrow),
+        permissions: permissions.to_bytes(Form::Narrow),
+        requests,
+    }
 }
 
 /// 128 lines, 113 of them at depth 16, all false but the last: nothing is decided early, and every

@@ -1,18 +1,15 @@
 //! Refusals 1 to 6.
 
-use super::{typed, L};
+use super::typed;
 use harness::explicit::Explicit;
-use harness::limits::{
-    deep_directory, directory_of_length, directory_of_types, raw, wide_directory,
-};
+use harness::limits::{deep_directory, directory_of_length, directory_of_types, wide_directory};
+use harness::written::{Written, L};
 
 /// An answered request, so that 0 means accepted.
-fn list() -> Vec<u8> {
-    raw(&[(10, 0, 0, 0, b""), (11, 3, 0, 0, b"")])
-}
+const LIST: [L; 2] = [(10, 0, 0, 0, b""), (11, 3, 0, 0, b"")];
 
-fn expect(test: &mut Explicit, what: &str, refusal: u64, dir: &[u8]) {
-    test.expect(what, refusal, dir, b"", &list());
+fn expect(test: &mut Explicit, what: &str, refusal: u64, dir: &dyn Written) {
+    test.expect(what, refusal, dir, b"", &LIST);
 }
 
 fn lines(test: &mut Explicit, what: &str, refusal: u64, lines: &[L]) {
@@ -29,48 +26,56 @@ pub fn run(test: &mut Explicit) {
 }
 
 fn lengths_and_counts(test: &mut Explicit) {
+    let form = test.form();
     expect(test, "empty directory", 0, b"");
-    expect(test, "65,536 bytes", 0, &directory_of_length(65_536).to_bytes());
-    expect(test, "65,537 bytes", 1, &directory_of_length(65_537).to_bytes());
+    expect(test, "65,536 bytes", 0, &directory_of_length(form, 65_536));
+    expect(test, "65,537 bytes", 1, &directory_of_length(form, 65_537));
     expect(test, "65,536 line ends", 2, &[b'\n'; 65_536]);
     expect(test, "65,537 line ends", 1, &[b'\n'; 65_537]);
-    expect(test, "64 types", 0, &directory_of_types(64).to_bytes());
-    expect(test, "65 types", 3, &directory_of_types(65).to_bytes());
-    expect(test, "256 entries", 0, &wide_directory(256).to_bytes());
-    expect(test, "257 entries", 3, &wide_directory(257).to_bytes());
-    expect(test, "depth 8", 0, &deep_directory(8).to_bytes());
-    expect(test, "depth 9", 3, &deep_directory(9).to_bytes());
+    expect(test, "64 types", 0, &directory_of_types(64));
+    expect(test, "65 types", 3, &directory_of_types(65));
+    expect(test, "256 entries", 0, &wide_directory(256));
+    expect(test, "257 entries", 3, &wide_directory(257));
+    expect(test, "depth 8", 0, &deep_directory(8));
+    expect(test, "depth 9", 3, &deep_directory(9));
     for (parent, refusal) in [(0, 3), (255, 3), (256, 3), (257, 2), (258, 2), (999_999, 2)] {
         let mut directory = wide_directory(257);
         directory.entries[256].parent = parent;
         let what = format!("257th entry, parent {parent}");
-        expect(test, &what, refusal, &directory.to_bytes());
+        expect(test, &what, refusal, &directory);
         directory.entries[255].values.clear();
         let refusal = if refusal == 2 { 2 } else { 6 };
         let what = format!("257th entry, parent {parent}, 256th without values");
-        expect(test, &what, refusal, &directory.to_bytes());
+        expect(test, &what, refusal, &directory);
     }
     let mut directory = wide_directory(257);
     directory.entries[256].naming.0 = 7;
-    expect(test, "257th entry of unknown type", 3, &directory.to_bytes());
-    directory.entries[256].naming.0 = 1000;
-    expect(test, "257th entry of type 1000", 2, &directory.to_bytes());
+    expect(test, "257th entry of unknown type", 3, &directory);
+    directory.entries[256].naming.0 = test.top() + 1;
+    expect(test, "257th entry of a type above the top", 2, &directory);
 }
 
 fn types(test: &mut Explicit) {
+    let top = test.top();
     for (what, line, refusal) in [
         ("type 0", (1, 0, 0, 0, &b""[..]), 2),
         ("type 1", (1, 1, 0, 0, b""), 0),
         ("type 999", (1, 999, 2, 0, b""), 0),
-        ("type 1000", (1, 1000, 0, 0, b""), 2),
+        ("top type", (1, top, 2, 0, b""), 0),
+        ("type above the top", (1, top + 1, 0, 0, b""), 2),
         ("syntax 3", (1, 1, 3, 0, b""), 2),
         ("type line with C", (1, 1, 0, 1, b""), 2),
         ("type line with bytes", (1, 1, 0, 0, b"x"), 2),
     ] {
-        expect(test, what, refusal, &raw(&[line]));
+        expect(test, what, refusal, &[line]);
     }
-    expect(test, "one type twice", 3, &raw(&[(1, 5, 0, 0, b""), (1, 5, 0, 0, b"")]));
-    expect(test, "types falling", 3, &raw(&[(1, 5, 0, 0, b""), (1, 4, 0, 0, b"")]));
+    for kind in [1_000, 1_001, 99_999, 100_000, 999_999] {
+        let refusal = if kind <= top { 0 } else { 2 };
+        let lines = [(1, kind, 1, 0, &b""[..]), (2, 0, kind, 0, b"a"), (3, kind, 0, 0, b"A")];
+        expect(test, &format!("type {kind}"), refusal, &lines);
+    }
+    expect(test, "one type twice", 3, &[(1, 5, 0, 0, b"" as &[u8]), (1, 5, 0, 0, b"")]);
+    expect(test, "types falling", 3, &[(1, 5, 0, 0, b"" as &[u8]), (1, 4, 0, 0, b"")]);
     let entry: [L; 2] = [(2, 0, 1, 0, b"a"), (3, 1, 0, 0, b"a")];
     let after = |line: L| [&entry[..], &[line]].concat();
     lines(test, "type after an entry", 3, &after((1, 9, 0, 0, b"")));
@@ -78,16 +83,18 @@ fn types(test: &mut Explicit) {
     let rising: Vec<L> = (0..65).map(|place| (1, 100 + place, 0, 0, &b""[..])).collect();
     let mut wrong = rising.clone();
     wrong[64].2 = 3;
-    expect(test, "65th type with syntax 3", 2, &raw(&wrong));
+    expect(test, "65th type with syntax 3", 2, &wrong);
 }
 
 fn entries(test: &mut Explicit) {
+    let top = test.top();
     for (what, line, refusal) in [
         ("first entry, parent 0", (2, 0, 1, 0, &b"a"[..]), 0),
         ("first entry, parent 1", (2, 1, 1, 0, b"a"), 2),
         ("first entry, parent 2", (2, 2, 1, 0, b"a"), 2),
         ("naming type 0", (2, 0, 0, 0, b"a"), 2),
-        ("naming type 1000", (2, 0, 1000, 0, b"a"), 2),
+        ("naming type above the top", (2, 0, top + 1, 0, b"a"), 2),
+        ("naming type the top, unknown", (2, 0, top, 0, b"a"), 4),
         ("entry with C", (2, 0, 1, 1, b"a"), 2),
         ("naming type unknown", (2, 0, 7, 0, b"a"), 4),
         ("naming value outside integer", (2, 0, 3, 0, b"a"), 4),
@@ -107,10 +114,12 @@ fn entries(test: &mut Explicit) {
 }
 
 fn values(test: &mut Explicit) {
+    let top = test.top();
     let with = |line: L| -> Vec<L> { vec![(2, 0, 1, 0, b"a"), (3, 1, 0, 0, b"a"), line] };
     for (what, line, refusal) in [
         ("value of type 0", (3, 0, 0, 0, &b"x"[..]), 2),
-        ("value of type 1000", (3, 1000, 0, 0, b"x"), 2),
+        ("value of a type above the top", (3, top + 1, 0, 0, b"x"), 2),
+        ("value of the top type, unknown", (3, top, 0, 0, b"x"), 4),
         ("value with B", (3, 1, 1, 0, b"x"), 2),
         ("value with C", (3, 1, 0, 1, b"x"), 2),
         ("value of unknown type", (3, 7, 0, 0, b"x"), 4),
@@ -210,6 +219,7 @@ fn twice(test: &mut Explicit) {
 }
 
 fn naming(test: &mut Explicit) {
+    let top = test.top();
     // The first entry does not hold its naming value; a line follows.
     let after = |more: &[L]| -> Vec<L> { [&[(2, 0, 2, 0, &b"Ann"[..])][..], more].concat() };
     let bob: L = (3, 2, 0, 0, b"Bob");
@@ -225,7 +235,7 @@ fn naming(test: &mut Explicit) {
         ("then an entry", vec![bob, (2, 0, 2, 0, b"Cid")], 6),
         ("then an entry below", vec![bob, (2, 1, 2, 0, b"Cid")], 6),
         ("then an entry whose parent is itself", vec![bob, (2, 2, 2, 0, b"Cid")], 2),
-        ("then an entry of type 1000", vec![bob, (2, 0, 1000, 0, b"Cid")], 2),
+        ("then an entry of a type above the top", vec![bob, (2, 0, top + 1, 0, b"Cid")], 2),
         ("then an entry with C", vec![bob, (2, 0, 2, 1, b"Cid")], 2),
         ("then an entry of unknown type", vec![bob, (2, 0, 7, 0, b"Cid")], 6),
         ("then an entry with a wrong value", vec![bob, (2, 0, 2, 0, b"")], 6),
@@ -251,14 +261,14 @@ fn naming(test: &mut Explicit) {
         let what = format!("naming value {name:?}, held {held:?}");
         lines(test, &what, refusal, &[(2, 0, 2, 0, name), (3, 2, 0, 0, held)]);
     }
-    let mut cut = typed(&after(&[bob, (2, 0, 2, 0, b"Cid")]));
+    let mut cut = typed(&after(&[bob, (2, 0, 2, 0, b"Cid")])).written(test.form());
     cut.pop();
     expect(test, "naming value: then an entry cut off", 2, &cut);
-    cut.truncate(cut.len() - 30);
+    cut.truncate(cut.len() - test.form().head());
     expect(test, "naming value: then a part of a line", 2, &cut);
     let mut deep = deep_directory(9);
     deep.entries[7].values.clear();
-    expect(test, "naming value: then depth 9", 6, &deep.to_bytes());
+    expect(test, "naming value: then depth 9", 6, &deep);
     deep.entries[8].naming.0 = 0;
-    expect(test, "naming value: then depth 9 of type 0", 2, &deep.to_bytes());
+    expect(test, "naming value: then depth 9 of type 0", 2, &deep);
 }

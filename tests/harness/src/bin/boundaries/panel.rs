@@ -3,39 +3,47 @@
 use harness::explicit::{asking, Explicit};
 use harness::lent::MAX_ROOM;
 use harness::limits::{large_directory, open_permissions, search, wide_directory};
-use peer::builder::{FilterLines, OperationLines};
+use harness::written::Written;
+use peer::builder::{FilterLines, OperationLines, RequestSheet};
 use peer::caller::Caller;
 
 /// Buffers that a panel may not lend.
 const TOO_LONG: [usize; 5] = [1_025, 1_026, 2_048, 65_536, MAX_ROOM];
 
 pub fn run(test: &mut Explicit) {
-    test.caller = Caller::Panel;
+    test.call.caller = Caller::Panel;
     lengths(test);
     before_any_sheet(test);
-    test.caller = Caller::Exchange;
+    test.call.caller = Caller::Exchange;
     exchange(test);
 }
 
-fn list(limit: u32) -> Vec<u8> {
-    asking(vec![], OperationLines::List { limit }).to_bytes()
+fn list(limit: u32) -> RequestSheet {
+    asking(vec![], OperationLines::List { limit })
 }
 
 fn lengths(test: &mut Explicit) {
-    let perm = open_permissions().to_bytes();
-    let dir = wide_directory(6).to_bytes();
+    let perm = open_permissions();
+    let dir = wide_directory(6);
     // Line 30 and five lines of 4 bytes each.
-    let length = 31 + 5 * 35;
-    for (room, refusal) in
-        [(0, 31), (31, 31), (length - 1, 31), (length, 0), (length + 1, 0), (1_023, 0), (1_024, 0)]
-    {
+    let line = test.form().line();
+    let length = line + 5 * (line + 4);
+    for (room, refusal) in [
+        (0, 31),
+        (line, 31),
+        (length - 1, 31),
+        (length, 0),
+        (length + 1, 0),
+        (1_023, 0),
+        (1_024, 0),
+    ] {
         let what = format!("five of six in {room} bytes");
         test.expect_in(room, &what, refusal, &dir, &perm, &list(0));
     }
     for room in TOO_LONG {
         test.expect_in(room, &format!("list in {room} bytes"), 33, &dir, &perm, &list(0));
     }
-    for (limit, length) in [(1, 31 + 35), (4, 31 + 4 * 35), (6, length)] {
+    for (limit, length) in [(1, 2 * line + 4), (4, line + 4 * (line + 4)), (6, length)] {
         for (room, refusal) in [(length, 0), (length - 1, 31)] {
             let what = format!("limit {limit} in {room} bytes");
             test.expect_in(room, &what, refusal, &dir, &perm, &list(limit));
@@ -44,7 +52,7 @@ fn lengths(test: &mut Explicit) {
     // Each entry at depth 8 takes more than 400 bytes to print.
     let mut deep = search(FilterLines::Present(1));
     deep.name = vec![(1, b"d".to_vec()); 7];
-    let (dir, deep) = (large_directory().to_bytes(), deep.to_bytes());
+    let dir = large_directory();
     test.expect_in(1_024, "an answer longer than 1,024 bytes", 31, &dir, &perm, &deep);
     test.expect_in(1_025, "the same in 1,025 bytes", 33, &dir, &perm, &deep);
 }
@@ -52,9 +60,15 @@ fn lengths(test: &mut Explicit) {
 fn before_any_sheet(test: &mut Explicit) {
     let long = vec![b' '; 65_537];
     let list = list(0);
-    let clash = wide_directory(257).to_bytes();
+    let clash = wide_directory(257);
     for (what, dir, perm, req, refusal) in [
-        ("directory too long", &long[..], &b""[..], &list[..], 1),
+        (
+            "directory too long",
+            &long as &dyn Written,
+            b"" as &dyn Written,
+            &list as &dyn Written,
+            1,
+        ),
         ("wrong directory", b"x", b"", &list, 2),
         ("257 entries", &clash, b"", &list, 3),
         ("permissions too long", b"", &long, &list, 11),
@@ -74,9 +88,10 @@ fn before_any_sheet(test: &mut Explicit) {
 
 /// The exchange may lend more, and gets more.
 fn exchange(test: &mut Explicit) {
-    let perm = open_permissions().to_bytes();
-    let dir = wide_directory(6).to_bytes();
-    let length = 31 + 6 * 35;
+    let perm = open_permissions();
+    let dir = wide_directory(6);
+    let line = test.form().line();
+    let length = line + 6 * (line + 4);
     for (room, refusal) in [(length - 1, 31), (length, 0), (1_024, 0), (1_025, 0), (MAX_ROOM, 0)] {
         test.expect_in(room, &format!("six in {room} bytes"), refusal, &dir, &perm, &list(0));
     }

@@ -1,12 +1,14 @@
 //! Refusals 11 to 14.
 
-use super::{typed, L};
+use super::typed;
 use harness::explicit::Explicit;
-use harness::limits::{permissions_of_items, permissions_of_length, raw};
+use harness::limits::{permissions_of_items, permissions_of_length};
+use harness::written::{Written, L};
 
-fn expect(test: &mut Explicit, what: &str, refusal: u64, perm: &[u8]) {
-    let list = raw(&[(10, 0, 0, 0, b""), (11, 3, 0, 0, b"")]);
-    test.expect(what, refusal, &typed(&[]), perm, &list);
+const LIST: [L; 2] = [(10, 0, 0, 0, b""), (11, 3, 0, 0, b"")];
+
+fn expect(test: &mut Explicit, what: &str, refusal: u64, perm: &dyn Written) {
+    test.expect(what, refusal, &typed(&[]), perm, &LIST);
 }
 
 const ITEM: [L; 5] = [
@@ -18,9 +20,9 @@ const ITEM: [L; 5] = [
 ];
 
 /// The item with one line replaced by others.
-fn with(kind: u32, lines: &[L]) -> Vec<u8> {
+fn with(kind: u32, lines: &[L]) -> Vec<L> {
     let place = kind as usize - 4;
-    raw(&[&ITEM[..place], lines, &ITEM[place + 1..]].concat())
+    [&ITEM[..place], lines, &ITEM[place + 1..]].concat()
 }
 
 fn parts(count: usize) -> Vec<L> {
@@ -36,20 +38,22 @@ pub fn run(test: &mut Explicit) {
 }
 
 fn counts(test: &mut Explicit) {
+    let form = test.form();
     expect(test, "no items", 0, b"");
-    expect(test, "one item", 0, &raw(&ITEM));
-    expect(test, "permissions of 65,536 bytes", 0, &permissions_of_length(65_536).to_bytes());
-    expect(test, "permissions of 65,537 bytes", 11, &permissions_of_length(65_537).to_bytes());
-    expect(test, "256 items", 0, &permissions_of_items(256).to_bytes());
-    expect(test, "257 items", 13, &permissions_of_items(257).to_bytes());
-    let full = permissions_of_items(256).to_bytes();
-    let then = |line: L| [full.clone(), raw(&[line])].concat();
+    expect(test, "one item", 0, &ITEM);
+    expect(test, "permissions of 65,536 bytes", 0, &permissions_of_length(form, 65_536));
+    expect(test, "permissions of 65,537 bytes", 11, &permissions_of_length(form, 65_537));
+    expect(test, "256 items", 0, &permissions_of_items(256));
+    expect(test, "257 items", 13, &permissions_of_items(257));
+    let full = permissions_of_items(256).to_bytes(form);
+    let then = |line: L| [full.clone(), [line].written(form)].concat();
     expect(test, "256 items, then K 4 with C 2", 12, &then((4, 0, 0, 2, b"")));
     expect(test, "256 items, then K 4 alone", 13, &then((4, 0, 0, 1, b"")));
     expect(test, "256 items, then K 10", 12, &then((10, 0, 0, 0, b"")));
 }
 
 fn columns(test: &mut Explicit) {
+    let top = test.top();
     for (what, line, refusal) in [
         ("precedence 255", (4, 255, 0, 1, &b""[..]), 0),
         ("precedence 256", (4, 256, 0, 1, b""), 12),
@@ -73,9 +77,9 @@ fn columns(test: &mut Explicit) {
         ("all types and values with a type", (7, 2, 1, 0, b""), 12),
         ("type 0", (7, 3, 0, 0, b""), 12),
         ("type 1", (7, 3, 1, 0, b""), 0),
-        ("type 1000", (7, 3, 1000, 0, b""), 12),
+        ("type above the top", (7, 3, top + 1, 0, b""), 12),
         ("type with bytes", (7, 3, 1, 0, b"x"), 12),
-        ("values of type 1000", (7, 4, 1000, 0, b""), 12),
+        ("values of a type above the top", (7, 4, top + 1, 0, b""), 12),
         ("values of a type with bytes", (7, 4, 1, 0, b"x"), 12),
         ("one value", (7, 5, 1, 0, b"x"), 0),
         ("one value of type 0", (7, 5, 0, 0, b"x"), 12),
@@ -114,9 +118,11 @@ fn names(test: &mut Explicit) {
 }
 
 fn schema(test: &mut Explicit) {
+    let top = test.top();
     for (what, part, refusal) in [
         ("part of type 0", (9, 0, 0, 0, &b"x"[..]), 12),
-        ("part of type 1000", (9, 1000, 0, 0, b"x"), 12),
+        ("part of a type above the top", (9, top + 1, 0, 0, b"x"), 12),
+        ("part of the top type, unknown", (9, top, 0, 0, b"x"), 14),
         ("part with B", (9, 2, 1, 0, b"x"), 12),
         ("part with C", (9, 2, 0, 1, b"x"), 12),
         ("part of unknown type", (9, 7, 0, 0, b"x"), 14),
@@ -146,19 +152,19 @@ fn schema(test: &mut Explicit) {
 fn order(test: &mut Explicit) {
     for end in 1..5 {
         let what = format!("item of {end} lines");
-        expect(test, &what, 13, &raw(&ITEM[..end]));
+        expect(test, &what, 13, &ITEM[..end].to_vec());
         let second = [&ITEM[..], &ITEM[..end]].concat();
-        expect(test, &format!("second {what}"), 13, &raw(&second));
-        expect(test, &format!("item begins with line {}", end + 1), 13, &raw(&ITEM[end..]));
+        expect(test, &format!("second {what}"), 13, &second);
+        expect(test, &format!("item begins with line {}", end + 1), 13, &ITEM[end..].to_vec());
         let mut swapped = ITEM;
         swapped.swap(end - 1, end);
-        expect(test, &format!("lines {end} and {} swapped", end + 1), 13, &raw(&swapped));
+        expect(test, &format!("lines {end} and {} swapped", end + 1), 13, &swapped);
         let twice = with(3 + end as u32, &[ITEM[end - 1], ITEM[end - 1]]);
         expect(test, &format!("line {end} twice"), 13, &twice);
     }
     expect(test, "last line twice", 13, &with(8, &[ITEM[4], ITEM[4]]));
-    expect(test, "name without an item", 13, &raw(&parts(1)));
+    expect(test, "name without an item", 13, &parts(1));
     expect(test, "name part of unknown type out of place", 13, &with(8, &[(9, 7, 0, 0, b"")]));
     expect(test, "name part of type 0 out of place", 12, &with(8, &[(9, 0, 0, 0, b"")]));
-    expect(test, "what of unknown type out of place", 13, &raw(&[(7, 3, 7, 0, b"")]));
+    expect(test, "what of unknown type out of place", 13, &[(7, 3, 7, 0, b"" as &[u8])]);
 }

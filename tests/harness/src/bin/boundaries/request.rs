@@ -1,19 +1,20 @@
 //! Refusals 21 to 23.
 
-use super::{typed, L};
+use super::typed;
 use harness::explicit::Explicit;
 use harness::limits::{
-    filter_of_depth, filter_of_lines, filter_of_pieces, raw, request_of_length, search,
+    filter_of_depth, filter_of_lines, filter_of_pieces, request_of_length, search,
     substrings_at_depth, substrings_of,
 };
+use harness::written::{Written, L};
 use peer::builder::FilterLines;
 
-fn expect(test: &mut Explicit, what: &str, refusal: u64, req: &[u8]) {
+fn expect(test: &mut Explicit, what: &str, refusal: u64, req: &dyn Written) {
     test.expect(what, refusal, &typed(&[]), b"", req);
 }
 
 fn lines(test: &mut Explicit, what: &str, refusal: u64, lines: &[L]) {
-    expect(test, what, refusal, &raw(lines));
+    expect(test, what, refusal, &lines.to_vec());
 }
 
 const USER: L = (10, 0, 0, 0, b"");
@@ -39,6 +40,7 @@ pub fn run(test: &mut Explicit) {
 }
 
 fn wholes(test: &mut Explicit) {
+    let form = test.form();
     let operations: [(&str, &[L]); 4] =
         [("read", &READ), ("compare", &COMPARE), ("list", &LIST), ("search", &SEARCH)];
     for (what, whole) in operations {
@@ -61,20 +63,21 @@ fn wholes(test: &mut Explicit) {
             let surplus = [whole, &[more]].concat();
             lines(test, &format!("a {what}, then a wrong K {}", more.0), 22, &surplus);
         }
-        let trailing = [raw(whole), vec![b'\n']].concat();
+        let trailing = [whole.to_vec().written(form), vec![b'\n']].concat();
         expect(test, &format!("a {what}, then byte 10"), 22, &trailing);
     }
     lines(test, "a read with a value to compare", 23, &[READ[0], READ[1], COMPARE[2]]);
     lines(test, "a compare with a selection", 23, &[COMPARE[0], COMPARE[1], READ[2]]);
     lines(test, "a list with a selection", 23, &[LIST[0], LIST[1], READ[2]]);
     lines(test, "a read with a filter", 23, &[&READ[..], &SEARCH[3..]].concat());
-    expect(test, "8,192 bytes", 0, &request_of_length(8_192).to_bytes());
-    expect(test, "8,193 bytes", 21, &request_of_length(8_193).to_bytes());
+    expect(test, "8,192 bytes", 0, &request_of_length(form, 8_192));
+    expect(test, "8,193 bytes", 21, &request_of_length(form, 8_193));
     expect(test, "8,193 bytes of nothing", 21, &[0; 8_193]);
     expect(test, "8,192 bytes of nothing", 22, &[0; 8_192]);
 }
 
 fn columns(test: &mut Explicit) {
+    let top = test.top();
     let with = |line: L| -> Vec<L> {
         let whole: &[L] = match line.0 {
             10 => &LIST,
@@ -108,8 +111,8 @@ fn columns(test: &mut Explicit) {
         ("selection with C 2", (12, 0, 0, 2, b""), 22),
         ("selection with bytes", (12, 0, 0, 0, b"x"), 22),
         ("comparing type 0", (14, 0, 0, 0, b"x"), 22),
-        ("comparing type 1000", (14, 1000, 0, 0, b"x"), 22),
-        ("comparing an unknown type", (14, 999, 0, 0, b"x"), 0),
+        ("comparing a type above the top", (14, top + 1, 0, 0, b"x"), 22),
+        ("comparing an unknown type", (14, top, 0, 0, b"x"), 0),
         ("comparing nothing", (14, 1, 0, 0, b""), 0),
         ("comparing with B", (14, 1, 1, 0, b"x"), 22),
         ("subset 2", (15, 2, 0, 0, b""), 0),
@@ -117,8 +120,8 @@ fn columns(test: &mut Explicit) {
         ("subset with B", (15, 0, 1, 0, b""), 22),
         ("subset with bytes", (15, 0, 0, 0, b"x"), 22),
         ("present of type 0", (26, 0, 0, 0, b""), 22),
-        ("present of type 1000", (26, 1000, 0, 0, b""), 22),
-        ("present of an unknown type", (26, 999, 0, 0, b""), 0),
+        ("present of a type above the top", (26, top + 1, 0, 0, b""), 22),
+        ("present of an unknown type", (26, top, 0, 0, b""), 0),
         ("present with bytes", (26, 1, 0, 0, b"x"), 22),
         ("present with B", (26, 1, 1, 0, b""), 22),
     ] {
@@ -127,6 +130,7 @@ fn columns(test: &mut Explicit) {
 }
 
 fn names(test: &mut Explicit) {
+    let top = test.top();
     let parts = |count: usize| -> Vec<L> { vec![(9, 2, 0, 0, b"Ann"); count] };
     for (what, stated, given, refusal) in [
         ("8 parts", 8, 8, 0),
@@ -142,7 +146,7 @@ fn names(test: &mut Explicit) {
     }
     for (what, part, refusal) in [
         ("type 0", (9, 0, 0, 0, &b"x"[..]), 22),
-        ("type 1000", (9, 1000, 0, 0, b"x"), 22),
+        ("a type above the top", (9, top + 1, 0, 0, b"x"), 22),
         ("B", (9, 2, 1, 0, b"x"), 22),
         ("an unknown type", (9, 7, 0, 0, b"x"), 0),
         ("an empty value", (9, 2, 0, 0, b""), 0),
@@ -159,6 +163,7 @@ fn names(test: &mut Explicit) {
 }
 
 fn selections(test: &mut Explicit) {
+    let top = test.top();
     for (stated, given, refusal) in
         [(16, 16, 0), (17, 17, 22), (16, 15, 23), (16, 17, 23), (1, 1, 0), (0, 1, 23)]
     {
@@ -170,8 +175,8 @@ fn selections(test: &mut Explicit) {
     }
     for (what, line, refusal) in [
         ("type 0", (13, 0, 0, 0, &b""[..]), 22),
-        ("type 1000", (13, 1000, 0, 0, b""), 22),
-        ("an unknown type", (13, 999, 0, 0, b""), 0),
+        ("a type above the top", (13, top + 1, 0, 0, b""), 22),
+        ("an unknown type", (13, top, 0, 0, b""), 0),
         ("bytes", (13, 1, 0, 0, b"x"), 22),
         ("B", (13, 1, 1, 0, b""), 22),
     ] {
@@ -181,6 +186,7 @@ fn selections(test: &mut Explicit) {
 }
 
 fn filters(test: &mut Explicit) {
+    let top = test.top();
     let present: L = (26, 1, 0, 0, b"");
     for (what, filter, refusal) in [
         ("and of no parts", vec![(20, 0, 0, 0, &b""[..])], 0),
@@ -198,11 +204,11 @@ fn filters(test: &mut Explicit) {
         ("equality", vec![(23, 1, 0, 0, b"x")], 0),
         ("equality with nothing", vec![(23, 1, 0, 0, b"")], 0),
         ("equality of type 0", vec![(23, 0, 0, 0, b"x")], 22),
-        ("equality of an unknown type", vec![(23, 999, 0, 0, b"x")], 0),
+        ("equality of an unknown type", vec![(23, top, 0, 0, b"x")], 0),
         ("equality with B", vec![(23, 1, 1, 0, b"x")], 22),
         ("at least on octets", vec![(24, 1, 0, 0, b"x")], 0),
         ("at most with a value outside", vec![(25, 3, 0, 0, b"x")], 0),
-        ("at most of type 1000", vec![(25, 1000, 0, 0, b"x")], 22),
+        ("at most of a type above the top", vec![(25, top + 1, 0, 0, b"x")], 22),
         ("a piece alone", vec![(28, 1, 0, 0, b"x")], 23),
         ("a name part", vec![(9, 1, 0, 0, b"x")], 23),
         ("kind 19", vec![(19, 1, 0, 0, b"x")], 22),
@@ -213,6 +219,7 @@ fn filters(test: &mut Explicit) {
 }
 
 fn pieces(test: &mut Explicit) {
+    let top = test.top();
     let item = |stated: u32, pieces: &[(u32, &'static [u8])]| -> Vec<L> {
         let mut filter: Vec<L> = vec![(27, 2, stated, 0, b"")];
         filter.extend(pieces.iter().map(|&(place, bytes)| (28, place, 0, 0, bytes)));
@@ -244,14 +251,14 @@ fn pieces(test: &mut Explicit) {
     let broken = filtered(&[(27, 2, 2, 0, b""), (28, 1, 0, 0, b"x"), (26, 1, 0, 0, b"")]);
     lines(test, "pieces: another item among them", 23, &broken);
     lines(test, "pieces: with B", 22, &filtered(&[(27, 2, 1, 0, b""), (28, 1, 1, 0, b"x")]));
-    lines(test, "substrings of type 1000", 22, &filtered(&[(27, 1000, 1, 0, b"")]));
+    lines(test, "substrings of a type above the top", 22, &filtered(&[(27, top + 1, 1, 0, b"")]));
     lines(test, "substrings of integers", 0, &filtered(&[(27, 3, 1, 0, b""), (28, 1, 0, 0, b"x")]));
     lines(test, "substrings with bytes", 22, &filtered(&[(27, 2, 1, 0, b"x")]));
 }
 
 fn filter_limits(test: &mut Explicit) {
     let mut asked = |what: &str, filter: FilterLines, refusal| {
-        expect(test, what, refusal, &search(filter).to_bytes());
+        expect(test, what, refusal, &search(filter));
     };
     asked("filter depth 16", filter_of_depth(16), 0);
     asked("filter depth 17", filter_of_depth(17), 23);

@@ -38,9 +38,7 @@ fn reads(test: &Explicit, items: Vec<ItemLines>, asker: &Asker, entry: &[&str]) 
         level: asker.level,
         ..asking(named(entry), OperationLines::Read(selected))
     };
-    let (dir, perm) = (world.directory.to_bytes(), world.permissions.to_bytes());
-    let (reply, sound) = test.ask(&dir, &perm, &request.to_bytes(), test.room());
-    sound && reply.is_ok_and(|answer| answer.get(17) == Some(&b'0'))
+    test.reply(&world, &request).is_ok_and(|answer| test.digit(&answer, 2) == '0')
 }
 
 fn read(precedence: u32) -> ItemLines {
@@ -175,18 +173,16 @@ fn read_lines(test: &Explicit, items: Vec<ItemLines>) -> String {
     all.extend(items);
     let world = Situation::new(vec![person(0, "Ann", &[(3, "1"), (3, "2")])], all);
     let request = asking(named(&["Ann"]), OperationLines::Read(Selected::ALL));
-    let (dir, perm) = (world.directory.to_bytes(), world.permissions.to_bytes());
-    let (reply, _) = test.ask(&dir, &perm, &request.to_bytes(), test.room());
-    let answer = reply.unwrap_or_default();
+    let answer = test.reply(&world, &request).unwrap_or_default();
     // Values, or the outcome.
     let text = String::from_utf8_lossy(&answer).into_owned();
     let values: Vec<&str> = text
         .lines()
-        .filter(|line| line.starts_with("    35"))
-        .filter_map(|line| line.get(30..))
+        .filter(|line| line.trim_start().starts_with("35"))
+        .filter_map(|line| line.get(test.form().head()..))
         .collect();
     if values.is_empty() {
-        text.get(12..18).unwrap_or_default().trim().to_string()
+        test.digit(&answer, 2).to_string()
     } else {
         values.join(" ")
     }

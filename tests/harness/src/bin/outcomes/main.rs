@@ -4,22 +4,24 @@ mod blanks;
 mod decisions;
 mod editions;
 mod filters;
+mod high_types;
 mod operations;
 mod panels;
 
 use harness::explicit::Explicit;
-use peer::caller::Caller;
+use peer::caller::Call;
 use std::process::ExitCode;
 
 fn main() -> ExitCode {
     let mut test = Explicit::new("outcomes");
     // Few entries and short answers, so a panel gets what the exchange gets.
-    for caller in Caller::ALL {
-        test.caller = caller;
+    for call in Call::ALL {
+        test.call = call;
         decisions::run(&mut test);
         filters::run(&mut test);
         operations::run(&mut test);
         blanks::run(&mut test);
+        high_types::run(&mut test);
         editions::run(&mut test);
     }
     panels::run(&mut test);

@@ -4,7 +4,8 @@ use super::operations::{compare, entry, head, held, line, list, on, read, search
 use harness::explicit::{deny, person, Explicit, Situation};
 use harness::limits::open;
 use peer::builder::{FilterLines, Selected, Thing};
-use peer::caller::Caller;
+use peer::caller::{Call, Caller};
+use peer::form::Form;
 
 /// Entries below the root that match, the request's own limit, and how many of them the exchange
 /// and a panel get, each with C.
@@ -37,9 +38,10 @@ const TABLE: [(usize, u32, (usize, u32), (usize, u32)); 23] = [
 const NAMES: [&str; 8] = ["Ann", "Bob", "Cid", "Dan", "Eve", "Fay", "Gus", "Hal"];
 
 pub fn run(test: &mut Explicit) {
-    for caller in Caller::ALL {
-        test.caller = caller;
+    for call in Call::ALL {
+        test.call = call;
         table(test);
+        long_limits(test);
         withheld(test);
         others(test);
     }
@@ -66,7 +68,7 @@ fn seven() -> FilterLines {
 
 fn table(test: &mut Explicit) {
     for (matches, limit, exchange, panel) in TABLE {
-        let (shown, cut) = if test.caller == Caller::Panel { panel } else { exchange };
+        let (shown, cut) = if test.call.caller == Caller::Panel { panel } else { exchange };
         let shown = &NAMES[..shown];
         let world = guests(matches);
         let what = format!("list of {matches} with limit {limit}");
@@ -76,6 +78,23 @@ fn table(test: &mut Explicit) {
             let request = search(&[], subset, limit, seven());
             test.answers(&what, &world, &request, &found(shown, cut));
         }
+    }
+}
+
+/// Limits of seven digits and more, in nine columns.
+fn long_limits(test: &mut Explicit) {
+    if test.form() != Form::Wide {
+        return;
+    }
+    let (shown, cut) = if test.call.caller == Caller::Panel { (5, 1) } else { (6, 0) };
+    let world = guests(6);
+    for limit in [1_000_000, 1_000_001, 1_000_005, 9_999_999, 10_000_000, 123_000_002, 999_999_999]
+    {
+        let what = format!("list of six with limit {limit}");
+        test.answers(&what, &world, &list(&[], limit), &listed(&NAMES[..shown], cut));
+        let what = format!("search of six with limit {limit}");
+        let request = search(&[], 2, limit, seven());
+        test.answers(&what, &world, &request, &found(&NAMES[..shown], cut));
     }
 }
 
