@@ -40,6 +40,7 @@ enum dinghy_refusal {
     DINGHY_REQUEST_TOO_LONG = 21, /* more than 8,192 bytes */
     DINGHY_REQUEST_FORM = 22,
     DINGHY_REQUEST_ORDER = 23,
+    DINGHY_REQUEST_NO_ORDER = 24, /* a search in the order of a type that is unknown or has none */
 
     /* the calling program */
     DINGHY_BUFFER_TOO_SHORT = 31,      /* the answer is longer than the lent buffer */

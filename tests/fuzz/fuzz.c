@@ -18,7 +18,7 @@ static const size_t widths[] = {NARROW, WIDE};
 static struct samples samples[2];
 
 /* Of a request; then of a move. */
-static const uint64_t refusals[] = {1, 2, 3, 4, 5, 6, 11, 12, 13, 14, 21, 22, 23, 31, 33, 0};
+static const uint64_t refusals[] = {1, 2, 3, 4, 5, 6, 11, 12, 13, 14, 21, 22, 23, 24, 31, 33, 0};
 static const uint64_t move_refusals[] = {1, 2, 3, 4, 5, 6, 35, 36, 0};
 static uint64_t met[100], met_by_moves[100];
 

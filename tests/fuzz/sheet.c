@@ -205,8 +205,20 @@ static void requests_init(struct sheet *req, size_t width) {
     }
 }
 
+/* By text rising, by integers falling, and by octets, which have no order. */
+static void ordered_init(struct sheet *req) {
+    for (unsigned i = 0; i < 3; i++) {
+        base(&req[i], 4, 0, i == 1 ? 3 : 0);
+        sheet_line(&req[i], 12, 0, 0, i != 1, "");
+        sheet_line(&req[i], 16, i == 2 ? 1 : 2 + i, i == 1, 0, "");
+        sheet_line(&req[i], 15, 2, 0, 0, "");
+        sheet_line(&req[i], 20, 0, 0, 0, "");
+    }
+}
+
 void samples_init(struct samples *samples, size_t width) {
     directories_init(samples->directories, width);
     permissions_init(samples->permissions, width);
     requests_init(samples->requests, width);
+    ordered_init(samples->requests + REQUESTS - 3);
 }

@@ -34,7 +34,7 @@ void sheet_line(struct sheet *sheet, unsigned kind, unsigned a, unsigned b, unsi
 
 #define DIRECTORIES 8
 #define PERMISSIONS 5
-#define REQUESTS 12
+#define REQUESTS 15
 
 /* Those of one form. */
 struct samples {

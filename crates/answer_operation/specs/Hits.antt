@@ -13,4 +13,4 @@ abbrev pub foundBy : Setting → List Stored → Found → Operation → List �
 foundBy σ es base (read s) = []
 foundBy σ es base (compare t v) = []
 foundBy σ es base (list limit) = listFound σ es base
-foundBy σ es base (search s) = searchFound σ es (s .subset) (s .edition) (s .filter) base
+foundBy σ es base (search s) = searchFound σ es s base

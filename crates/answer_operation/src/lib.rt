@@ -59,6 +59,8 @@ pub fn plan_of(
     let edition = asked.edition;
     let query = Query {
         limit: asked.limit,
+        order_type: asked.order_type,
+        falling: asked.falling,
         subset: asked.subset,
         filter: asked.filter,
         edition,

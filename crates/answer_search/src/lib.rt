@@ -1,6 +1,7 @@
-// Search: the entries of the subset that the filter is true of, by number. The filter's lines are read once; it is judged of an entry only after the
+// Search: the entries of the subset that the filter is true of, by number, in the order that is asked for. The filter's lines are read once; it is judged of an entry only after the
 // permissions on the entry, as `matches` demands.
 use access_may::may_entry;
+use answer_arrange::arrange;
 use answer_entry::Target;
 use answer_entry::returnable;
 use answer_entry::returned;
@@ -26,9 +27,9 @@ use tables::held::HELD;
 use tables::sets::DISCLOSE_ON_ERROR;
 use tables::sets::SETS;
 ghost use mathlib.Core.Path.{_≡_};
-ghost use mathlib.Core.List.{List, map};
+ghost use mathlib.Core.List.{List, _++_, map};
 ghost use Prim.Native.Nat.{ℕ, suc, _+_, _*_, _≤_, _<_};
-ghost use lib.ListN.{length, take};
+ghost use lib.ListN.{length, take, drop};
 ghost use Rattle.rules.specs.Sheet.{Bytes};
 ghost use Rattle.rules.specs.Name.{Name};
 ghost use Rattle.rules.specs.Directory.{Stored, entryOf};
@@ -37,11 +38,13 @@ ghost use Rattle.rules.specs.Filter.{Filter};
 ghost use Rattle.rules.specs.Judge.{Grammar};
 ghost use Rattle.rules.specs.Request as Request;
 ghost use Rattle.rules.specs.Request.{Search};
+ghost use Rattle.rules.specs.Places.{orderingBy};
+ghost use Rattle.rules.specs.Laws.Each.{Each};
 ghost use Rattle.rules.specs.Answer.{answer};
 ghost use Rattle.rules.specs.Numbers.{withinNumber};
 ghost use Rattle.tables.specs.Book.{width, entries};
 ghost use Rattle.tables.specs.Book as Book;
-ghost use Rattle.tables.specs.World.{World, Entries};
+ghost use Rattle.tables.specs.World.{World, Known, Entries};
 ghost use Rattle.answer_plan.specs.Plan.{planned};
 ghost use Rattle.answer_plan.specs.Sound.{Base, KnownBase, SoundPlan};
 ghost use Rattle.answer_entry.specs.Passing.{Indices, passing, over};
@@ -49,12 +52,16 @@ ghost use Rattle.filter_lines.specs.Lines.{LINES, LinesNoted, Typed, positionAt
 ghost use Rattle.filter_item.specs.Mask.{Masks};
 ghost use Rattle.filter_item.specs.Candidate.{Searched};
 ghost use Rattle.filter_tree.specs.Tree.{FilterAt, KnownFilter};
+ghost use Rattle.answer_arrange.specs.Arrange.{arrangedAt};
 ghost use Rattle.answer_search.specs.Hits.{foundAt, searchFound};
 ghost use Rattle.answer_search.specs.Query.{Seeks, KnownQuery};
 
-// What a search asks: at most how many entries (0 is no limit), the subset, the position of the filter's first line, and the logic that it is evaluated by.
+// What a search asks: at most how many entries (0 is no limit), the type that orders them (0 is none) and whether they fall, the subset, the position
+// of the filter's first line, and the logic that it is evaluated by.
 pub struct Query {
     pub limit: u64,
+    pub order_type: u64,
+    pub falling: bool,
     pub subset: u64,
     pub filter: usize,
     pub edition: Edition,
@@ -126,7 +133,33 @@ fn found(
     n
 }
 
-// The plan of a search: the entries of the subset that may be returned and that the filter is true of, within the size limit.
+// Puts the first `n` of the hits in the order that is asked for.
+fn in_order(
+    book: &[u64; BOOK],
+    held: &[u64; HELD],
+    sets: &[u64; SETS],
+    d: &[u8],
+    p: &[u8],
+    query: Query,
+    hits: &mut [usize],
+    n: usize,
+)
+    requires { ⌜ Known (now d) (now p) (now book) (now held) (now sets) × (n ≤ length (now hits)) × Each (λ k. k < entries (now book)) (take n (now hits)) ⌝ }
+    ensures { λ _. ⌜ ((σ : Setting) (es : List Stored) → World σ es (now (d .entry)) (now (p .entry)) (now (book .entry)) (now (held .entry)) (now (sets .entry)) → now (hits .exit) ≡ arrangedAt σ es (orderingBy (query .«order_type») (query .falling)) (take n (now (hits .entry))) ++ drop n (now (hits .entry))) ⌝ }
+{
+    arrange(
+        book,
+        held,
+        sets,
+        d,
+        p,
+        query.order_type,
+        query.falling,
+        &mut hits[0..n],
+    );
+}
+
+// The plan of a search: the entries of the subset that may be returned and that the filter is true of, in order, within the size limit.
 pub fn search(
     book: &[u64; BOOK],
     held: &[u64; HELD],
@@ -139,7 +172,7 @@ pub fn search(
     hits: &mut [usize; 256],
 ) -> Plan
     requires { ⌜ KnownBase (now d) (now p) (now book) (now held) (now sets) (target .base) (target .missing) × (length (now hits) ≡ 256) × (length (now q) ≤ (5 * width (now book) + 1) * LINES) × KnownQuery (width (now book)) (now q) query ⌝ }
-    ensures { λ r. ⌜ SoundPlan (entries (now (book .entry))) r (now (hits .exit)) × ((σ : Setting) (es : List Stored) (g : Grammar) (n : Name) (s : Search) → World σ es (now (d .entry)) (now (p .entry)) (now (book .entry)) (now (held .entry)) (now (sets .entry)) → Base σ es n (target .base) (target .missing) → Seeks g (width (now (book .entry))) (now (q .entry)) s query → planned σ es (s .selection) r (now (hits .exit)) ≡ answer σ (map entryOf es) n (Request.search s)) × ((σ : Setting) (es : List Stored) (g : Grammar) (s : Search) → World σ es (now (d .entry)) (now (p .entry)) (now (book .entry)) (now (held .entry)) (now (sets .entry)) → Seeks g (width (now (book .entry))) (now (q .entry)) s query → now (hits .exit) ≡ over (searchFound σ es (s .subset) (s .edition) (s .filter) (target .base)) (now (hits .entry))) ⌝ }
+    ensures { λ r. ⌜ SoundPlan (entries (now (book .entry))) r (now (hits .exit)) × ((σ : Setting) (es : List Stored) (g : Grammar) (n : Name) (s : Search) → World σ es (now (d .entry)) (now (p .entry)) (now (book .entry)) (now (held .entry)) (now (sets .entry)) → Base σ es n (target .base) (target .missing) → Seeks g (width (now (book .entry))) (now (q .entry)) s query → planned σ es (s .selection) r (now (hits .exit)) ≡ answer σ (map entryOf es) n (Request.search s)) × ((σ : Setting) (es : List Stored) (g : Grammar) (s : Search) → World σ es (now (d .entry)) (now (p .entry)) (now (book .entry)) (now (held .entry)) (now (sets .entry)) → Seeks g (width (now (book .entry))) (now (q .entry)) s query → now (hits .exit) ≡ over (searchFound σ es s (target .base)) (now (hits .entry))) ⌝ }
 {
     let base = target.base;
     let Found::At(b) = base else {
@@ -162,6 +195,7 @@ pub fn search(
         edition,
     };
     let count = found(book, held, sets, d, p, q, &rows, extent, hits);
+    in_order(book, held, sets, d, p, query, hits, count);
     let open = may_entry(sets, b, DISCLOSE_ON_ERROR);
     returned(operation::SEARCH, target.missing, open, query.limit, count)
 }

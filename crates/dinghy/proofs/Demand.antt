@@ -1,10 +1,10 @@
 -- What is promised of what runs: every entry meets its contract, that is, a call returns `replyOf` and leaves `leftOf` of the verdict that the rules
--- give; and what is proved of these verdicts: demand 3 in either form, and what #109 claims of moves and of the two forms.
+-- give; and what is proved of these verdicts: demand 3 in either form, what #109 claims of moves and of the two forms, and #106 of the order of what a search finds.
 use mathlib.Core.Bool.{Bool}
 use Rattle.rules.specs.Sheet.{narrow, formatOf}
 use Rattle.rules.specs.Serve.{exchange, panel}
-use Rattle.rules.specs.Theorems.{PrintedBack, RoundTrip, MovedAccepted, BackAgain, FormsAlike}
-use Rattle.rules.specs.Laws.Theorems.{printed-back, round-trip, moved-accepted, back-again, forms-alike}
+use Rattle.rules.specs.Theorems.{PrintedBack, RoundTrip, MovedAccepted, BackAgain, FormsAlike, Permuted, InOrder, Stable, SmallestKey}
+use Rattle.rules.specs.Laws.Theorems.{printed-back, round-trip, moved-accepted, back-again, forms-alike, permuted, in-order, stable, smallest-key}
 use Rattle.dinghy.specs.Alike.{AnswersAlike, answers-alike}
 use Rattle.dinghy.proofs.dinghy_serve.Statement as exchange-entry
 use Rattle.dinghy.proofs.dinghy_serve.Met as exchange-met
@@ -35,6 +35,11 @@ pub record Demand (M : Type 1) : Type 2 where
   pub moved-accepted : MovedAccepted
   pub back-again : BackAgain
   pub forms-alike : FormsAlike
+  -- #106
+  pub permuted : Permuted
+  pub in-order : InOrder
+  pub stable : Stable
+  pub smallest-key : SmallestKey
 
 pub demand : {M : Type 1} → Demand M
 demand {M} = record {
@@ -51,4 +56,8 @@ demand {M} = record {
   moved-accepted = moved-accepted;
   back-again = back-again;
   forms-alike = forms-alike;
+  permuted = permuted;
+  in-order = in-order;
+  stable = stable;
+  smallest-key = smallest-key;
 }

@@ -11,7 +11,7 @@ use Rattle.rules.specs.declared.Limits.{Limits}
 
 -- once directory and permissions are judged
 abbrev pub fromGround : Format → Limits → Ground → Bytes → ℕ → Verdict Bytes
-fromGround f k g q room = then (requestOf f q) (λ r. respond f g (within k r) room)
+fromGround f k g q room = then (requestOf f (g .directory .schema) q) (λ r. respond f g (within k r) room)
 
 -- once the directory is judged
 abbrev pub fromDirectory : Format → Limits → Directory → Bytes → Bytes → ℕ → Verdict Bytes

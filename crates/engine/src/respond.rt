@@ -110,7 +110,7 @@ pub fn requested(
     requires { ⌜ ((g : Ground) × GroundAt (terms .format) (now d) (now p) g (now book) (now held) (now rights) (now scopes) (now order)) ⌝ }
     ensures { λ r. ⌜ ((g : Ground) → GroundAt (terms .format) (now (d .entry)) (now (p .entry)) g (now (book .entry)) (now (held .entry)) (now (rights .entry)) (now (scopes .entry)) (now (order .entry)) → Replies (fromGround (terms .format) (terms .limits) g (now (q .entry)) (length (now (out .entry)))) (now (out .entry)) r (now (out .exit))) ⌝ }
 {
-    let judged = request_sheet::judge(q, terms.format);
+    let judged = request_sheet::judge(q, terms.format, schema(book));
     if judged.refusal != 0 {
         return refused(judged.refusal);
     }

@@ -2,6 +2,7 @@
 use rules::Found;
 ghost use mathlib.Core.Path.{_≡_};
 ghost use Rattle.rules.specs.Name;
+ghost use Rattle.rules.specs.Value;
 ghost use Rattle.rules.specs.Places.{schemaOf};
 ghost use Rattle.name.specs.Schema.{rankIn, syntaxIn, equalBy};
 
@@ -46,6 +47,16 @@ pub fn allowed(schema: &[u64], t: u64, v: &[u8]) -> bool
 {
     match syntax_of(schema, t) {
         Found::At(s) => value_syntax::fits(s as u64, v),
+        Found::Nothing => false,
+    }
+}
+
+// Is the type known, and has its syntax an order?
+pub fn ordered(schema: &[u64], t: u64) -> bool
+    ensures { λ r. ⌜ r ≡ Name.ofSyntax (schemaOf (now (schema .entry))) Value.ordered t ⌝ }
+{
+    match syntax_of(schema, t) {
+        Found::At(s) => value_syntax::ordered(s as u64),
         Found::Nothing => false,
     }
 }

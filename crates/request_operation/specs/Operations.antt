@@ -13,10 +13,12 @@ use Rattle.request_filter.specs.Filters.{filterAt}
 use Rattle.request_piece.specs.declared.Progress.{Progress}
 use Rattle.request_piece.specs.declared.Progress.the-variants.{Read, Refused}
 use Rattle.request_operation.specs.declared.Body.{Body}
+use Rattle.request_operation.specs.declared.Scope.{Scope}
 
--- K 12, K 14 and K 15, up to `e`
-abbrev pub bodyOf : Reached → Line → Line → Line → Body
-bodyOf e selection assertion subset = record { refusal = e .refusal; selection = selection; assertion = assertion; subset = subset; next = e .next }
+-- K 12, K 14, K 16 and K 15, up to `e`
+abbrev pub bodyOf : Reached → Line → Line → Line → Line → Body
+bodyOf e selection assertion ordering subset =
+    record { refusal = e .refusal; selection = selection; assertion = assertion; ordering = ordering; subset = subset; next = e .next }
 
 -- the position after a filter, or its refusal
 abbrev pub reachedBy : Progress → Reached
@@ -25,9 +27,16 @@ reachedBy (Refused n) = record { refusal = n; next = 0 }
 
 -- a list has no more lines
 abbrev pub listAt : ℕ → Body
-listAt at = bodyOf (reachedAt at) noLine noLine noLine
+listAt at = bodyOf (reachedAt at) noLine noLine noLine noLine
 
 module _ (G : Grammar) (w : ℕ) (q : Bytes) where
+  -- K 15, or K 16 and K 15, where `r` has come to
+  unfoldable pub scopeAt : Reached → Scope
+  scopeAt r =
+      let first = dueAt G w q r 15 in
+      let due = dueAt G w q r 16 in
+      cond (eqb (first .refusal) 0) (record { ordering = noLine; subset = first }) (record { ordering = due .line; subset = dueAt G w q (afterDue due) 15 })
+
   -- the filter where `r` has come to
   unfoldable pub filterFrom : Reached → Reached
   filterFrom r = cond (eqb (r .refusal) 0) (reachedBy (filterAt G w q 16 (r .next) 128)) r
@@ -41,18 +50,18 @@ module _ (G : Grammar) (w : ℕ) (q : Bytes) where
     abbrev pub assertionAt : Due
     assertionAt = dueAt G w q (reachedAt at) 14
 
-    -- K 15 after the selection
-    abbrev pub subsetAt : Due
-    subsetAt = dueAt G w q (afterGroup selectionAt) 15
+    -- K 16 and K 15 after the selection
+    abbrev pub searchScope : Scope
+    searchScope = scopeAt (afterGroup selectionAt)
 
     unfoldable pub readAt : Body
-    readAt = bodyOf (afterGroup selectionAt) (selectionAt .line) noLine noLine
+    readAt = bodyOf (afterGroup selectionAt) (selectionAt .line) noLine noLine noLine
 
     unfoldable pub compareAt : Body
-    compareAt = bodyOf (afterDue assertionAt) noLine (assertionAt .line) noLine
+    compareAt = bodyOf (afterDue assertionAt) noLine (assertionAt .line) noLine noLine
 
     unfoldable pub searchAt : Body
-    searchAt = bodyOf (filterFrom (afterDue subsetAt)) (selectionAt .line) noLine (subsetAt .line)
+    searchAt = bodyOf (filterFrom (afterDue (searchScope .subset))) (selectionAt .line) noLine (searchScope .ordering) (searchScope .subset .line)
 
     -- by the operation
     unfoldable pub bodyAt : ℕ → Body

@@ -3,6 +3,7 @@ use request_filter::filter_at;
 use request_piece::Progress;
 use rules::Format;
 use rules::operation;
+use sheet_due::Due;
 use sheet_due::Reached;
 use sheet_due::after_due;
 use sheet_due::after_group;
@@ -16,7 +17,7 @@ use sheet_line::Line;
 ghost use mathlib.Core.Path.{_≡_};
 ghost use Rattle.rules.specs.Sheet.{Usable};
 ghost use Rattle.rules.specs.Request.{requestGrammar};
-ghost use Rattle.request_operation.specs.Operations.{bodyOf, reachedBy, filterFrom, readAt, compareAt, listAt, searchAt, bodyAt};
+ghost use Rattle.request_operation.specs.Operations.{bodyOf, reachedBy, filterFrom, readAt, compareAt, listAt, scopeAt, searchAt, bodyAt};
 
 // The lines, each 0 where the operation has none, and the position after them; or the refusal (0: none).
 pub struct Body {
@@ -25,19 +26,28 @@ pub struct Body {
     pub selection: Line,
     // K 14.
     pub assertion: Line,
+    // K 16, 0 where a search has none.
+    pub ordering: Line,
     // K 15, which the filter follows.
     pub subset: Line,
     pub next: usize,
 }
 
+// The lines that say of which entries a search is and how they are ordered: K 16, 0 where there is none, and K 15 or the refusal.
+pub struct Scope {
+    pub ordering: Line,
+    pub subset: Due,
+}
+
 // The lines up to `end`.
-fn body_of(end: Reached, selection: Line, assertion: Line, subset: Line) -> Body
-    ensures { λ r. ⌜ r ≡ bodyOf end selection assertion subset ⌝ }
+fn body_of(end: Reached, selection: Line, assertion: Line, ordering: Line, subset: Line) -> Body
+    ensures { λ r. ⌜ r ≡ bodyOf end selection assertion ordering subset ⌝ }
 {
     Body {
         refusal: end.refusal,
         selection,
         assertion,
+        ordering,
         subset,
         next: end.next,
     }
@@ -81,7 +91,13 @@ fn read_at(q: &[u8], f: Format, at: usize) -> Body
         Kind::Selection,
         Kind::SelectedType,
     );
-    body_of(after_group(group), group.line, no_line(), no_line())
+    body_of(
+        after_group(group),
+        group.line,
+        no_line(),
+        no_line(),
+        no_line(),
+    )
 }
 
 // A compare: K 14.
@@ -90,17 +106,37 @@ fn compare_at(q: &[u8], f: Format, at: usize) -> Body
     ensures { λ r. ⌜ r ≡ compareAt (requestGrammar (f .top)) (f .width) (now (q .entry)) at ⌝ }
 {
     let due = due_at(q, f, Grammar::Request, &[], reached_at(at), Kind::Assertion);
-    body_of(after_due(due), no_line(), due.line, no_line())
+    body_of(after_due(due), no_line(), due.line, no_line(), no_line())
 }
 
 // A list has no more lines.
 fn list_at(at: usize) -> Body
     ensures { λ r. ⌜ r ≡ listAt at ⌝ }
 {
-    body_of(reached_at(at), no_line(), no_line(), no_line())
+    body_of(reached_at(at), no_line(), no_line(), no_line(), no_line())
 }
 
-// A search: K 12 with its K 13, K 15, and the filter.
+// K 15, and K 16 before it where there is one. K 15 is read first: most searches have no K 16.
+fn scope_at(q: &[u8], f: Format, from: Reached) -> Scope
+    requires { ⌜ Usable f ⌝ }
+    ensures { λ r. ⌜ r ≡ scopeAt (requestGrammar (f .top)) (f .width) (now (q .entry)) from ⌝ }
+{
+    let first = due_at(q, f, Grammar::Request, &[], from, Kind::Subset);
+    if first.refusal == 0 {
+        return Scope {
+            ordering: no_line(),
+            subset: first,
+        };
+    }
+    let due = due_at(q, f, Grammar::Request, &[], from, Kind::Ordering);
+    let ordering = due.line;
+    Scope {
+        ordering,
+        subset: due_at(q, f, Grammar::Request, &[], after_due(due), Kind::Subset),
+    }
+}
+
+// A search: K 12 with its K 13, K 16 where there is one, K 15, and the filter.
 fn search_at(q: &[u8], f: Format, at: usize) -> Body
     requires { ⌜ Usable f ⌝ }
     ensures { λ r. ⌜ r ≡ searchAt (requestGrammar (f .top)) (f .width) (now (q .entry)) at ⌝ }
@@ -114,16 +150,10 @@ fn search_at(q: &[u8], f: Format, at: usize) -> Body
         Kind::Selection,
         Kind::SelectedType,
     );
-    let due = due_at(
-        q,
-        f,
-        Grammar::Request,
-        &[],
-        after_group(group),
-        Kind::Subset,
-    );
+    let scope = scope_at(q, f, after_group(group));
+    let due = scope.subset;
     let end = filter_from(q, f, after_due(due));
-    body_of(end, group.line, no_line(), due.line)
+    body_of(end, group.line, no_line(), scope.ordering, due.line)
 }
 
 // The lines of the operation `op`, from a position on.

@@ -4,11 +4,11 @@ use mathlib.Core.Path.{_≡_}
 use mathlib.Core.Bool.{false}
 use lib.ListN.{length, take, drop}
 use Rattle.rules.specs.Sheet.{Bytes}
-use Rattle.rules.specs.Name.{Name}
+use Rattle.rules.specs.Name.{Schema, Name}
 use Rattle.rules.specs.declared.Format.{Format}
 use Rattle.rules.specs.Judge.{accept, refusalOf, Grammar}
 use Rattle.rules.specs.Request.{Selection, Search, Operation, read, compare, list, search, Request, requestGrammar, requestOf, filter}
-use Rattle.rules.specs.Places.{linesAt, partsOf, typesOf}
+use Rattle.rules.specs.Places.{linesAt, partsOf, typesOf, orderingBy}
 use Rattle.rules.specs.declared.Edition.the-variants.{LaterLogic}
 use Rattle.request_sheet.specs.declared.Asked.{Asked}
 
@@ -39,8 +39,10 @@ pub record NoAssertion (r : Asked) : Type 0 where
   pub value : r .value ≡ 0
   pub count : r .length ≡ 0
 
--- no K 15 and no filter: their fields are 0, and no edition
+-- no K 16, no K 15 and no filter: their fields are 0, and no edition
 pub record NoFilter (r : Asked) : Type 0 where
+  pub type : r .«order_type» ≡ 0
+  pub falling : r .falling ≡ false
   pub subset : r .subset ≡ 0
   pub filter : r .filter ≡ 0
   pub edition : r .edition ≡ LaterLogic
@@ -71,12 +73,13 @@ pub record NotedList (n : ℕ) (r : Asked) : Type 0 where
   pub no-assertion : NoAssertion r
   pub no-filter : NoFilter r
 
--- a search: K 12, K 15, and the position where the rules read the filter, by their grammar
+-- a search: K 12, K 16, K 15, and the position where the rules read the filter, by their grammar
 pub record NotedSearch (G : Grammar) (w : ℕ) (q : Bytes) (s : Search) (r : Asked) : Type 0 where
   pub operation : r .operation ≡ 4
   pub limit : r .limit ≡ s .limit
   pub selection : NotedSelection w q (s .selection) r
   pub no-assertion : NoAssertion r
+  pub ordering : orderingBy (r .«order_type») (r .falling) ≡ s .ordering
   pub subset : r .subset ≡ s .subset
   pub reads : filter G 16 128 (linesAt w q (r .filter)) (λ f left rest. accept f) ≡ accept (s .filter)
   pub edition : r .edition ≡ s .edition
@@ -115,16 +118,18 @@ refused n =
       attribute = 0;
       value = 0;
       length = 0;
+      «order_type» = 0;
+      falling = false;
       subset = 0;
       filter = 0;
       edition = LaterLogic;
     }
 
--- the result `r` for the sheet `q` in the format `f`: the refusal of the rules, and what is noted of a request that they accept
-pub record RequestJudged (f : Format) (q : Bytes) (r : Asked) : Type 0 where
-  pub refusal : r .refusal ≡ refusalOf (requestOf f q)
-  pub noted : (x : Request) → requestOf f q ≡ accept x → RequestNoted (requestGrammar (f .top)) (f .width) q x r
+-- the result `r` for the sheet `q` in the format `f` under the schema `S`: the refusal of the rules, and what is noted of a request that they accept
+pub record RequestJudged (f : Format) (S : Schema) (q : Bytes) (r : Asked) : Type 0 where
+  pub refusal : r .refusal ≡ refusalOf (requestOf f S q)
+  pub noted : (x : Request) → requestOf f S q ≡ accept x → RequestNoted (requestGrammar (f .top)) (f .width) q x r
   -- no refusal is an acceptance
-  pub accepted : r .refusal ≡ 0 → (x : Request) × (requestOf f q ≡ accept x)
+  pub accepted : r .refusal ≡ 0 → (x : Request) × (requestOf f S q ≡ accept x)
   -- of a refused request nothing is noted
   pub nothing : (r .refusal ≡ 0 → ⊥) → r ≡ refused (r .refusal)

@@ -4,6 +4,8 @@ use mathlib.Core.Bool.{cond}
 use lib.Dec.{ltb, eqb}
 use lib.ListN.{length}
 use Rattle.rules.specs.Sheet.{Bytes}
+use Rattle.rules.specs.Value.{ordered}
+use Rattle.rules.specs.Name.{Schema, ofSyntax}
 use Rattle.rules.specs.Judge.{Grammar}
 use Rattle.rules.specs.Request.{editionOf}
 use Rattle.rules.specs.declared.Edition.{Edition}
@@ -41,6 +43,8 @@ asked requester base b =
       attribute = b .assertion .a;
       value = b .assertion .place;
       length = b .assertion .length;
+      «order_type» = b .ordering .a;
+      falling = eqb (b .ordering .b) 1;
       subset = b .subset .a;
       filter = b .subset .next;
       edition = editionIn (base .a) (requester .c);
@@ -73,3 +77,7 @@ module _ (G : Grammar) (w : ℕ) (q : Bytes) where
   askedOf =
       cond (ltb 8192 (length q)) (refused 21)
       (orRefused (baseAt .refusal) (withBody (requesterAt .line) (baseAt .line) (bodyAt G w q (baseAt .next) (baseAt .line .a))))
+
+-- the request, unless it orders by a type that is unknown or has no order
+unfoldable pub orderableBy : Schema → Asked → Asked
+orderableBy S r = cond (eqb (r .«order_type») 0) r (cond (ofSyntax S ordered (r .«order_type»)) r (refused 24))

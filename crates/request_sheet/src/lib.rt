@@ -17,8 +17,9 @@ use sheet_line::Line;
 ghost use mathlib.Core.Path.{_≡_};
 ghost use Rattle.rules.specs.Sheet.{Usable};
 ghost use Rattle.rules.specs.Request.{requestGrammar};
+ghost use Rattle.rules.specs.Places.{schemaOf};
 ghost use Rattle.request_sheet.specs.Noted.{refused, RequestJudged};
-ghost use Rattle.request_sheet.specs.Whole.{editionIn, asked, endBy, withBody, askedOf};
+ghost use Rattle.request_sheet.specs.Whole.{editionIn, asked, endBy, withBody, askedOf, orderableBy};
 
 // What a request asks. Of a refused one, all but the refusal is 0; of an accepted one, what its operation does not have is 0.
 pub struct Asked {
@@ -40,6 +41,9 @@ pub struct Asked {
     pub attribute: u64,
     pub value: usize,
     pub length: usize,
+    // K 16: its type, of which 0 is none, and whether the order is falling.
+    pub order_type: u64,
+    pub falling: bool,
     pub subset: u64,
     // The position of the filter's first line, and the logic that it is evaluated by.
     pub filter: usize,
@@ -66,6 +70,8 @@ fn refuse(refusal: u64) -> Asked
         attribute: 0,
         value: 0,
         length: 0,
+        order_type: 0,
+        falling: false,
         subset: 0,
         filter: 0,
         edition: Edition::LaterLogic,
@@ -105,6 +111,8 @@ fn accept(requester: Line, base: Line, body: Body) -> Asked
         attribute: body.assertion.a,
         value: body.assertion.place,
         length: body.assertion.length,
+        order_type: body.ordering.a,
+        falling: body.ordering.b == 1,
         subset: body.subset.a,
         filter: body.subset.next,
         edition: edition_in(base.a, requester.c),
@@ -164,10 +172,23 @@ fn asked_of(q: &[u8], f: Format) -> Asked
     with_body(q, f, requester.line, base.line, body)
 }
 
-// The request in the sheet `q`, in the format `f`.
-pub fn judge(q: &[u8], f: Format) -> Asked
-    requires { ⌜ Usable f ⌝ }
-    ensures { λ r. ⌜ RequestJudged f (now (q .entry)) r ⌝ }
+// The request, unless its entries are to be ordered by a type that is unknown or has no order.
+fn orderable(schema: &[u64], asked: Asked) -> Asked
+    ensures { λ r. ⌜ r ≡ orderableBy (schemaOf (now (schema .entry))) asked ⌝ }
 {
-    asked_of(q, f)
+    if asked.order_type == 0 {
+        return asked;
+    }
+    if name::ordered(schema, asked.order_type) {
+        return asked;
+    }
+    refuse(refusal::TYPE_WITHOUT_ORDER)
+}
+
+// The request in the sheet `q`, in the format `f`, under the schema of the directory.
+pub fn judge(q: &[u8], f: Format, schema: &[u64]) -> Asked
+    requires { ⌜ Usable f ⌝ }
+    ensures { λ r. ⌜ RequestJudged f (schemaOf (now (schema .entry))) (now (q .entry)) r ⌝ }
+{
+    orderable(schema, asked_of(q, f))
 }

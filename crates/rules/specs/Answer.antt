@@ -1,4 +1,4 @@
--- Document 01, "Outcomes": read, compare, list and search over the entries of a directory, as answer lines 30 to 35.
+-- Document 01, "Outcomes", and #106: read, compare, list and search over the entries of a directory, as answer lines 30 to 35.
 -- List and search go by names alone: that an absent base gives 1 is proved in `Laws.Absent`.
 use Prim.Native.Nat.{ℕ, zero, suc, _-_}
 use mathlib.Core.Bool.{Bool, true, false, _&&_, _||_, not, cond}
@@ -17,6 +17,7 @@ use Rattle.rules.specs.FilterItem.{holds, someValue, itemTruth}
 use Rattle.rules.specs.declared.Outcome.{Outcome}
 use Rattle.rules.specs.declared.Outcome.the-variants.{Result, NoSuchObject, InsufficientAccessRights, NoSuchAttributeOrValue, InvalidAttributeSyntax}
 use Rattle.rules.specs.Request.{Selection, Search, Operation, read, compare, list, search}
+use Rattle.rules.specs.Arrange.{arranged}
 
 -- ---- answer lines
 
@@ -164,8 +165,9 @@ module _ (σ : Setting) where
     unfoldable pub listHits : Name → List (List Line)
     listHits n = map (listHit n) (keep (listed n) es)
 
+    -- #106: "the size limit keeps the first ones after ordering"
     unfoldable pub searchHits : Name → Search → List (List Line)
-    searchHits n r = map (searchHit r) (keep (found n r) es)
+    searchHits n r = map (searchHit r) (arranged σ (r .ordering) (keep (found n r) es))
 
     unfoldable pub answer : Name → Operation → List Line
     answer n (read s) = opened 1 Read n (readEntry s) (named n)

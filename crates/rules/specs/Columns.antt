@@ -72,6 +72,7 @@ permissionForms top =
     ∷ partForm top
     ∷ []
 
+-- #106: K 16, "A type, B 0 rising, 1 falling"
 unfoldable pub requestForms : ℕ → List Form
 requestForms top =
     partForm top
@@ -83,6 +84,7 @@ requestForms top =
     ∷ form 13 (types top) unnamed unnamed unnamed
     ∷ form 14 (types top) unnamed unnamed bytes
     ∷ form 15 (between 0 2) unnamed unnamed unnamed
+    ∷ form 16 (types top) (between 0 1) unnamed unnamed
     ∷ form 20 (between 0 127) unnamed unnamed unnamed
     ∷ form 21 (between 0 127) unnamed unnamed unnamed
     ∷ form 22 unnamed unnamed unnamed unnamed

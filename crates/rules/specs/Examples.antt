@@ -1,4 +1,4 @@
--- Document 01, "Examples": the eleven starred ones as one table with one theorem, and 12 and 13 as far as they compute quickly. Of document 02: #102's and #104's.
+-- Document 01, "Examples": the eleven starred ones as one table with one theorem, and 12 and 13 as far as they compute quickly. Of document 02: #102's, #104's and #106's.
 -- The others are run by a program.
 use mathlib.Core.Path.{_≡_, refl}
 use Prim.Native.Nat.{ℕ, zero, suc, _+_, _/_, _%_}
@@ -7,7 +7,7 @@ use Prim.Native.String.{String, [] as none′, _∷_ as _∷′_}
 use mathlib.Core.Bool.{Bool, true, false}
 use mathlib.Core.List.{List, [], _∷_, _++_}
 use Rattle.rules.specs.Sheet
-use Rattle.rules.specs.Sheet.{Bytes, Line, line, narrow, print}
+use Rattle.rules.specs.Sheet.{Bytes, Line, line, narrow, wide, print}
 use Rattle.rules.specs.Columns
 use Rattle.rules.specs.Value
 use Rattle.rules.specs.Value.{Piece, text, integer, fits, order, contains}
@@ -24,6 +24,7 @@ use Rattle.rules.specs.Filter
 use Rattle.rules.specs.Filter.{conjunction, disjunction, allUndefined, negation}
 use Rattle.rules.specs.Request
 use Rattle.rules.specs.FilterItem
+use Rattle.rules.specs.Arrange
 use Rattle.rules.specs.Answer
 use Rattle.rules.specs.Serve.{exchange, above, judgedAt, serveAt, ground, tighter, capped, within, respond, fitting}
 use Rattle.rules.specs.declared.Edition.{Edition}
@@ -221,10 +222,10 @@ unfolding directory permissions request printed serveAt judgedAt above ground ti
     Permission.soundTarget Permission.soundItem Permission.item Permission.items Permission.permissionsOf
     Decision.baseCovers Decision.whoFits Decision.whatCovers Decision.names Decision.levelFits Decision.applies Decision.rank Decision.explicit Decision.highest Decision.allGrant granted
     conjunction disjunction allUndefined Filter.evaluate
-    Request.filterLine Request.pieces Request.filters Request.filterOf Request.filter Request.selection Request.editionOf Request.operation Request.request Request.requestOf
+    Request.filterLine Request.pieces Request.filters Request.filterOf Request.filter Request.selection Request.ordering Request.editionOf Request.operation Request.request Request.requestOf
     FilterItem.assertedType FilterItem.holds FilterItem.someValue FilterItem.defined FilterItem.satisfied FilterItem.decidable FilterItem.itemTruth
     Answer.outcome Answer.nameLines Answer.entryLines Answer.valueLines Answer.limited Answer.selected Answer.typeLines Answer.information Answer.inSubset Answer.candidate Answer.found Answer.matchedName
-    Answer.noSuchObject Answer.returned Answer.disclosed Answer.searchHit Answer.searchHits Answer.answer
+    Answer.noSuchObject Answer.returned Answer.disclosed Answer.searchHit Arrange.arranged Answer.searchHits Answer.answer
 example-13 = refl
 
 -- ---- #102: blanks in text
@@ -266,6 +267,103 @@ unfolding twins
     Name.ofSyntax Name.known Name.allowed Name.equal Name.samePart Judge.fold
     Directory.nameAt Directory.entriesOf Directory.typeLine Directory.lacksNaming Directory.clashes Directory.entryLine Directory.valueLine Directory.step Directory.finish Directory.directoryOf
 twins-refused = refl
+
+-- ---- #106: lists in the guest's order
+
+-- of type 5, an integer, a has 30 and 4, b has none, c has 12 and 1, and d has 4
+unfoldable pub floors : Bytes
+floors = sheetOf (
+    "     1     3     1     0     0"
+    ∷ "     1     5     2     0     0"
+    ∷ "     1     6     0     0     0"
+    ∷ "     2     0     3     0     1a"
+    ∷ "     3     3     0     0     1a"
+    ∷ "     3     5     0     0     230"
+    ∷ "     3     5     0     0     14"
+    ∷ "     2     0     3     0     1b"
+    ∷ "     3     3     0     0     1b"
+    ∷ "     2     0     3     0     1c"
+    ∷ "     3     3     0     0     1c"
+    ∷ "     3     5     0     0     212"
+    ∷ "     3     5     0     0     11"
+    ∷ "     2     0     3     0     1d"
+    ∷ "     3     3     0     0     1d"
+    ∷ "     3     5     0     0     14"
+    ∷ [])
+
+-- all may be found and read but the value 1 of type 5
+unfoldable pub allButOne : Bytes
+allButOne = sheetOf (
+    "     4     0     0     1     0"
+    ∷ "     5     1     0     0     0"
+    ∷ "     6     0     0     0     0"
+    ∷ "     7     0     0     0     0"
+    ∷ "     8     7     0     0     0"
+    ∷ "     4     0     0     1     0"
+    ∷ "     5     1     0     0     0"
+    ∷ "     6     0     0     0     0"
+    ∷ "     7     2     0     0     0"
+    ∷ "     8    33     0     0     0"
+    ∷ "     4     0     0     0     0"
+    ∷ "     5     1     0     0     0"
+    ∷ "     6     0     0     0     0"
+    ∷ "     7     5     5     0     11"
+    ∷ "     8     1     0     0     0"
+    ∷ [])
+
+-- a search for names alone, of all that have type 3: its line 11, its line 16, and its filter
+unfoldable pub searchBy : String → String → List String → Bytes
+searchBy eleven sixteen filter = sheetOf (
+    "    10     0     0     0     0"
+    ∷ eleven
+    ∷ "    12     1     0     0     0"
+    ∷ sixteen
+    ∷ "    15     2     0     0     0"
+    ∷ filter)
+
+abbrev pub all′ : List String
+all′ = "    26     3     0     0     0" ∷ []
+
+-- line 30, and entries by the last lines of their names
+unfoldable pub answered : String → List String → Bytes
+answered thirty names = sheetOf (thirty ∷ entriesOf names)
+  where
+    entriesOf : List String → List String
+    entriesOf [] = []
+    entriesOf (n ∷ ns) = "    33     0     1     0     0" ∷ n ∷ entriesOf ns
+
+pub in-order :
+    -- rising, at most three: a before d, which has the same key; c, whose 1 may not be read; b has no key
+    (serveAt narrow exchange floors allButOne (searchBy "    11     4     0     3     0" "    16     5     0     0     0" all′) 65536
+    ≡ accept (answered "    30     4     0     1     0" ("     9     3     0     0     1a" ∷ "     9     3     0     0     1d" ∷ "     9     3     0     0     1c" ∷ [])))
+    -- falling, by the smallest values too
+    × (serveAt narrow exchange floors allButOne (searchBy "    11     4     0     0     0" "    16     5     1     0     0" all′) 65536
+    ≡ accept (answered "    30     4     0     0     0" ("     9     3     0     0     1c" ∷ "     9     3     0     0     1a" ∷ "     9     3     0     0     1d" ∷ "     9     3     0     0     1b" ∷ [])))
+    -- "24, the type is unknown or has no order"
+    × (serveAt narrow exchange floors allButOne (searchBy "    11     4     0     0     0" "    16     4     0     0     0" all′) 65536 ≡ refuse 24)
+    × (serveAt narrow exchange floors allButOne (searchBy "    11     4     0     0     0" "    16     6     0     0     0" all′) 65536 ≡ refuse 24)
+    -- ".. once 21 to 23 are clear"
+    × (serveAt narrow exchange floors allButOne (searchBy "    11     4     0     0     0" "    16     4     0     0     0" []) 65536 ≡ refuse 23)
+    × (serveAt narrow exchange floors allButOne (searchBy "    11     4     0     0     0" "    16     4     2     0     0" []) 65536 ≡ refuse 22)
+    -- K 16 elsewhere
+    × (serveAt narrow exchange floors allButOne (searchBy "    11     4     0     0     0" "    15     2     0     0     0" ("    16     5     0     0     0" ∷ [])) 65536 ≡ refuse 23)
+unfolding floors allButOne searchBy answered serveAt judgedAt above ground tighter capped within respond fitting
+    Sheet.strip Sheet.digits Sheet.numeral Sheet.columnOf Sheet.whole Sheet.frontOf Sheet.linesWithin Sheet.lines Sheet.leading Sheet.column Sheet.numbers Sheet.lineBytes Sheet.print
+    Columns.takes Columns.directoryForms Columns.permissionForms Columns.requestForms Columns.inForm
+    Value.integerOf Value.small Value.printable Value.sized fits Value.normal Value.folded Value.tidied Value.shorten Value.trim Value.identical Value.same Value.ordered order
+    Name.ofSyntax Name.known Name.allowed Name.equal Name.orderOf Name.samePart Name.sameName Name.covers Name.childOf
+    Judge.fold Judge.misplaced Judge.due Judge.dueLines Judge.nameOf
+    Directory.nameAt Directory.entriesOf Directory.typeLine Directory.lacksNaming Directory.clashes Directory.entryLine Directory.valueLine Directory.step Directory.finish Directory.directoryOf Directory.hold
+    Directory.heldOf Directory.entryOf Directory.entries
+    Permission.soundTarget Permission.soundItem Permission.item Permission.items Permission.permissionsOf
+    Decision.baseCovers Decision.whoFits Decision.whatCovers Decision.names Decision.levelFits Decision.applies Decision.rank Decision.explicit Decision.highest Decision.allGrant granted
+    conjunction disjunction allUndefined Filter.evaluate
+    Request.filterLine Request.pieces Request.filters Request.filterOf Request.filter Request.selection Request.ordering Request.editionOf Request.operation Request.request Request.requestOf
+    FilterItem.assertedType FilterItem.holds FilterItem.someValue FilterItem.defined FilterItem.satisfied FilterItem.decidable FilterItem.itemTruth
+    Arrange.placed Arrange.arrangedBy Arrange.smallest Arrange.readable Arrange.key Arrange.before Arrange.arranged
+    Answer.outcome Answer.nameLines Answer.entryLines Answer.valueLines Answer.limited Answer.selected Answer.typeLines Answer.information Answer.inSubset Answer.candidate Answer.found Answer.matchedName
+    Answer.noSuchObject Answer.returned Answer.disclosed Answer.searchHit Answer.searchHits Answer.answer
+in-order = (refl, refl, refl, refl, refl, refl, refl)
 
 -- ---- of example 12
 
@@ -325,7 +423,7 @@ unfolding flat open′ listTwo serveAt judgedAt above ground tighter capped with
     Permission.soundTarget Permission.soundItem Permission.item Permission.items Permission.permissionsOf
     Decision.baseCovers Decision.whoFits Decision.whatCovers Decision.names Decision.levelFits Decision.applies Decision.rank Decision.explicit Decision.highest Decision.allGrant granted
     conjunction disjunction allUndefined Filter.evaluate
-    Request.filterLine Request.pieces Request.filters Request.filterOf Request.filter Request.selection Request.editionOf Request.operation Request.request Request.requestOf
+    Request.filterLine Request.pieces Request.filters Request.filterOf Request.filter Request.selection Request.ordering Request.editionOf Request.operation Request.request Request.requestOf
     FilterItem.assertedType FilterItem.holds FilterItem.someValue FilterItem.defined FilterItem.satisfied FilterItem.decidable FilterItem.itemTruth
     Answer.outcome Answer.nameLines Answer.entryLines Answer.valueLines Answer.limited Answer.selected Answer.typeLines Answer.information Answer.inSubset Answer.candidate Answer.found Answer.matchedName
     Answer.noSuchObject Answer.returned Answer.listed Answer.disclosed Answer.listHit Answer.listHits Answer.answer
@@ -354,17 +452,27 @@ unfolding flat open′ readCapitals serveAt judgedAt above ground tighter capped
     Permission.soundTarget Permission.soundItem Permission.item Permission.items Permission.permissionsOf
     Decision.baseCovers Decision.whoFits Decision.whatCovers Decision.names Decision.levelFits Decision.applies Decision.rank Decision.explicit Decision.highest Decision.allGrant granted
     conjunction disjunction allUndefined Filter.evaluate
-    Request.filterLine Request.pieces Request.filters Request.filterOf Request.filter Request.selection Request.editionOf Request.operation Request.request Request.requestOf
+    Request.filterLine Request.pieces Request.filters Request.filterOf Request.filter Request.selection Request.ordering Request.editionOf Request.operation Request.request Request.requestOf
     FilterItem.assertedType FilterItem.holds FilterItem.someValue FilterItem.defined FilterItem.satisfied FilterItem.decidable FilterItem.itemTruth
     Answer.outcome Answer.nameLines Answer.entryLines Answer.valueLines Answer.limited Answer.selected Answer.typeLines Answer.information Answer.inSubset Answer.candidate Answer.found Answer.matchedName
     Answer.noSuchObject Answer.returned Answer.listed Answer.disclosed Answer.readEntry Answer.named Answer.opened Answer.answer
 stored-name = refl
+
+-- ---- #109, nine columns
+
+-- "types up to 9,999,999", in every sheet
+pub wide-types : (Columns.inForm (Columns.directoryForms (wide .top)) (line 3 9999999 0 0 (65 ∷ [])) ≡ true)
+    × (Columns.inForm (Columns.permissionForms (wide .top)) (line 7 3 9999999 0 []) ≡ true)
+    × (Columns.inForm (Columns.requestForms (wide .top)) (line 26 9999999 0 0 []) ≡ true)
+    × (Columns.inForm (Columns.requestForms (wide .top)) (line 26 10000000 0 0 []) ≡ false)
+unfolding Columns.takes Columns.directoryForms Columns.permissionForms Columns.requestForms Columns.inForm
+wide-types = (refl, refl, refl, refl)
 
 -- "empty directory accepted; empty request 23"
 pub empty-directory : Directory.directoryOf narrow [] ≡ accept (record { schema = []; entries = [] })
 unfolding Directory.directoryOf Sheet.lines Sheet.linesWithin Judge.fold Directory.finish Directory.lacksNaming Directory.entriesOf
 empty-directory = refl
 
-pub empty-request : Request.requestOf narrow [] ≡ refuse 23
+pub empty-request : Request.requestOf narrow [] [] ≡ refuse 23
 unfolding Request.requestOf Sheet.lines Sheet.linesWithin Request.request Judge.due Judge.misplaced
 empty-request = refl

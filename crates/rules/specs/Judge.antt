@@ -69,6 +69,12 @@ module _ {A : Type 0} (g : Grammar) where
   dueLines k zero s next = next [] s
   dueLines k (suc n) s next = due k s (λ x rest. dueLines k n rest (λ xs. next (x ∷ xs)))
 
+-- is the next line of kind `k`?
+abbrev pub follows : ℕ → Sheet → Bool
+follows k end = false
+follows k broken = false
+follows k (row x rest) = eqb (x .kind) k
+
 -- a name's parts, K 9
 unfoldable pub nameOf : List Line → Name
 nameOf [] = []

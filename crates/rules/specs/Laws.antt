@@ -11,6 +11,9 @@ pub mod Columns
 pub mod Step
 pub mod Directory
 pub mod DirectoryLines
+pub mod Order
+pub mod Allowed
+pub mod Arrange
 pub mod Absent
 pub mod ByNumber
 pub mod Decision

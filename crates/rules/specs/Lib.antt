@@ -10,6 +10,7 @@ pub mod Decision
 pub mod Filter
 pub mod Request
 pub mod FilterItem
+pub mod Arrange
 pub mod Answer
 pub mod Serve
 pub mod Move

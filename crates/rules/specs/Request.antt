@@ -1,19 +1,21 @@
--- Document 01, "Sheets" and "Who is refused, and why": the request sheet. Refusals 21 to 23.
+-- Document 01, "Sheets" and "Who is refused, and why": the request sheet. Refusals 21 to 23, and 24 of #106.
 use Prim.Native.Nat.{ℕ, zero, suc, _+_}
 use mathlib.Core.Bool.{Bool, true, false, _&&_, _||_, not, cond}
+use mathlib.Core.Option.{Option, none, some}
 use mathlib.Core.List.{List, [], _∷_, map}
 use lib.Dec.{ltb, eqb}
 use lib.ListN.{length}
 use Rattle.rules.specs.Sheet.{Bytes, Line, Sheet, end, broken, row, lines}
 use Rattle.rules.specs.declared.Format.{Format}
 use Rattle.rules.specs.Columns.{requestForms, inForm}
-use Rattle.rules.specs.Value.{Piece}
-use Rattle.rules.specs.Name.{Name}
-use Rattle.rules.specs.Judge.{Verdict, refuse, refuseIf, Grammar, misplaced, atEnd, due, dueLines, nameOf}
+use Rattle.rules.specs.Value.{Piece, ordered}
+use Rattle.rules.specs.Name.{Schema, Name, ofSyntax}
+use Rattle.rules.specs.Judge.{Verdict, accept, refuse, refuseIf, then, Grammar, misplaced, atEnd, due, dueLines, follows, nameOf}
 use Rattle.rules.specs.Decision.{Requester}
 use Rattle.rules.specs.declared.Edition.{Edition}
 use Rattle.rules.specs.declared.Edition.the-variants.{LaterLogic, FirstEdition}
-use Rattle.rules.specs.Filter.{equality, atLeast, atMost, present, substrings, Filter, and, or, not′, item, Filters, none, more}
+use Rattle.rules.specs.Filter.{equality, atLeast, atMost, present, substrings, Filter, and, or, not′, item, Filters, more}
+use Rattle.rules.specs.Filter
 
 -- ---- what a request asks
 
@@ -23,10 +25,16 @@ pub record Selection : Type 0 where
   pub types : List ℕ
   pub values : Bool
 
+-- #106, K 16: "A type, B 0 rising, 1 falling"
+pub record Ordering : Type 0 where
+  pub type : ℕ
+  pub falling : Bool
+
 pub record Search : Type 0 where
   -- the size limit; 0 is none
   pub limit : ℕ
   pub selection : Selection
+  pub ordering : Option Ordering
   -- K 15: 0 base, 1 one level, 2 subtree
   pub subset : ℕ
   pub filter : Filter
@@ -56,7 +64,7 @@ requestGrammar top = record { forms = requestForms top; sound = λ x. true; refu
 module _ {A : Type 0} where
   -- `n` filters, each read by `one`
   unfoldable pub filters : (ℕ → Sheet → (Filter → ℕ → Sheet → Verdict A) → Verdict A) → ℕ → ℕ → Sheet → (Filters → ℕ → Sheet → Verdict A) → Verdict A
-  filters one zero left s next = next none left s
+  filters one zero left s next = next Filter.none left s
   filters one (suc n) left s next = one left s λ f left s. filters one n left s λ fs. next (more f fs)
 
 module _ {A : Type 0} (g : Grammar) where
@@ -100,14 +108,18 @@ module _ {A : Type 0} (g : Grammar) where
       due g 12 s λ x s. dueLines g 13 (x .b) s λ ts s.
       next (record { listed = eqb (x .a) 1; types = map (λ t. t .a) ts; values = eqb (x .c) 1 }) s
 
+  -- #106: "a search may carry K 16 just before K 15"
+  unfoldable pub ordering : Sheet → (Option Ordering → Sheet → Verdict A) → Verdict A
+  ordering s next = cond (follows 16 s) (due g 16 s λ x. next (some (record { type = x .a; falling = eqb (x .b) 1 }))) (next none s)
+
   -- the lines after K 11, `x`, by its operation; a search is asked in the edition of K 10
   unfoldable pub operation : Edition → Line → Sheet → (Operation → Sheet → Verdict A) → Verdict A
   operation ed x s next =
       cond (eqb (x .a) 1) (selection s λ r. next (read r))
       (cond (eqb (x .a) 2) (due g 14 s λ y. next (compare (y .a) (y .bytes)))
       (cond (eqb (x .a) 3) (next (list (x .c)) s)
-      (selection s λ r s. due g 15 s λ y s. filter 16 128 s λ f left s.
-      next (search (record { limit = x .c; selection = r; subset = y .a; filter = f; edition = ed })) s)))
+      (selection s λ r s. ordering s λ o s. due g 15 s λ y s. filter 16 128 s λ f left s.
+      next (search (record { limit = x .c; selection = r; ordering = o; subset = y .a; filter = f; edition = ed })) s)))
 
 -- the whole; a surplus line after it is out of order
 unfoldable pub request : Grammar → Sheet → Verdict Request
@@ -116,6 +128,19 @@ request g s =
     operation g (editionOf (x .c)) y s λ o s.
     atEnd (record { requester = record { level = x .a; name = nameOf name }; base = nameOf base; operation = o }) s (misplaced g s)
 
--- the request, "at most 8,192 bytes", or the refusal
-unfoldable pub requestOf : Format → Bytes → Verdict Request
-requestOf f s = refuseIf (ltb 8192 (length s)) 21 (request (requestGrammar (f .top)) (lines (f .width) s))
+abbrev pub orderingOf : Operation → Option Ordering
+orderingOf (read s) = none
+orderingOf (compare t v) = none
+orderingOf (list limit) = none
+orderingOf (search r) = r .ordering
+
+-- #106: "24, the type is unknown or has no order"
+abbrev pub hasOrder : Schema → Option Ordering → Bool
+hasOrder S none = true
+hasOrder S (some o) = ofSyntax S ordered (o .type)
+
+-- the request, "at most 8,192 bytes", or the refusal; 24 "once 21 to 23 are clear"
+unfoldable pub requestOf : Format → Schema → Bytes → Verdict Request
+requestOf f S s =
+    then (refuseIf (ltb 8192 (length s)) 21 (request (requestGrammar (f .top)) (lines (f .width) s))) λ r.
+    refuseIf (not (hasOrder S (orderingOf (r .operation)))) 24 (accept r)

@@ -48,7 +48,7 @@ unfoldable pub capped : ℕ → Operation → Operation
 capped most (read s) = read s
 capped most (compare t v) = compare t v
 capped most (list limit) = list (tighter most limit)
-capped most (search s) = search (record { limit = tighter most (s .limit); selection = s .selection; subset = s .subset; filter = s .filter; edition = s .edition })
+capped most (search s) = search (record { limit = tighter most (s .limit); selection = s .selection; ordering = s .ordering; subset = s .subset; filter = s .filter; edition = s .edition })
 
 -- the request as it is asked for a program of these limits; for the exchange it is the request itself (`within-exchange`)
 unfoldable pub within : Limits → Request → Request
@@ -69,7 +69,7 @@ respond f g r room = fitting room (print (f .width) (answer (settingOf (g .direc
 
 -- the answer's bytes to the sheets `d`, `p` and `q`, or the refusal, for a program of the limits `k`
 unfoldable pub judgedAt : Format → Limits → Bytes → Bytes → Bytes → ℕ → Verdict Bytes
-judgedAt f k d p q room = then (ground f d p) λ g. then (requestOf f q) λ r. respond f g (within k r) room
+judgedAt f k d p q room = then (ground f d p) λ g. then (requestOf f (g .directory .schema) q) λ r. respond f g (within k r) room
 
 -- #107: "33, a panel's answer buffer above 1,024 bytes, before any sheet is judged"
 unfoldable pub serveAt : Format → Limits → Bytes → Bytes → Bytes → ℕ → Verdict Bytes

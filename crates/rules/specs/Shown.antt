@@ -55,12 +55,12 @@ unfoldable pub shown : Setting → Directory → List Entry
 shown σ d = shownBy (sight σ) (entries d)
 
 -- two accepted directory sheets of one schema that are alike, under the permission sheet `p`, for the requester of the request sheet `q`;
--- "where permissions get 11 to 14, or the request 21 to 23", one schema is enough
+-- "where permissions get 11 to 14, or the request 21 to 23", and with 24 of #106, one schema is enough
 pub record Alike (f : Format) (p q d₁ d₂ : Bytes) : Type 0 where
   pub first : Directory
   pub second : Directory
   pub accepted₁ : directoryOf f d₁ ≡ accept first
   pub accepted₂ : directoryOf f d₂ ≡ accept second
   pub schema : first .schema ≡ second .schema
-  pub same : (is : List Item) (r : Request) → permissionsOf f (first .schema) p ≡ accept is → requestOf f q ≡ accept r
+  pub same : (is : List Item) (r : Request) → permissionsOf f (first .schema) p ≡ accept is → requestOf f (first .schema) q ≡ accept r
       → shown (settingOf first is (r .requester)) first ≡ shown (settingOf second is (r .requester)) second

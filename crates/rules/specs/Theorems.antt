@@ -1,18 +1,26 @@
--- #109: what is claimed of moves and of the two forms. `Laws/Theorems` has the proofs.
-use Prim.Native.Nat.{ℕ, _≤_}
+-- #109: what is claimed of moves and of the two forms; #106: of lists in the guest's order. `Laws/Theorems` has the proofs.
+use Prim.Native.Nat.{ℕ, _≤_, _<_}
 use mathlib.Core.Path.{_≡_}
 use mathlib.Core.Bool.{Bool, true, false, _&&_, cond}
-use mathlib.Core.List.{List, [], _∷_}
+use mathlib.Core.Option.{Option, none, some}
+use mathlib.Core.List.{List, [], _∷_, Perm}
 use lib.Dec.{leb, ltb, eqb}
-use lib.ListN.{length}
-use Rattle.rules.specs.Lists.{any, all}
+use lib.ListN.{length, getD}
+use Rattle.rules.specs.Lists.{any, all, keep}
 use Rattle.rules.specs.Sheet.{Bytes, Line, narrow, wide, end, rows, lines, print}
 use Rattle.rules.specs.declared.Format.{Format}
 use Rattle.rules.specs.declared.Limits.{Limits}
 use Rattle.rules.specs.Judge.{Verdict, accept, refuse}
-use Rattle.rules.specs.Directory.{Directory, directoryOf, directoryLines}
+use Rattle.rules.specs.Value.{identical}
+use Rattle.rules.specs.Name.{orderOf}
+use Rattle.rules.specs.Directory.{Directory, directoryOf, directoryLines, blank, Entry, entryOf, entries}
+use Rattle.rules.specs.Permission.{Item}
+use Rattle.rules.specs.Decision.{Setting, Requester}
+use Rattle.rules.specs.Request.{Ordering}
+use Rattle.rules.specs.FilterItem.{isLess}
+use Rattle.rules.specs.Arrange.{readable, key, before, arranged}
 use Rattle.rules.specs.Move.{widened, narrowed}
-use Rattle.rules.specs.Serve.{serveAt}
+use Rattle.rules.specs.Serve.{settingOf, serveAt}
 
 -- ---- moves
 
@@ -42,7 +50,7 @@ BackAgain =
 
 -- the column of a line that holds a type; 0 where it has none
 abbrev pub typeOf : Line → ℕ
-typeOf x = cond (any (eqb (x .kind)) (2 ∷ 7 ∷ [])) (x .b) (cond (any (eqb (x .kind)) (1 ∷ 3 ∷ 9 ∷ 13 ∷ 14 ∷ 23 ∷ 24 ∷ 25 ∷ 26 ∷ 27 ∷ [])) (x .a) 0)
+typeOf x = cond (any (eqb (x .kind)) (2 ∷ 7 ∷ [])) (x .b) (cond (any (eqb (x .kind)) (1 ∷ 3 ∷ 9 ∷ 13 ∷ 14 ∷ 16 ∷ 23 ∷ 24 ∷ 25 ∷ 26 ∷ 27 ∷ [])) (x .a) 0)
 
 -- "no type is above 999 and all fits": the line's numbers fit six columns
 abbrev pub modest : Line → Bool
@@ -80,3 +88,39 @@ FormsAlike =
     → all modest (x .directory) ≡ true → all modest (x .permissions) ≡ true → all modest (x .request) ≡ true
     → Fitted (servedIn narrow k x room₁) → Fitted (servedIn wide k x room₂)
     → SameLines (servedIn narrow k x room₁) (servedIn wide k x room₂)
+
+-- ---- #106: lists in the guest's order
+
+-- what is arranged is what was found
+abbrev pub Permuted : Type 0
+Permuted = (σ : Setting) (o : Option Ordering) (es : List Entry) → Perm (arranged σ o es) es
+
+-- no later element must stand before an earlier one
+abbrev pub Ordered : {A : Type 0} → (A → A → Bool) → List A → Type 0
+Ordered before [] = Unit {0}
+Ordered before (x ∷ xs) = (any (λ y. before y x) xs ≡ false) × Ordered before xs
+
+-- entries of an accepted directory, whichever were found, stand in the order of their keys
+abbrev pub InOrder : Type 0
+InOrder =
+    (f : Format) (s : Bytes) (d : Directory) → directoryOf f s ≡ accept d
+    → (is : List Item) (u : Requester) (o : Ordering) (chosen : Entry → Bool)
+    → Ordered (before (settingOf d is u) o) (arranged (settingOf d is u) (some o) (keep chosen (entries d)))
+
+-- "ties in directory order": entries of which none must stand before another stay as they were found
+abbrev pub Stable : Type 0
+Stable =
+    (σ : Setting) (o : Ordering) (es : List Entry) (tied : Entry → Bool)
+    → ((x y : Entry) → tied x ≡ true → tied y ≡ true → before σ o x y ≡ false)
+    → keep tied (arranged σ (some o) es) ≡ keep tied es
+
+-- "the key is an entry's smallest value of that type with Read granted on type and value": one of them, and none is below it; none where there
+-- are none
+abbrev pub SmallestKey : Type 0
+SmallestKey =
+    (f : Format) (s : Bytes) (d : Directory) → directoryOf f s ≡ accept d
+    → (is : List Item) (u : Requester) (t k : ℕ) → k < length (d .entries)
+    → let σ : Setting = settingOf d is u in
+    let e : Entry = entryOf (getD (d .entries) k blank) in
+    ((v : Bytes) → key σ t e ≡ some v → (any (identical v) (readable σ t e) ≡ true) × (any (λ w. isLess (orderOf (d .schema) t w v)) (readable σ t e) ≡ false))
+    × (key σ t e ≡ none → readable σ t e ≡ [])

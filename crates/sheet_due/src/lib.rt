@@ -1,5 +1,5 @@
 // The lines of a permission sheet or a request, taken where they are due: one line, some of one kind, and a line with the lines
-// that it counts. A refusal number is handed on: after a refusal no line is read. A request is judged without a schema.
+// that it counts. A refusal number is handed on: after a refusal no line is read. The lines of a request are judged without a schema.
 pub mod grammar;
 
 use grammar::Grammar;

@@ -175,6 +175,7 @@ pub fn request_columns(line: Line, top: u64) -> bool
         Kind::SelectedType => row(line, 1, top, 0, 0, 0, 0, 0, 0),
         Kind::Assertion => row(line, 1, top, 0, 0, 0, 0, 0, BYTES),
         Kind::Subset => row(line, subset::BASE, subset::SUBTREE, 0, 0, 0, 0, 0, 0),
+        Kind::Ordering => row(line, 1, top, 0, 1, 0, 0, 0, 0),
         Kind::And => row(line, 0, 127, 0, 0, 0, 0, 0, 0),
         Kind::Or => row(line, 0, 127, 0, 0, 0, 0, 0, 0),
         Kind::Not => row(line, 0, 0, 0, 0, 0, 0, 0, 0),

@@ -4,7 +4,7 @@ use mathlib.Core.Bool.{cond}
 use mathlib.Core.List.{List, [], _∷_}
 use lib.Dec.{eqb}
 use Rattle.sheet_kind.specs.declared.Kind.{Kind}
-use Rattle.sheet_kind.specs.declared.Kind.the-variants.{AttributeType, Entry, Value, Item, Base, UserClass, ProtectedItem, Permissions, NamePart, Requester, Operation, Selection, SelectedType, Assertion, Subset, And, Or, Not, Equality, AtLeast, AtMost, Present, Substrings, Piece, Outcome, Comparison, Child, ReturnedEntry, ReturnedType, ReturnedValue, Unknown}
+use Rattle.sheet_kind.specs.declared.Kind.the-variants.{AttributeType, Entry, Value, Item, Base, UserClass, ProtectedItem, Permissions, NamePart, Requester, Operation, Selection, SelectedType, Assertion, Subset, Ordering, And, Or, Not, Equality, AtLeast, AtMost, Present, Substrings, Piece, Outcome, Comparison, Child, ReturnedEntry, ReturnedType, ReturnedValue, Unknown}
 
 -- document 01's number for each case; no sheet has kind 0
 abbrev pub numberOf : Kind → ℕ
@@ -23,6 +23,7 @@ numberOf Selection = 12
 numberOf SelectedType = 13
 numberOf Assertion = 14
 numberOf Subset = 15
+numberOf Ordering = 16
 numberOf And = 20
 numberOf Or = 21
 numberOf Not = 22
@@ -45,7 +46,7 @@ abbrev pub ranges : List Kind
 ranges = And ∷ Or ∷ Not ∷ Equality ∷ AtLeast ∷ AtMost ∷ Present ∷ Substrings ∷ Piece ∷ Outcome ∷ Comparison ∷ Child ∷ ReturnedEntry ∷ ReturnedType ∷ ReturnedValue ∷ []
 
 abbrev pub known : List Kind
-known = AttributeType ∷ Entry ∷ Value ∷ Item ∷ Base ∷ UserClass ∷ ProtectedItem ∷ Permissions ∷ NamePart ∷ Requester ∷ Operation ∷ Selection ∷ SelectedType ∷ Assertion ∷ Subset ∷ ranges
+known = AttributeType ∷ Entry ∷ Value ∷ Item ∷ Base ∷ UserClass ∷ ProtectedItem ∷ Permissions ∷ NamePart ∷ Requester ∷ Operation ∷ Selection ∷ SelectedType ∷ Assertion ∷ Subset ∷ Ordering ∷ ranges
 
 -- the first case of `xs` that has the number `k`
 abbrev pub kindIn : List Kind → ℕ → Kind

@@ -49,6 +49,7 @@ pub fn damage(random: &mut Random, form: Form, which: Which, sheet: &mut Vec<u8>
         12 => lengthen(random, which, sheet),
         _ if which == Which::Directory => damage_directory(random, form, sheet),
         _ if which == Which::Permissions => damage_permissions(random, form, sheet),
+        _ if random.once_in(4) => misplace_order(random, form, sheet),
         _ => damage_filter(random, form, sheet),
     }
 }
@@ -165,6 +166,7 @@ fn ends(form: Form, kind: u32) -> [&'static [u32]; 3] {
         11 => [&[0, 1, 2, 3, 4, 5], &[0, 8, 9], &[0, 1, 999_999]],
         12 => [&[0, 1, 2], &[0, 1, 16, 17], &[0, 1, 2]],
         15 => [&[0, 1, 2, 3], &[1], &[1]],
+        16 => [types, &[0, 1, 2], &[1]],
         20 | 21 => [&[0, 1, 127, 128], &[1], &[1]],
         27 => [types, &[0, 1, 8, 9], &[1]],
         28 => [&[0, 1, 2, 3], &[1], &[1]],
@@ -207,10 +209,13 @@ fn kind(random: &mut Random, which: Which) -> u32 {
     if random.percent(30) {
         return random.below(40) as u32;
     }
+    if random.once_in(20) {
+        return 16;
+    }
     let kinds: &[u32] = match which {
         Which::Directory => &[1, 2, 3],
         Which::Permissions => &[4, 5, 6, 7, 8, 9],
-        Which::Request => &[9, 10, 11, 12, 13, 14, 15, 20, 21, 22, 23, 24, 25, 26, 27, 28],
+        Which::Request => &[9, 10, 11, 12, 13, 14, 15, 16, 20, 21, 22, 23, 24, 25, 26, 27, 28],
     };
     *random.pick(kinds)
 }
@@ -222,6 +227,7 @@ fn any_line(random: &mut Random, which: Which) -> Raw {
         2 => [kind, small(6), small(8), 0],
         3 | 9 | 13 | 14 | 23..=26 => [kind, small(8), 0, 0],
         4 => [kind, small(3), small(3), small(2)],
+        16 => [kind, small(8), small(2), 0],
         1 | 5 | 6 | 7 | 10 | 12 | 27 => [kind, small(4), small(4), 0],
         11 => [kind, small(5), small(3), small(3)],
         _ => [kind, small(4), 0, 0],
@@ -330,6 +336,32 @@ fn damage_filter(random: &mut Random, form: Form, sheet: &mut Vec<u8>) {
         _ => {
             lines.remove(place);
         }
+    }
+    *sheet = sheet_of(form, &lines);
+}
+
+/// K 16 at another place, or once more.
+fn misplace_order(random: &mut Random, form: Form, sheet: &mut Vec<u8>) {
+    let mut lines = lines_of(form, sheet);
+    let there = lines.iter().position(|line| line.columns[0] == 16);
+    if let Some(place) = there.filter(|_| random.once_in(4)) {
+        lines[place].columns[2] = 2;
+        *sheet = sheet_of(form, &lines);
+        return;
+    }
+    let line = match there {
+        Some(place) if random.percent(60) => lines.remove(place),
+        Some(place) => lines[place].clone(),
+        None => Raw { columns: [16, random.between(1, 7) as u32, 0, 0], bytes: Vec::new() },
+    };
+    let near = lines.iter().position(|line| matches!(line.columns[0], 12 | 15));
+    let place = match near {
+        Some(near) if random.percent(50) => random.between(near, (near + 2).min(lines.len())),
+        _ => random.between(0, lines.len()),
+    };
+    lines.insert(place, line);
+    if random.once_in(4) {
+        lines.truncate(random.between(place, lines.len()));
     }
     *sheet = sheet_of(form, &lines);
 }

@@ -219,6 +219,7 @@ pub fn asking(name: Name, operation: OperationLines) -> RequestSheet {
 }
 
 pub fn search_root(subset: u32, filter: FilterLines) -> RequestSheet {
-    let operation = OperationLines::Search { limit: 0, selected: Selected::ALL, subset, filter };
+    let (selected, order) = (Selected::ALL, None);
+    let operation = OperationLines::Search { limit: 0, selected, order, subset, filter };
     asking(Vec::new(), operation)
 }

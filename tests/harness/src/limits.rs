@@ -124,7 +124,8 @@ pub fn search(filter: FilterLines) -> RequestSheet {
 
 pub fn search_with(filter: FilterLines, selected: Selected) -> RequestSheet {
     let (requester, name) = (Vec::new(), Vec::new());
-    let operation = OperationLines::Search { limit: 0, selected, subset: 2, filter };
+    let order = None;
+    let operation = OperationLines::Search { limit: 0, selected, order, subset: 2, filter };
     RequestSheet { level: 0, edition: 0, requester, name, operation }
 }
 

@@ -2,7 +2,7 @@
 //! kinds, selections with repeats, unknown types and unfit values.
 
 use crate::random::Random;
-use crate::values::{other_letters, unfit, value, variant, TEXT};
+use crate::values::{other_letters, unfit, value, variant, OCTETS, TEXT};
 use crate::world::{free_part, some_value, stored_name, user_name};
 use peer::builder::{DirectorySheet, FilterLines, Name, OperationLines, RequestSheet, Selected};
 use peer::form::Form;
@@ -34,6 +34,7 @@ pub fn request_of(
         _ => OperationLines::Search {
             limit: limit(random, form),
             selected: selected(random, directory),
+            order: random.percent(45).then(|| order(random, directory)),
             subset: *random.pick(&[0, 0, 1, 1, 1, 2, 2, 2, 2, 2]),
             filter: filter(random, directory),
         },
@@ -87,22 +88,16 @@ fn spoil(random: &mut Random, directory: &DirectorySheet, name: &mut Name) {
     name.truncate(8);
 }
 
+const LONG_LIMITS: [u32; 8] =
+    [5, 999_999, 1_000_000, 1_000_001, 1_000_002, 70_000_003, 123_000_002, 999_999_999];
+
 fn limit(random: &mut Random, form: Form) -> u32 {
     match random.below(20) {
         0..=9 => 0,
         10..=16 => random.between(1, 4) as u32,
         17 | 18 => random.between(4, 7) as u32,
         // Seven digits and more are for nine columns.
-        _ if form.is_wide() => *random.pick(&[
-            5,
-            256,
-            999_999,
-            1_000_000,
-            1_000_001,
-            9_999_999,
-            123_000_002,
-            999_999_999,
-        ]),
+        _ if form.is_wide() => *random.pick(&LONG_LIMITS),
         _ => *random.pick(&[5, 10, 100, 256, 999_999]),
     }
 }
@@ -121,6 +116,18 @@ fn selected(random: &mut Random, directory: &DirectorySheet) -> Selected {
         (0..random.below(most + 1)).map(|_| any_type(random, directory)).collect()
     });
     Selected { types, values: random.percent(65) }
+}
+
+/// Mostly of a type that has an order.
+pub fn order(random: &mut Random, directory: &DirectorySheet) -> (u32, u32) {
+    let ordered = directory.types.iter().filter(|(_, syntax)| *syntax != OCTETS);
+    let ordered: Vec<u32> = ordered.map(|(kind, _)| *kind).collect();
+    let kind = if ordered.is_empty() || random.once_in(12) {
+        any_type(random, directory)
+    } else {
+        *random.pick(&ordered)
+    };
+    (kind, random.below(2) as u32)
 }
 
 /// A type and a value to compare with: often one that is held.
@@ -267,7 +274,12 @@ fn cut(random: &mut Random, source: &[u8], start: &mut usize, place: usize) -> V
         }
         2 => source[source.len() - length..].to_vec(),
         _ => {
-            let begin = if random.once_in(4) { random.below(source.len()) } else { *start };
+            let begin = match random.below(8) {
+                0 | 1 => random.below(source.len()),
+                // Over the end of the piece before.
+                2 => start.saturating_sub(1),
+                _ => *start,
+            };
             let begin = begin.min(source.len() - 1);
             let end = (begin + length).min(source.len());
             *start = end;

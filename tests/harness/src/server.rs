@@ -19,7 +19,7 @@ pub trait Server {
 }
 
 /// Every number a request may be refused with.
-pub const REFUSALS: [u64; 15] = [1, 2, 3, 4, 5, 6, 11, 12, 13, 14, 21, 22, 23, 31, 33];
+pub const REFUSALS: [u64; 16] = [1, 2, 3, 4, 5, 6, 11, 12, 13, 14, 21, 22, 23, 24, 31, 33];
 
 /// Every number a move may be refused with.
 pub const MOVE_REFUSALS: [u64; 8] = [1, 2, 3, 4, 5, 6, 35, 36];

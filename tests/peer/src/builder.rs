@@ -178,8 +178,17 @@ pub struct RequestSheet {
 pub enum OperationLines {
     Read(Selected),
     Compare(u32, Vec<u8>),
-    List { limit: u32 },
-    Search { limit: u32, selected: Selected, subset: u32, filter: FilterLines },
+    List {
+        limit: u32,
+    },
+    Search {
+        limit: u32,
+        selected: Selected,
+        /// Type, and 0 rising or 1 falling.
+        order: Option<(u32, u32)>,
+        subset: u32,
+        filter: FilterLines,
+    },
 }
 
 #[derive(Clone, Debug, PartialEq, Eq)]
@@ -275,8 +284,11 @@ impl RequestSheet {
                 sheet.line(14, *kind, 0, 0, value);
             }
             OperationLines::List { .. } => {}
-            OperationLines::Search { selected, subset, filter, .. } => {
+            OperationLines::Search { selected, order, subset, filter, .. } => {
                 sheet.selected(selected);
+                if let Some((kind, direction)) = order {
+                    sheet.line(16, *kind, *direction, 0, &[]);
+                }
                 sheet.line(15, *subset, 0, 0, &[]).filter(filter);
             }
         }

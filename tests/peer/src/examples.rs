@@ -194,6 +194,7 @@ fn example_13_prints() {
         operation: OperationLines::Search {
             limit: 0,
             selected: Selected::ALL,
+            order: None,
             subset: 2,
             filter: FilterLines::Present(5),
         },

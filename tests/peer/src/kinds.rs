@@ -7,15 +7,16 @@ use crate::sheet::{Line, Reason};
 pub const MAX_PARTS: u32 = 8;
 
 pub fn in_directory(kind: u32) -> bool {
-    matches!(kind, 1..=3)
+    matches!(kind, 1..=3) || (kind == 16 && planted(Fault::OrderInDirectoryMisplaced))
 }
 
 pub fn in_permissions(kind: u32) -> bool {
     matches!(kind, 4..=9)
+        || (kind == 16 && planted(Fault::OrderInPermissionsMisplaced))
 }
 
 pub fn in_request(kind: u32) -> bool {
-    matches!(kind, 9..=15 | 20..=28)
+    matches!(kind, 9..=16 | 20..=28)
 }
 
 /// `NotAllowed` unless the sheet has the kind and every column is in its range. The parent
@@ -51,6 +52,7 @@ fn columns_allowed(form: Form, line: &Line) -> bool {
         12 => a <= 1 && b <= 16 && (b == 0 || a == 1) && c <= 1 && bare,
         13 | 26 => is_type(a) && b == 0 && c == 0 && bare,
         15 => a <= 2 && b == 0 && c == 0 && bare,
+        16 => is_type(a) && b <= 1 && c == 0 && bare,
         20 | 21 => a <= 127 && b == 0 && c == 0 && bare,
         22 => a == 0 && b == 0 && c == 0 && bare,
         27 => is_type(a) && (1..=8).contains(&b) && c == 0 && bare,
@@ -78,6 +80,7 @@ fn wrongly_allowed(form: Form, line: &Line) -> bool {
         (11, 1 | 2, 0..=8, _) => planted(Fault::LimitOnReadAccepted) && bytes.is_empty(),
         (12, 1, 17, 0..=1) => planted(Fault::ListOf17Accepted) && bytes.is_empty(),
         (12, 0, 1..=16, 0..=1) => planted(Fault::ListWithAllTypesAccepted) && bytes.is_empty(),
+        (16, 1..=999, 2, 0) => planted(Fault::OrderOfTwoAccepted) && bytes.is_empty(),
         (20 | 21, 128, 0, 0) => planted(Fault::PartsOf128Accepted) && bytes.is_empty(),
         (22, 1, 0, 0) => planted(Fault::NotWithACountAccepted) && bytes.is_empty(),
         (27, 1..=999, 0 | 9, 0) => planted(Fault::NinePiecesAccepted) && bytes.is_empty(),

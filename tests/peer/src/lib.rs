@@ -17,6 +17,7 @@ pub mod kinds;
 pub mod moves;
 pub mod name;
 pub mod operations;
+pub mod order;
 pub mod permissions;
 pub mod request;
 pub mod schema;
@@ -33,6 +34,9 @@ use fault::{planted, Fault};
 use form::Form;
 use permissions::Permissions;
 use request::Request;
+
+/// Refusal of the requester: the type of K 16 is unknown or has no order.
+pub const NO_ORDER: u32 = 24;
 
 /// Refusal of the calling program: the answer is longer than the lent buffer.
 pub const ANSWER_TOO_LONG: u32 = 31;
@@ -68,6 +72,9 @@ pub fn serve_for(
         .map_err(|reason| 10 + reason as u32)?;
     let request = Request::decode(narrowed(Fault::RequestStaysNarrow), req, &directory.schema)
         .map_err(|reason| 20 + reason as u32)?;
+    if request.unordered && !planted(Fault::OrderJudgedAfterRoom) {
+        return Err(NO_ORDER);
+    }
     let most = call.caller.most_entries();
     let of_answer = match () {
         _ if planted(Fault::AnswerInOtherForm) => form.other(),
@@ -83,6 +90,9 @@ pub fn serve_for(
         _ => answer.len(),
     };
     if needed <= room {
+        if request.unordered {
+            return Err(NO_ORDER);
+        }
         Ok(answer)
     } else {
         Err(ANSWER_TOO_LONG)

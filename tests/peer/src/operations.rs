@@ -9,8 +9,9 @@ use crate::fault::{planted, Fault};
 use crate::filter::{Filter, Truth};
 use crate::form::Form;
 use crate::name::Asked;
+use crate::order::{Found, Order};
 use crate::permissions::{Mask, Permissions, BROWSE, COMPARE, DISCLOSE_ON_ERROR, READ, RETURN_DN};
-use crate::request::{Operation, Purported, Request, Selection, Subset};
+use crate::request::{Operation, Purported, Request, Search, Selection, Subset};
 
 /// The answer to a request, with at most so many entries, if there is a limit.
 pub fn answer(
@@ -58,10 +59,7 @@ impl Service<'_, '_> {
             Operation::Read(selection) => self.read(base, selection),
             Operation::Compare(purported) => self.compare(base, purported),
             Operation::List { limit } => self.list(base, SizeLimit::new(*limit, self.most)),
-            Operation::Search { limit, selection, subset, filter } => {
-                let limit = SizeLimit::new(*limit, self.most);
-                self.search(base, limit, selection, *subset, filter)
-            }
+            Operation::Search(search) => self.search(base, search),
         }
     }
 
@@ -203,16 +201,12 @@ impl Service<'_, '_> {
         self.close(base, count)
     }
 
-    fn search(
-        &mut self,
-        base: Number,
-        limit: SizeLimit,
-        selection: &Selection,
-        subset: Subset,
-        filter: &Filter,
-    ) -> Answer {
+    fn search(&mut self, base: Number, search: &Search) -> Answer {
         let directory = self.directory;
+        let subset = search.subset;
+        let limit = SizeLimit::new(search.limit, self.most);
         let mut count = Counter::new(self.answer(Outcome::Result), limit);
+        let mut found: Vec<Found> = Vec::new();
         // Entries come after their parents, so nothing before the base is in the subset.
         for number in base.max(1)..=directory.len() {
             let within = match subset {
@@ -232,17 +226,65 @@ impl Service<'_, '_> {
                 }
                 continue;
             }
-            if !self.matches(number, base, filter) {
+            if !self.matches(number, base, &search.filter) {
                 count.withhold();
+                continue;
+            }
+            if let Some(order) = search.order {
+                let key = order.key(directory, number, &mut self.judge, &search.selection);
+                found.push(Found { number, key });
                 continue;
             }
             if !count.take() {
                 break;
             }
-            self.head(&mut count.answer, number, true);
-            self.information(&mut count.answer, number, selection);
+            self.show(&mut count.answer, number, &search.selection);
+        }
+        if let Some(order) = search.order {
+            self.show_in_order(&mut count, found, order, &search.selection);
         }
         self.close(base, count)
+    }
+
+    /// The first ones after ordering, as far as the limit goes.
+    fn show_in_order(
+        &mut self,
+        count: &mut Counter,
+        mut found: Vec<Found>,
+        order: Order,
+        selection: &Selection,
+    ) {
+        let early = match () {
+            _ if planted(Fault::LimitBeforeOrder) => count.limit.entries,
+            _ if planted(Fault::PanelLimitBeforeOrder) => self.most,
+            _ => None,
+        };
+        if let Some(most) = early {
+            let most = most as usize;
+            count.cut = found.len() > most;
+            found.truncate(most);
+        }
+        order.sort(&mut found);
+        for one in found {
+            let cut = count.cut;
+            if !count.take() {
+                break;
+            }
+            count.cut |= cut;
+            self.show(&mut count.answer, one.number, selection);
+        }
+        count.cut = match () {
+            _ if planted(Fault::OrderedNeverCut) => false,
+            _ if planted(Fault::OrderedCutWhenFull) => count.is_full(),
+            _ => count.cut,
+        };
+    }
+
+    /// An entry that was found.
+    fn show(&mut self, answer: &mut Answer, number: Number, selection: &Selection) {
+        self.judge.enter(number);
+        self.head(answer, number, true);
+        self.information(answer, number, selection);
     }
 
     fn matches(&mut self, number: Number, base: Number, filter: &Filter) -> bool {

@@ -7,6 +7,7 @@ use crate::filter::{Assertion, Filter};
 use crate::form::Form;
 use crate::kinds;
 use crate::name::{Asked, Part};
+use crate::order::Order;
 use crate::schema::{Schema, Slot};
 use crate::sheet::{Line, Lines, Reason};
 use crate::value::{Piece, Place, Syntax};
@@ -22,13 +23,23 @@ pub struct Request<'a> {
     /// The name asked for.
     pub name: Asked<'a>,
     pub operation: Operation<'a>,
+    /// K 16 names a type that is unknown or has no order.
+    pub unordered: bool,
 }
 
 pub enum Operation<'a> {
     Read(Selection),
     Compare(Purported<'a>),
     List { limit: u32 },
-    Search { limit: u32, selection: Selection, subset: Subset, filter: Filter<'a> },
+    Search(Search<'a>),
+}
+
+pub struct Search<'a> {
+    pub limit: u32,
+    pub selection: Selection,
+    pub order: Option<Order>,
+    pub subset: Subset,
+    pub filter: Filter<'a>,
 }
 
 impl Operation<'_> {
@@ -37,7 +48,7 @@ impl Operation<'_> {
             Operation::Read(_) => 1,
             Operation::Compare(_) => 2,
             Operation::List { .. } => 3,
-            Operation::Search { .. } => 4,
+            Operation::Search(_) => 4,
         }
     }
 }
@@ -78,7 +89,8 @@ impl<'a> Request<'a> {
         if sheet.len() > longest + usize::from(planted(Fault::LongRequestAccepted)) {
             return Err(Reason::TooLong);
         }
-        let mut reader = Reader { form, lines: Lines::new(form, sheet), schema, filter_lines: 0 };
+        let lines = Lines::new(form, sheet);
+        let mut reader = Reader { form, lines, schema, filter_lines: 0, unordered: false };
         let user = reader.expect(10)?;
         let edition = Edition::of(&user);
         let mut requester = Requester { level: user.a, name: reader.name(user.b)? };
@@ -92,21 +104,21 @@ impl<'a> Request<'a> {
             1 => Operation::Read(reader.selection()?),
             2 => Operation::Compare(reader.purported()?),
             3 => Operation::List { limit },
-            _ => Operation::Search {
-                limit,
-                selection: reader.selection()?,
-                subset: match reader.expect(15)?.a {
-                    0 => Subset::Base,
-                    1 => Subset::OneLevel,
-                    _ => Subset::Subtree,
-                },
-                filter: reader.filter(1)?,
-            },
+            _ => {
+                let selection = reader.selection()?;
+                let (order, subset) = reader.order_and_subset()?;
+                let filter = reader.filter(1)?;
+                Operation::Search(Search { limit, selection, order, subset, filter })
+            }
         };
-        match reader.next()? {
-            Some(_) if !planted(Fault::SurplusLineAccepted) => Err(Reason::OutOfOrder),
-            _ => Ok(Request { requester, edition, name, operation }),
+        let surplus = reader.next()?;
+        let order = surplus.is_some_and(|line| line.kind == 16);
+        match surplus {
+            Some(_) if order && planted(Fault::OrderElsewhereAccepted) => {}
+            Some(_) if !planted(Fault::SurplusLineAccepted) => return Err(Reason::OutOfOrder),
+            _ => {}
         }
+        Ok(Request { requester, edition, name, operation, unordered: reader.unordered })
     }
 }
 
@@ -125,6 +137,7 @@ struct Reader<'a, 's> {
     lines: Lines<'a>,
     schema: &'s Schema,
     filter_lines: u32,
+    unordered: bool,
 }
 
 impl<'a> Reader<'a, '_> {
@@ -150,7 +163,13 @@ impl<'a> Reader<'a, '_> {
     }
 
     fn selection(&mut self) -> Result<Selection, Reason> {
-        let line = self.expect(12)?;
+        let mut line = self.next()?.ok_or(Reason::OutOfOrder)?;
+        if line.kind == 16 && planted(Fault::OrderBeforeSelectionAccepted) {
+            line = self.next()?.ok_or(Reason::OutOfOrder)?;
+        }
+        if line.kind != 12 {
+            return Err(Reason::OutOfOrder);
+        }
         let mut slots = if line.a == 0 { u64::MAX } else { 0 };
         for _ in 0..line.b {
             if let Some(slot) = self.schema.slot(self.expect(13)?.a) {
@@ -164,6 +183,43 @@ impl<'a> Reader<'a, '_> {
         Ok(Selection { slots, all, empty_list, with_values: line.c == 1 })
     }
 
+    /// K 16, if it is there, and K 15.
+    fn order_and_subset(&mut self) -> Result<(Option<Order>, Subset), Reason> {
+        let mut line = self.next()?.ok_or(Reason::OutOfOrder)?;
+        let mut order = None;
+        while line.kind == 16 {
+            order = self.order(&line)?;
+            line = self.next()?.ok_or(Reason::OutOfOrder)?;
+            if !planted(Fault::OrderTwiceAccepted) {
+                break;
+            }
+        }
+        let misplaced = line.kind == 16 && planted(Fault::MisplacedOrderNotAllowed);
+        let subset = match (line.kind, line.a) {
+            (15, 0) => Subset::Base,
+            (15, 1) => Subset::OneLevel,
+            (15, _) => Subset::Subtree,
+            _ if misplaced => return Err(Reason::NotAllowed),
+            _ => return Err(Reason::OutOfOrder),
+        };
+        Ok((order, subset))
+    }
+
+    /// Nothing, and noted, where the type is unknown or has no order.
+    fn order(&mut self, line: &Line) -> Result<Option<Order>, Reason> {
+        let slot = self.schema.slot(line.a);
+        let known = slot.filter(|&slot| self.schema.syntax(slot) != Syntax::Octets);
+        let accepted = match slot {
+            None => planted(Fault::OrderOfUnknownTypeAccepted),
+            Some(_) => planted(Fault::OrderOfOctetsAccepted),
+        };
+        self.unordered = known.is_none() && !accepted;
+        if self.unordered && planted(Fault::OrderJudgedEarly) {
+            return Err(Reason::NotInSchema);
+        }
+        Ok(known.map(|slot| Order { slot, falling: line.b == 1 }))
+    }
+
     fn purported(&mut self) -> Result<Purported<'a>, Reason> {
         let line = self.expect(14)?;
         Ok(Purported {
@@ -174,7 +230,11 @@ impl<'a> Reader<'a, '_> {
 
     /// A line of K 20 to 28, counted.
     fn filter_line(&mut self) -> Result<Line<'a>, Reason> {
-        let line = self.next()?.ok_or(Reason::OutOfOrder)?;
+        let mut line = self.next()?.ok_or(Reason::OutOfOrder)?;
+        let late = line.kind == 16 && self.filter_lines == 0;
+        if late && planted(Fault::OrderAfterSubsetAccepted) {
+            line = self.next()?.ok_or(Reason::OutOfOrder)?;
+        }
         self.filter_lines += u32::from(!(planted(Fault::PiecesNotCounted) && line.kind == 28));
         let most = MAX_FILTER_LINES + u32::from(planted(Fault::FilterLine129Accepted));
         if !(20..=28).contains(&line.kind) || self.filter_lines > most {

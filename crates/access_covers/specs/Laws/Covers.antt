@@ -2,8 +2,7 @@
 use Prim.Native.Nat.{ℕ, zero, suc, _+_, _≤_, _<_}
 use mathlib.Core.Path.{_≡_, refl, ap, ap₂, _∙_, subst}
 use mathlib.Core.Bool.{Bool, true, false, _&&_}
-use mathlib.Core.List.{List, [], _∷_, map}
-use native.Mathlib.Nat.{le-of-suc-le-suc, not-suc-le-zero}
+use mathlib.Core.List.{List}
 use native.Mathlib.Numerals.{add-one}
 use native.Mathlib.Omega.{arith}
 use lib.Dec.{ltb}
@@ -14,6 +13,7 @@ use Rattle.rules.specs.Directory.{Stored}
 use Rattle.rules.specs.Directory as Directory
 use Rattle.rules.specs.Permission.{Item}
 use Rattle.rules.specs.Decision.{Setting}
+use Rattle.rules.specs.Laws.Lists.{getD-map}
 use Rattle.rules.specs.Laws.Decision.{concerns}
 use Rattle.rules.specs.Laws.First.{blank, itemAt}
 use Rattle.rules.specs.Numbers.{reaches, reachOf}
@@ -30,11 +30,6 @@ use Rattle.access_covers.specs.Sources.{Sources}
 use Rattle.access_covers.specs.Laws.Row.{Inherits}
 use Rattle.access_covers.specs.Laws.Enter.{aloneBy, ownBy, alone-entered, down-entered, RowsClear, Owned, owned-all}
 use Rattle.access_covers.specs.Laws.Inherit.{Kept, kept, inherits-next, Inherited, inherited-none, inherited-more}
-
-getD-map : (f : Item → ℕ) (is : List Item) (k : ℕ) → k < length is → getD (map f is) k 0 ≡ f (getD is k blank)
-getD-map f [] k l = absurd (not-suc-le-zero l)
-getD-map f (i ∷ is) zero l = refl
-getD-map f (i ∷ is) (suc k) l = getD-map f is k (le-of-suc-le-suc l)
 
 -- ---- the covers, whatever they stand for
 
@@ -118,7 +113,7 @@ module _ (σ : Setting) (es : List Stored) (reach order parents : List ℕ) (giv
       below k j l true e =
           ap (λ (r : ℕ). reaches es r (suc k))
           (ap (λ (x : List ℕ). getD x (getD order j 0) 0) (given .reach-is)
-          ∙ getD-map (reachOf σ es) (σ .items) (getD order j 0) (given .ranked .within j (ltb-true j (length (σ .items)) e)))
+          ∙ getD-map (reachOf σ es) blank 0 (σ .items) (getD order j 0) (given .ranked .within j (ltb-true j (length (σ .items)) e)))
           ∙ reach-concerns σ es (given .accepted) k l (itemAt (σ .items) order j)
 
   -- of a table without members in the rows of the entries

@@ -3,6 +3,7 @@ use mathlib.Core.Path.{_≡_, refl, sym, ap, _∙_}
 use native.Mathlib.Omega.{arith}
 use denote.Ref.{now}
 use lib.ListN.{length, take, length-set}
+use Rattle.access_order.specs.Pass.{upTo}
 use Rattle.access_items.specs.Rank.{scoresOf}
 use Rattle.access_items.specs.Laws.Rank.{scores-more}
 use borrow.Author.Needs.{needs}
@@ -16,7 +17,7 @@ abbrev μ-loop : tie.MeasureT-loop
 μ-loop rights count keys₀ k₀ keys k = count - k
 
 loop-holds : tie.Need-loop-holds Inv-loop μ-loop
-loop-holds c = (omega arith, refl, unfold scoresOf in refl)
+loop-holds c = (omega arith, refl, unfold scoresOf in unfold upTo in refl)
 
 loop-again : tie.Need-loop-again Inv-loop μ-loop
 loop-again c = let L = c .before .before .loop in let A = c .before .before .before .args in (omega (arith, c .before .loop-test .taken), length-set (L .keys) (L .k) _ ∙ L .inv .1, scores-more (now (A .rights)) (L .keys) (L .k) (omega (arith, c .before .loop-test .taken, L .inv .1, c .before .before .before .pre .0)) (L .inv .2))

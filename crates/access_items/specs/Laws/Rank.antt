@@ -1,58 +1,48 @@
 -- Laws of `Rank`: the loop that makes the scores, and that the items in this order are ranked.
-use Prim.Native.Nat.{ℕ, zero, suc, _+_, _-_, _*_, _≤_, _<_}
+use Prim.Native.Nat.{ℕ, _+_, _-_, _*_, _≤_, _<_}
 use mathlib.Core.Path.{_≡_, refl, sym, ap, _∙_, subst}
 use mathlib.Core.Bool.{Bool, true, false, cond}
-use mathlib.Core.List.{List, [], _∷_, _++_}
-use native.Mathlib.Nat.{not-suc-le-zero}
+use mathlib.Core.List.{List, [], _∷_, _++_, map-append}
 use native.Mathlib.Numerals.{add-one}
 use native.Mathlib.Omega.{arith}
-use lib.Dec.{eqb}
-use lib.ListN.{length, getD, set, take, drop, length-append, List·getD-append}
-use lib.Seq.{take-suc-set, getD-at}
-use borrow.Author.Tests.{eqb-true, eqb-false}
+use lib.Dec.{eqb, ltb}
+use lib.ListN.{length, getD, set, take, drop, length-map}
+use lib.Seq.{take-suc-set}
+use borrow.Author.Tests.{eq-eqb, eqb-true, eqb-false, ltb-false}
 use Rattle.rules.specs.Sheet.{Bytes}
 use Rattle.rules.specs.Permission.{Item}
+use Rattle.rules.specs.Arrange.{arrangedBy}
+use Rattle.rules.specs.Laws.Lists.{any-at, any-found, getD-map}
+use Rattle.rules.specs.Laws.Each.{Each, each-at}
+use Rattle.rules.specs.Laws.Arrange.{WeakOrder, arranged-length, each-arranged-by, any-arranged, ordered-arranged, ordered-at, highest-first}
 use Rattle.rules.specs.Laws.Decision.{weight}
 use Rattle.rules.specs.Laws.First.{blank, score, itemAt, Ranked}
 use Rattle.permission_sheet.specs.Noted as Noted
 use Rattle.permission_sheet.specs.Noted.{Table, SCORE, RIGHTS}
-use Rattle.access_order.specs.Pass.{inOrder}
-use Rattle.access_order.specs.Order.{keyAt, Sorting}
-use Rattle.access_order.specs.Laws.Order.{length-order, in-order}
+use Rattle.access_order.specs.Pass.{upTo, inOrder}
+use Rattle.access_order.specs.Laws.Pass.{length-upTo, low-upTo, at-upTo}
+use Rattle.access_order.specs.Laws.Order.{length-order, in-order-arranged}
 use Rattle.access_items.specs.Rank.{scoresOf, orderOf}
 
 -- ---- the scores
 
+abbrev scoreIn : List ℕ → ℕ → ℕ
+scoreIn rights k = getD rights (k * RIGHTS + SCORE) 0
+
 length-scores : (rights : List ℕ) (n : ℕ) → length (scoresOf rights n) ≡ n
 unfolding scoresOf
-length-scores rights zero = refl
-length-scores rights (suc n) =
-    let e : length (scoresOf rights n) ≡ n = length-scores rights n in
-    let z : length (scoresOf rights n) + 1 ≡ suc n = omega arith in
-    length-append (scoresOf rights n) (getD rights (n * RIGHTS + SCORE) 0 ∷ []) ∙ z
+length-scores rights n = length-map (upTo n) (scoreIn rights) ∙ length-upTo n
 
-score-at : (rights : List ℕ) (n k : ℕ) → k < n → getD (scoresOf rights n) k 0 ≡ getD rights (k * RIGHTS + SCORE) 0
+score-at : (rights : List ℕ) (n k : ℕ) → k < n → getD (scoresOf rights n) k 0 ≡ scoreIn rights k
 unfolding scoresOf
-score-at rights zero k l = absurd (not-suc-le-zero l)
-score-at rights (suc n) k l = go (eqb k n) refl (score-at rights n k)
-  where
-    s : ℕ
-    s = getD rights (n * RIGHTS + SCORE) 0
-
-    go : (b : Bool) → eqb k n ≡ b → (k < n → getD (scoresOf rights n) k 0 ≡ getD rights (k * RIGHTS + SCORE) 0) → getD (scoresOf rights n ++ (s ∷ [])) k 0 ≡ getD rights (k * RIGHTS + SCORE) 0
-    go true e ih =
-        let q : k ≡ n = eqb-true k n e in
-        ap (λ (m : ℕ). getD (scoresOf rights n ++ (s ∷ [])) m 0) q ∙ getD-at (scoresOf rights n) s [] 0 n (length-scores rights n) ∙ ap (λ (m : ℕ). getD rights (m * RIGHTS + SCORE) 0) (sym q)
-    go false e ih =
-        let d : k ≡ n → ⊥ = eqb-false k n e in
-        List·getD-append (scoresOf rights n) (s ∷ []) 0 k (omega (arith, length-scores rights n)) ∙ ih (omega arith)
+score-at rights n k l = getD-map (scoreIn rights) 0 0 (upTo n) k (omega (arith, length-upTo n)) ∙ ap (scoreIn rights) (at-upTo n k l)
 
 -- one score more
-pub scores-more : (rights keys : List ℕ) (k : ℕ) → k < length keys → take k keys ≡ scoresOf rights k → take (k + 1) (set keys k (getD rights (k * RIGHTS + SCORE) 0)) ≡ scoresOf rights (k + 1)
-unfolding scoresOf
+pub scores-more : (rights keys : List ℕ) (k : ℕ) → k < length keys → take k keys ≡ scoresOf rights k → take (k + 1) (set keys k (scoreIn rights k)) ≡ scoresOf rights (k + 1)
+unfolding scoresOf upTo
 scores-more rights keys k room h =
-    let s : ℕ = getD rights (k * RIGHTS + SCORE) 0 in
-    ap (λ (m : ℕ). take m (set keys k s)) (add-one k) ∙ take-suc-set keys k s room ∙ ap (λ (l : List ℕ). l ++ (s ∷ [])) h ∙ ap (scoresOf rights) (sym (add-one k))
+    ap (λ (m : ℕ). take m (set keys k (scoreIn rights k))) (add-one k) ∙ take-suc-set keys k (scoreIn rights k) room ∙ ap (λ (l : List ℕ). l ++ (scoreIn rights k ∷ [])) h
+    ∙ sym (map-append (scoreIn rights) (upTo k) (k ∷ [])) ∙ ap (scoresOf rights) (sym (add-one k))
 
 -- the score that is noted is the one that ranks
 score-noted : (i : Item) → Noted.score i ≡ score i
@@ -88,29 +78,54 @@ order-of-keys rights keys before after n h e =
 
 pub ranked-order : (w : ℕ) (p : Bytes) (is : List Item) (rights scopes : List ℕ) → Table w p is rights scopes → Ranked is (orderOf rights (length is))
 unfolding orderOf
-ranked-order w p is rights scopes table =
-    record {
-      within = o .within;
-      complete = o .complete;
-      falling = λ q r l m.
-          let a : keyAt keys order r ≡ score (itemAt is order r) = key (getD order r 0) (o .within r m) in
-          let b : keyAt keys order q ≡ score (itemAt is order q) = key (getD order q 0) (o .within q (omega arith)) in
-          omega (arith, o .falling q r l m);
-    }
+ranked-order w p is rights scopes table = subst (Ranked is) (sym arranged) (record { within = within; complete = complete; falling = λ q r l m. falling q r l m (eqb q r) refl })
   where
+    n : ℕ
+    n = length is
+
+    Low : ℕ → Type 0
+    Low k = k < n
+
     keys : List ℕ
-    keys = scoresOf rights (length is)
+    keys = scoresOf rights n
 
-    order : List ℕ
-    order = orderOf rights (length is)
-
-    key : (k : ℕ) → k < length is → getD keys k 0 ≡ score (getD is k blank)
-    key k l = score-at rights (length is) k l ∙ table .rows k l .score ∙ score-noted (getD is k blank)
+    key : (k : ℕ) → k < n → getD keys k 0 ≡ score (getD is k blank)
+    key k l = score-at rights n k l ∙ table .rows k l .score ∙ score-noted (getD is k blank)
 
     small : (k : ℕ) → k < length keys → getD keys k 0 < 4096
     small k l =
-        let b : k < length is = subst (λ (m : ℕ). k < m) (length-scores rights (length is)) l in
+        let b : k < n = subst (λ (m : ℕ). k < m) (length-scores rights n) l in
         subst (λ (m : ℕ). m < 4096) (sym (key k b)) (score-small (getD is k blank) (table .rows k b .bounded .weight))
 
-    o : Sorting keys order (length is)
-    o = subst (λ (m : ℕ). Sorting keys order m) (length-scores rights (length is)) (in-order keys small)
+    before : ℕ → ℕ → Bool
+    before a b = ltb (getD keys b 0) (getD keys a 0)
+
+    first : WeakOrder before Low
+    first = highest-first (λ k. getD keys k 0) Low
+
+    order : List ℕ
+    order = arrangedBy before (upTo n)
+
+    arranged : orderOf rights n ≡ order
+    arranged = in-order-arranged keys small ∙ ap (λ (m : ℕ). arrangedBy before (upTo m)) (length-scores rights n)
+
+    low : Each Low (upTo n)
+    low = low-upTo n
+
+    size : length order ≡ n
+    size = arranged-length before (upTo n) ∙ length-upTo n
+
+    within : (q : ℕ) → q < n → getD order q 0 < n
+    within q l = each-at Low 0 order (each-arranged-by before Low (upTo n) low) q (omega (arith, size))
+
+    complete : (k : ℕ) → k < n → (q : ℕ) × (q < n) × (getD order q 0 ≡ k)
+    complete k l =
+        let t = any-found (eqb k) 0 order (any-arranged before (eqb k) (upTo n) ∙ any-at (eqb k) 0 (upTo n) k (omega (arith, length-upTo n)) (eq-eqb k _ (sym (at-upTo n k l)))) in
+        (t .0, subst (λ (m : ℕ). t .0 < m) size (t .1), sym (eqb-true k _ (t .2)))
+
+    falling : (q r : ℕ) → q ≤ r → r < n → (b : Bool) → eqb q r ≡ b → score (itemAt is order r) ≤ score (itemAt is order q)
+    falling q r l m true e = subst (λ (i : ℕ). score (itemAt is order i) ≤ score (itemAt is order q)) (eqb-true q r e) (omega arith)
+    falling q r l m false e =
+        let d : q ≡ r → ⊥ = eqb-false q r e in
+        let o : getD keys (getD order r 0) 0 ≤ getD keys (getD order q 0) 0 = ltb-false _ _ (ordered-at before Low first 0 order (ordered-arranged before Low first (upTo n) low) q r (omega arith) (omega (arith, size))) in
+        omega (arith, key (getD order r 0) (within r m), key (getD order q 0) (within q (omega arith)))

@@ -103,7 +103,8 @@ module _ {A B : Type 0} (f : A → B) (h : ℕ → A) (g : ℕ → B) (p : ℕ �
 
 -- the entries that pass, and what is returned of them
 module _ (es : List Stored) (q : Entry → Bool) (p : ℕ → Bool) (same : (k : ℕ) → k < length es → q (entryOf (getD es k blank)) ≡ p k) where
-  entries-passing : keep q (map entryOf es) ≡ map (λ k. getD (map entryOf es) k (entryOf blank)) (passing p (length es))
+  -- the entries that pass, by their indices
+  pub entries-passing : keep q (map entryOf es) ≡ map (λ k. getD (map entryOf es) k (entryOf blank)) (passing p (length es))
   entries-passing =
       keep-passing q (entryOf blank) (map entryOf es) p (λ k l. ap q (List·getD-map entryOf es k blank) ∙ same k (subst (λ (m : ℕ). k < m) (length-map es entryOf) l))
       ∙ ap (λ (m : ℕ). map (λ k. getD (map entryOf es) k (entryOf blank)) (passing p m)) (length-map es entryOf)

@@ -46,7 +46,7 @@ search-requires c κs = let A = c .before .before .before .before .before .befor
   posed-base (P .0),
   P .1,
   omega (arith, P .0 .4 .world .entries .fits .narrow, P .0 .4 .noted .short),
-  by-search (P .0 .2) (width b) (now (A .q)) (A .asked) (λ (o : Operation). KnownQuery (width b) (now (A .q)) (record { limit = A .asked .limit; subset = A .asked .subset; filter = A .asked .filter; edition = A .asked .edition })) (P .0 .3 .operation) (P .0 .4 .noted .operation) (c .before .before .before .before .before .if1 .left) (c .before .before .before .if2 .left) (c .before .if3 .left) (λ s sk. (P .0 .2, s, sk)),
+  by-search (P .0 .2) (width b) (now (A .q)) (A .asked) (λ (o : Operation). KnownQuery (width b) (now (A .q)) (record { limit = A .asked .limit; «order_type» = A .asked .«order_type»; falling = A .asked .falling; subset = A .asked .subset; filter = A .asked .filter; edition = A .asked .edition })) (P .0 .3 .operation) (P .0 .4 .noted .operation) (c .before .before .before .before .before .if1 .left) (c .before .before .before .if2 .left) (c .before .if3 .left) (λ s sk. (P .0 .2, s, sk)),
 )
 
 returns-4 : tie.Need-returns-4

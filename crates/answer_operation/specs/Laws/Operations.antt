@@ -32,11 +32,11 @@ module _ (G : Grammar) (w : ℕ) (q : Bytes) (a : Asked) (P : Operation → Type
   by-list (search s) n e f = let z : a .operation ≡ 4 = n .operation in absurd (omega arith)
 
   pub by-search : (o : Operation) → NotedOperation G w q o a → (a .operation ≡ 1 → ⊥) → (a .operation ≡ 2 → ⊥) → (a .operation ≡ 3 → ⊥)
-      → ((s : Search) → Seeks G w q s (record { limit = a .limit; subset = a .subset; filter = a .filter; edition = a .edition }) → P (search s)) → P o
+      → ((s : Search) → Seeks G w q s (record { limit = a .limit; «order_type» = a .«order_type»; falling = a .falling; subset = a .subset; filter = a .filter; edition = a .edition }) → P (search s)) → P o
   by-search (read s) n e₁ e₂ e₃ f = absurd (e₁ (n .operation))
   by-search (compare t v) n e₁ e₂ e₃ f = absurd (e₂ (n .operation))
   by-search (list limit) n e₁ e₂ e₃ f = absurd (e₃ (n .operation))
-  by-search (search s) n e₁ e₂ e₃ f = f s (record { limit = sym (n .limit); subset = sym (n .subset); reads = n .reads; edition = sym (n .edition) })
+  by-search (search s) n e₁ e₂ e₃ f = f s (record { limit = sym (n .limit); ordering = sym (n .ordering); subset = sym (n .subset); reads = n .reads; edition = sym (n .edition) })
 
 -- the value of a compare lies within the request
 pub value-within : (G : Grammar) (w : ℕ) (q : Bytes) (a : Asked) (o : Operation) → NotedOperation G w q o a → a .operation ≡ 2 → a .value + a .length ≤ length q

@@ -2,16 +2,17 @@
 use Prim.Native.Nat.{ℕ, suc, _+_, _<_}
 use mathlib.Core.Path.{_≡_, refl, ap, ap₂, _∙_}
 use mathlib.Core.Bool.{Bool, true, false, _&&_, and-assoc}
-use mathlib.Core.List.{List, map}
+use mathlib.Core.List.{List, [], _∷_, map}
 use native.Mathlib.Numerals.{add-one}
 use lib.Dec.{eqb}
 use borrow.Author.Tests.{eq-eqb, ne-eqb}
-use lib.ListN.{length, getD}
+use lib.ListN.{length, getD, List·getD-map}
 use Rattle.rules.specs.Name.{Name}
-use Rattle.rules.specs.Directory.{Stored, blank, nameAt, entryOf}
+use Rattle.rules.specs.Directory.{Stored, blank, nameAt, Entry, entryOf}
 use Rattle.rules.specs.Decision.{Setting}
 use Rattle.rules.specs.Filter.{Filter}
 use Rattle.rules.specs.Request.{Search}
+use Rattle.rules.specs.Arrange.{arranged}
 use Rattle.rules.specs.Answer as Answer
 use Rattle.rules.specs.Laws.Directory.{Accepted}
 use Rattle.rules.specs.Numbers.{climbs, withinNumber, walk}
@@ -22,8 +23,10 @@ use Rattle.tables.specs.Sets.{grantedAt}
 use Rattle.answer_plan.specs.Plan.{foundLines, informationAt}
 use Rattle.answer_entry.specs.Returned.{browsableAt, returnableAt}
 use Rattle.answer_entry.specs.Passing.{passing}
-use Rattle.answer_entry.specs.Laws.Passing.{hits-passing}
+use Rattle.answer_entry.specs.Laws.Passing.{entries-passing}
 use Rattle.filter_tree.specs.Tree.{matchesAt}
+use Rattle.answer_arrange.specs.Arrange.{arrangedAt}
+use Rattle.answer_arrange.specs.Laws.Arrange.{entryAt, arranged-entries}
 use Rattle.answer_search.specs.Hits.{foundAt}
 
 -- ---- what the code finds of an entry
@@ -54,6 +57,16 @@ module _ (σ : Setting) (es : List Stored) (b subset : ℕ) (ed : Edition) (f : 
   unfolding foundAt
   found-asked e h = rw (e, ← add-one k, h)
 
+-- ---- maps
+
+map-same : {A : Type 0} (f g : ℕ → A) → ((k : ℕ) → f k ≡ g k) → (ks : List ℕ) → map f ks ≡ map g ks
+map-same f g h [] = refl
+map-same {A} f g h (k ∷ ks) = ap₂ (λ (x : A) (xs : List A). x ∷ xs) (h k) (map-same f g h ks)
+
+map-map : {A B : Type 0} (g : A → B) (f : ℕ → A) (ks : List ℕ) → map g (map f ks) ≡ map (λ k. g (f k)) ks
+map-map g f [] = refl
+map-map {A} {B} g f (k ∷ ks) = ap (λ (xs : List B). g (f k) ∷ xs) (map-map g f ks)
+
 -- ---- they are the tests of the rules
 
 next-number : (σ : Setting) (es : List Stored) (b k : ℕ) → returnableAt σ es (k + 1) (eqb (k + 1) b) ≡ true → returnableAt σ es (suc k) (eqb (suc k) b) ≡ true
@@ -78,7 +91,12 @@ module _ (σ : Setting) (es : List Stored) (ok : Accepted (σ .schema) es) (n : 
   found-lines k = refl
 
   -- the hits, by their indices
-  pub search-hits : Answer.searchHits σ (map entryOf es) n r ≡ map (foundLines σ es (r .selection)) (passing (foundAt σ es b (r .subset) (r .edition) (r .filter)) (length es))
+  pub search-hits : Answer.searchHits σ (map entryOf es) n r
+      ≡ map (foundLines σ es (r .selection)) (arrangedAt σ es (r .ordering) (passing (foundAt σ es b (r .subset) (r .edition) (r .filter)) (length es)))
   unfolding Answer.searchHits
   search-hits =
-      hits-passing es (Answer.found σ n r) (foundAt σ es b (r .subset) (r .edition) (r .filter)) found-at (Answer.searchHit σ r) (foundLines σ es (r .selection)) (λ k l e. found-lines k)
+      let ks = passing (foundAt σ es b (r .subset) (r .edition) (r .filter)) (length es) in
+      ap (λ (l : List Entry). map (Answer.searchHit σ r) (arranged σ (r .ordering) l))
+      (entries-passing es (Answer.found σ n r) (foundAt σ es b (r .subset) (r .edition) (r .filter)) found-at ∙ map-same (λ k. getD (map entryOf es) k (entryOf blank)) (entryAt σ es) (λ k. List·getD-map entryOf es k blank) ks)
+      ∙ ap (map (Answer.searchHit σ r)) (arranged-entries σ es (r .ordering) ks) ∙ map-map (Answer.searchHit σ r) (entryAt σ es) (arrangedAt σ es (r .ordering) ks)
+      ∙ map-same (λ k. Answer.searchHit σ r (entryAt σ es k)) (foundLines σ es (r .selection)) found-lines (arrangedAt σ es (r .ordering) ks)

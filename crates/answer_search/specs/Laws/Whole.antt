@@ -1,9 +1,12 @@
 -- Search as a whole: the plan of the entries found stands for the answer of the rules, and so does that of an absent base.
-use Prim.Native.Nat.{ℕ, _≤_}
-use mathlib.Core.Path.{_≡_, refl, sym, ap, ap₂, _∙_, subst}
+use Prim.Native.Nat.{ℕ, _+_, _-_, _≤_, _<_}
+use native.Mathlib.Omega.{arith}
+use mathlib.Core.Path.{_≡_, refl, sym, ap, _∙_, subst}
 use mathlib.Core.Bool.{Bool}
-use mathlib.Core.List.{List, map}
-use lib.ListN.{length, take}
+use mathlib.Core.Option.{Option}
+use mathlib.Core.List.{List, _++_, map}
+use lib.ListN.{length, getD, take, drop, length-append, length-drop, List·getD-append}
+use lib.Seq.{length-take-le, getD-append-add, getD-take, getD-drop, take-at}
 use Rattle.rules.specs.Lists.{gather}
 use Rattle.rules.specs.Sheet.{Bytes}
 use Rattle.rules.specs.Judge.{Grammar}
@@ -12,11 +15,12 @@ use Rattle.rules.specs.Directory.{Stored, entryOf, entries}
 use Rattle.rules.specs.Permission.{DiscloseOnError}
 use Rattle.rules.specs.Decision.{Setting, entry}
 use Rattle.rules.specs.Filter.{Filter}
-use Rattle.rules.specs.Request.{Selection, Search, search}
+use Rattle.rules.specs.Request.{Selection, Ordering, Search, search}
 use Rattle.rules.specs.Answer.{answer, searchHits}
+use Rattle.rules.specs.Places.{orderingBy}
+use Rattle.rules.specs.Laws.Each.{Each, each-at, each-by-index}
 use Rattle.rules.specs.Laws.Absent.{search-absent}
 use Rattle.rules.specs.Laws.Directory.{Accepted}
-use Rattle.rules.specs.declared.Edition.{Edition}
 use Rattle.rules.specs.declared.Found.{Found}
 use Rattle.rules.specs.declared.Found.the-variants.{At, Nothing}
 use Rattle.answer_plan.specs.declared.Plan.{Plan}
@@ -25,12 +29,15 @@ use Rattle.answer_plan.specs.Sound.{Base}
 use Rattle.answer_plan.specs.Outcome.{absentPlan}
 use Rattle.tables.specs.Sets.{grantedAt}
 use Rattle.answer_entry.specs.Passing.{passing, over, Indices}
-use Rattle.answer_entry.specs.Laws.Passing.{over-found}
 use Rattle.answer_entry.specs.Returned.{successPlan, returnedPlan}
 use Rattle.answer_entry.specs.Laws.Returned.{returned-planned}
 use Rattle.answer_entry.specs.Laws.Whole.{directoryOf, not-root, not-present, planned-absent, there, told-disclosed}
 use Rattle.filter_tree.specs.Tree.{FilterAt}
+use Rattle.answer_arrange.specs.Arrange.{arrangedAt}
+use Rattle.answer_arrange.specs.Laws.Arrange.{arranged-size, arranged-each}
 use Rattle.answer_search.specs.Hits.{foundAt, searchFound}
+use Rattle.answer_search.specs.Query.{Seeks}
+use Rattle.answer_search.specs.declared.Query.{Query}
 use Rattle.answer_search.specs.Laws.Hits.{search-hits}
 
 -- a filter is read where it stands
@@ -51,23 +58,61 @@ module _ (σ : Setting) (es : List Stored) (ok : Accepted (σ .schema) es) (n : 
     unfolding successLines
     found-success s more shown = refl
 
-    pub search-some : (r : Search) (limit subset : ℕ) (ed : Edition) → r .limit ≡ limit → r .subset ≡ subset → r .edition ≡ ed
-        → take count hits ≡ passing (foundAt σ es b subset ed (r .filter)) (length es) → plan ≡ returnedPlan 4 missing d limit count
+    pub search-some : (r : Search) (limit : ℕ) → r .limit ≡ limit → take count hits ≡ searchFound σ es r (At b) → plan ≡ returnedPlan 4 missing d limit count
         → planned σ es (r .selection) plan hits ≡ answer σ (map entryOf es) n (search r)
-    unfolding answer
-    search-some r limit subset ed l u v taken q =
+    unfolding answer searchFound
+    search-some r limit l taken q =
         ap (λ (p : Plan). planned σ es (r .selection) p hits) (q ∙ ap (λ (x : ℕ). returnedPlan 4 missing d x count) (sym l))
         ∙ returned-planned σ es (r .selection) hits count room 4 (foundLines σ es (r .selection)) (found-success (r .selection)) n base missing h d (told-disclosed σ es ok n base missing h b e d told) (r .limit) (searchHits σ (map entryOf es) n r)
-        (search-hits σ es ok n b (there σ es ok n base missing h b e) r ∙ ap (map (foundLines σ es (r .selection))) (sym (taken ∙ ap₂ (λ (x : ℕ) (y : Edition). passing (foundAt σ es b x y (r .filter)) (length es)) (sym u) (sym v))))
+        (search-hits σ es ok n b (there σ es ok n base missing h b e) r ∙ ap (map (foundLines σ es (r .selection))) (sym taken))
 
 -- ---- what the list of hits holds
 
-pub search-unfound : (σ : Setting) (es : List Stored) (subset : ℕ) (ed : Edition) (f : Filter) (base : Found) (hits : List ℕ) → base ≡ Nothing → hits ≡ over (searchFound σ es subset ed f base) hits
+pub search-unfound : (σ : Setting) (es : List Stored) (s : Search) (base : Found) (hits : List ℕ) → base ≡ Nothing → hits ≡ over (searchFound σ es s base) hits
 unfolding searchFound
-search-unfound σ es subset ed f base hits e = rw e
+search-unfound σ es s base hits e = rw e
 
-pub search-found : (σ : Setting) (es : List Stored) (subset asked : ℕ) (edition ed : Edition) (f : Filter) (base : Found) (b k n : ℕ) (before hits : List ℕ) → subset ≡ asked → edition ≡ ed → base ≡ At b
-    → Indices k n before hits → take n hits ≡ passing (foundAt σ es b asked ed f) (length es) → hits ≡ over (searchFound σ es subset edition f base) before
+-- the entries found, before they are arranged
+pub found-by : (σ : Setting) (es : List Stored) (s : Search) (b : ℕ) (a : Query) (ks : List ℕ) {g : Grammar} {w : ℕ} {q : Bytes} → Seeks g w q s a
+    → ks ≡ passing (foundAt σ es b (a .subset) (a .edition) (s .filter)) (length es) → arrangedAt σ es (orderingBy (a .«order_type») (a .falling)) ks ≡ searchFound σ es s (At b)
 unfolding searchFound
-search-found σ es subset asked edition ed f base b k n before hits s v e found t =
-    over-found k n before hits (passing (foundAt σ es b asked ed f) (length es)) found t ∙ rw (s, v, e)
+found-by σ es s b a ks h e = rw (e, h .ordering, h .subset, h .edition)
+
+-- ---- the front of the list of hits arranged
+
+-- it has indices
+pub found-below : (k n : ℕ) (before hits : List ℕ) → Indices k n before hits → Each (λ i. i < k) (take n hits)
+found-below k n before hits found =
+    each-by-index (λ i. i < k) 0 (take n hits) (λ i l. let m : i < n = omega (arith, l, length-take-le n hits (found .room)) in subst (λ (x : ℕ). x < k) (sym (getD-take n hits i 0 m)) (found .below i m))
+
+module _ (σ : Setting) (es : List Stored) (o : Option Ordering) (k n : ℕ) (before hits : List ℕ) (found : Indices k n before hits)
+    {arranged : List ℕ} (e : arranged ≡ arrangedAt σ es o (take n hits) ++ drop n hits) where
+  abbrev front : List ℕ
+  front = arrangedAt σ es o (take n hits)
+
+  size : length front ≡ n
+  size = arranged-size σ es o (take n hits) ∙ length-take-le n hits (found .room)
+
+  below : Each (λ i. i < k) front
+  below = arranged-each σ es (λ i. i < k) o (take n hits) (found-below k n before hits found)
+
+  behind : (i : ℕ) → n ≤ i → getD (front ++ drop n hits) i 0 ≡ getD hits i 0
+  behind i l =
+      let f : i ≡ length front + (i - n) = omega (arith, size) in
+      let g : n + (i - n) ≡ i = omega arith in
+      ap (λ (m : ℕ). getD (front ++ drop n hits) m 0) f ∙ getD-append-add front (drop n hits) (i - n) 0 ∙ getD-drop n hits (i - n) 0 ∙ ap (λ (m : ℕ). getD hits m 0) g
+
+  same-size : length (front ++ drop n hits) ≡ length hits
+  same-size = let l : length (front ++ drop n hits) ≡ length front + length (drop n hits) = length-append front (drop n hits) in omega (arith, l, length-drop n hits, size, found .room)
+
+  pub arranged-indices : Indices k n before arranged
+  arranged-indices = subst (Indices k n before) (sym e) (record {
+    size = same-size ∙ found .size;
+    few = found .few;
+    room = omega (arith, same-size, found .room);
+    below = λ i l. subst (λ (x : ℕ). x < k) (sym (List·getD-append front (drop n hits) 0 i (omega (arith, l, size)))) (each-at (λ i. i < k) 0 front below i (omega (arith, l, size)));
+    kept = λ i l. behind i l ∙ found .kept i l;
+  })
+
+  pub arranged-front : take n arranged ≡ front
+  arranged-front = ap (take n) e ∙ take-at front (drop n hits) n size

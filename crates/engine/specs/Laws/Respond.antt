@@ -1,13 +1,13 @@
 -- Laws for an accepted request: from what is noted of it to the reply.
 use Prim.Native.Nat.{ℕ, _+_, _-_, _≤_}
-use mathlib.Core.Path.{_≡_, sym, ap, ap₂, _∙_, subst}
-use mathlib.Core.List.{List, _++_, map}
+use mathlib.Core.Path.{_≡_, refl, sym, ap, ap₂, _∙_, subst}
+use mathlib.Core.List.{List, [], _++_, map}
 use native.Mathlib.Omega.{arith}
 use lib.ListN.{length, getD, take, replicate, length-replicate, length-append}
 use lib.Seq.{take-append-seam, take-at, length-take-le}
 use Rattle.rules.specs.Sheet.{Bytes, Usable, print}
 use Rattle.rules.specs.declared.Format.{Format}
-use Rattle.rules.specs.Name.{Name}
+use Rattle.rules.specs.Name.{Schema, Name}
 use Rattle.rules.specs.Judge.{Grammar, accept}
 use Rattle.rules.specs.Directory.{Stored, Directory, directoryOf, entries, entryOf, nameAt}
 use Rattle.rules.specs.Permission.{Item}
@@ -15,7 +15,7 @@ use Rattle.rules.specs.Decision.{Setting, Requester}
 use Rattle.rules.specs.Request.{Request}
 use Rattle.rules.specs.Answer.{answer, matchedName}
 use Rattle.rules.specs.Serve.{Ground, settingOf, fitting, respond}
-use Rattle.rules.specs.Places.{linesAt, partsOf}
+use Rattle.rules.specs.Places.{linesAt, partsOf, schemaOf}
 use Rattle.rules.specs.Laws.First.{Ranked}
 use Rattle.rules.specs.Numbers.{walk, reachOf}
 use Rattle.rules.specs.declared.Found.{Found}
@@ -59,6 +59,14 @@ module _ (σ : Setting) (es : List Stored) (w : ℕ) (q : Bytes) (n : Name) (pla
     matched = m ∙ ap₂ (λ (k : Name) (j : ℕ). matchedName σ (map entryOf es) k (j - 1)) (noted .parts) (sym (noted .count));
     within = l;
   }
+
+-- ---- the schema
+
+-- a request judged under a copy of the book's schema is judged under the directory's
+pub judged-under : (f : Format) (q : Bytes) {r : Asked} {d : Bytes} {x : Directory} {book held copy : List ℕ} → DirectoryAt f d x book held → copy ≡ Book.schema book
+    → Requests.RequestJudged f (schemaOf copy) q r → Requests.RequestJudged f (x .schema) q r
+judged-under f q {r} {x = x} at e j =
+    subst (λ (S : Schema). Requests.RequestJudged f S q r) (ap schemaOf e ∙ sym (at .entries (settingOf x [] (record { level = 0; name = [] })) refl .schema-is)) j
 
 -- ---- the requester
 

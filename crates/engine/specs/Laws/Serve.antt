@@ -52,8 +52,8 @@ module _ (f : Format) (k : Limits) (x : Directory) (schema : List ℕ) (same : x
   permissions-accept is e = rw (same, e)
 
 module _ (f : Format) (k : Limits) (g : Ground) (q : Bytes) (room : ℕ) where
-  pub request-refuses : (n : ℕ) → requestOf f q ≡ refuse n → fromGround f k g q room ≡ refuse n
+  pub request-refuses : (n : ℕ) → requestOf f (g .directory .schema) q ≡ refuse n → fromGround f k g q room ≡ refuse n
   request-refuses n e = rw e
 
-  pub request-accepts : (r : Request) → requestOf f q ≡ accept r → respond f g (within k r) room ≡ fromGround f k g q room
+  pub request-accepts : (r : Request) → requestOf f (g .directory .schema) q ≡ accept r → respond f g (within k r) room ≡ fromGround f k g q room
   request-accepts r e = rw e

@@ -29,6 +29,8 @@ withLimit a m =
       attribute = a .attribute;
       value = a .value;
       length = a .length;
+      «order_type» = a .«order_type»;
+      falling = a .falling;
       subset = a .subset;
       filter = a .filter;
       edition = a .edition;
@@ -62,13 +64,14 @@ module _ (G : Grammar) (w : ℕ) (q : Bytes) (k : Limits) (x : Request) (a : Ask
         limit = e ∙ ap (tighter (k .entries)) (h .limit);
         no-selection = let s = h .no-selection in record { listed = s .listed; types = s .types; count = s .count; values = s .values };
         no-assertion = unasserted (h .no-assertion);
-        no-filter = record { subset = h .no-filter .subset; filter = h .no-filter .filter; edition = h .no-filter .edition };
+        no-filter = let f = h .no-filter in record { type = f .type; falling = f .falling; subset = f .subset; filter = f .filter; edition = f .edition };
       }
       go (search s) h = record {
         operation = h .operation;
         limit = e ∙ ap (tighter (k .entries)) (h .limit);
         selection = let s = h .selection in record { listed = s .listed; types = s .types; count = s .count; most = s .most; values = s .values };
         no-assertion = unasserted (h .no-assertion);
+        ordering = h .ordering;
         subset = h .subset;
         reads = h .reads;
         edition = h .edition;

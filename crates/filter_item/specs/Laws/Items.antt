@@ -9,7 +9,7 @@ use borrow.Author.Tests.{ne-eqb, eqb-true}
 use Rattle.rules.specs.Lists.{any, all}
 use Rattle.rules.specs.Sheet.{Bytes}
 use Rattle.rules.specs.Value.{Piece, text, fits, ordered, order, searchable, contains, byFound}
-use Rattle.rules.specs.Name.{Name, Part, Schema, known, allowed, ofSyntax, equal}
+use Rattle.rules.specs.Name.{Name, Part, Schema, known, allowed, ofSyntax, equal, orderOf}
 use Rattle.rules.specs.Directory.{Entry, heldOf}
 use Rattle.rules.specs.Permission.{FilterMatch}
 use Rattle.rules.specs.Decision.{Setting, ofType, ofValue, granted}
@@ -21,7 +21,7 @@ use Rattle.rules.specs.Laws.Held.{someValue-flat}
 use Rattle.rules.specs.declared.Found.the-variants.{At, Nothing}
 use Rattle.rules.specs.declared.Truth.the-variants.{Undefined}
 use Rattle.name.specs.Schema.{syntaxIn, equalBy}
-use Rattle.name.specs.Laws.Schema.{by-syntax, known-at, allowed-at, equal-at}
+use Rattle.name.specs.Laws.Schema.{by-syntax, known-at, allowed-at, less-at, equal-at}
 use Rattle.filter_item.specs.Rows.{heldRow, someRow, besideBy}
 use Rattle.filter_item.specs.Items.{assertionBy, definedBy, passesBy, satisfiedIn}
 
@@ -65,6 +65,9 @@ module _ (σ : Setting) (ks : List ℕ) (e : σ .schema ≡ schemaOf ks) (t : �
     equal-by : (v u : Bytes) → equal (σ .schema) t v u ≡ equalBy s v u
     equal-by v u = ap (λ (S : Schema). equal S t v u) e ∙ equal-at ks t s found v u
 
+    less-by : (v u : Bytes) → isLess (orderOf (σ .schema) t v u) ≡ isLess (order s v u)
+    less-by v u = ap (λ (S : Schema). isLess (orderOf S t v u)) e ∙ less-at ks t s found v u
+
     defined-by : (k : ℕ) (v : Bytes) (ps : List Piece) → defined σ (assertionBy k t v ps) ≡ definedBy s k ps v
     unfolding defined definedBy
     defined-by k v ps = go (eqb k 23) (eqb k 24) (eqb k 25) (eqb k 26)
@@ -98,9 +101,9 @@ module _ (σ : Setting) (ks : List ℕ) (e : σ .schema ≡ schemaOf ks) (t : �
         go true b c true x y z h = absurd (true≢false (x refl))
         go true b c false x y z h = some-cong σ n held t FilterMatch (λ u. equal (σ .schema) t v u) (λ u. equalBy s v u) (equal-by v)
         go false true c true x y z h = absurd (true≢false (y refl))
-        go false true c false x y z h = some-cong σ n held t FilterMatch (λ u. not (ofSyntax (σ .schema) (λ s. isLess (order s u v)) t)) (λ u. not (isLess (order s u v))) (λ u. ap not (by-at (λ s. isLess (order s u v))))
+        go false true c false x y z h = some-cong σ n held t FilterMatch (λ u. not (isLess (orderOf (σ .schema) t u v))) (λ u. not (isLess (order s u v))) (λ u. ap not (less-by u v))
         go false false true true x y z h = absurd (true≢false (z refl))
-        go false false true false x y z h = some-cong σ n held t FilterMatch (λ u. not (ofSyntax (σ .schema) (λ s. isLess (order s v u)) t)) (λ u. not (isLess (order s v u))) (λ u. ap not (by-at (λ s. isLess (order s v u))))
+        go false false true false x y z h = some-cong σ n held t FilterMatch (λ u. not (isLess (orderOf (σ .schema) t v u))) (λ u. not (isLess (order s v u))) (λ u. ap not (less-by v u))
         go false false false true x y z h = refl
         go false false false false x y z h = some-cong σ n held t FilterMatch (λ u. ofSyntax (σ .schema) (λ s. contains s ps u) t) (λ u. contains text ps u) (λ u. by-at (λ s. contains s ps u) ∙ ap (λ (s : ℕ). contains s ps u) (text-only ps h))
 

@@ -2,6 +2,7 @@
 use Prim.Native.Nat.{ℕ, zero, suc, _+_, _/_, _%_, _<_, _≤_}
 use mathlib.Core.Path.{_≡_, refl, sym, ap, _∙_}
 use mathlib.Core.Bool.{Bool, true, false, _&&_, cond}
+use mathlib.Core.Option.{Option, none, some}
 use mathlib.Core.List.{List, [], _∷_}
 use native.Mathlib.Numerals.{add-one}
 use native.Mathlib.Nat.{le-of-suc-le-suc, not-suc-le-zero}
@@ -12,8 +13,9 @@ use lib.Seq.{drop-cons}
 use borrow.Author.Tests.{eq-eqb, ne-eqb, eqb-true, lt-ltb, le-ltb}
 use Rattle.rules.specs.Lists.{first, firstOr}
 use Rattle.rules.specs.Sheet.{Bytes}
-use Rattle.rules.specs.Value.{fits, same, byFound}
-use Rattle.rules.specs.Name.{AttributeType, bySyntax, ofSyntax, known, allowed, equal}
+use Rattle.rules.specs.Value.{fits, same, ordered, order, byFound}
+use Rattle.rules.specs.Name.{AttributeType, Schema, bySyntax, ofSyntax, known, allowed, equal, orderBy, orderOf}
+use Rattle.rules.specs.FilterItem.{isLess}
 use Rattle.rules.specs.Places.{attributeOf, schemaOf}
 use Rattle.rules.specs.declared.Found.the-variants.{At, Nothing}
 use Rattle.name.specs.Schema.{rankIn, syntaxIn, equalBy}
@@ -74,6 +76,15 @@ by-syntax (k ∷ ks) test t = go (eqb (k / 4) t) (by-syntax ks test t)
     go true ih = rw (lt-ltb 0 (suc (length ks)) (omega arith))
     go false ih = rw (leb·suc-suc (suc (rankIn ks t)) (length ks)) ih
 
+-- "less", too, is a test of the syntax
+less-by : (S : Schema) (t : ℕ) (v u : Bytes) → isLess (orderOf S t v u) ≡ ofSyntax S (λ s. isLess (order s v u)) t
+unfolding orderOf ofSyntax
+less-by S t v u = go (first (λ k. eqb (k .number) t) S)
+  where
+    go : (o : Option AttributeType) → isLess (orderBy o v u) ≡ bySyntax (λ s. isLess (order s v u)) o
+    go none = refl
+    go (some k) = refl
+
 module _ (ks : List ℕ) (t : ℕ) where
   module _ (s : ℕ) (e : syntaxIn ks t ≡ At s) where
     pub known-at : known (schemaOf ks) t ≡ true
@@ -83,6 +94,12 @@ module _ (ks : List ℕ) (t : ℕ) where
     pub allowed-at : (v : Bytes) → allowed (schemaOf ks) t v ≡ fits s v
     unfolding allowed
     allowed-at v = by-syntax ks (λ s. fits s v) t ∙ rw e
+
+    pub ordered-at : ofSyntax (schemaOf ks) ordered t ≡ ordered s
+    ordered-at = by-syntax ks ordered t ∙ rw e
+
+    pub less-at : (v u : Bytes) → isLess (orderOf (schemaOf ks) t v u) ≡ isLess (order s v u)
+    less-at v u = less-by (schemaOf ks) t v u ∙ by-syntax ks (λ s. isLess (order s v u)) t ∙ rw e
 
     pub equal-at : (v u : Bytes) → equal (schemaOf ks) t v u ≡ equalBy s v u
     unfolding equal equalBy
@@ -96,6 +113,9 @@ module _ (ks : List ℕ) (t : ℕ) where
     pub allowed-none : (v : Bytes) → allowed (schemaOf ks) t v ≡ false
     unfolding allowed
     allowed-none v = by-syntax ks (λ s. fits s v) t ∙ rw e
+
+    pub ordered-none : ofSyntax (schemaOf ks) ordered t ≡ false
+    ordered-none = by-syntax ks ordered t ∙ rw e
 
     pub equal-none : (v u : Bytes) → equal (schemaOf ks) t v u ≡ false
     unfolding equal

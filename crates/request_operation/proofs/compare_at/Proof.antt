@@ -6,10 +6,10 @@ use Rattle.request_operation.proofs.compare_at.Tie as tie
 
 returns : tie.Need-returns
 unfolding compareAt
-returns c = rw (c .body-of .ensures, c .before .no-line2 .ensures, c .before .before .no-line .ensures, c .before .before .before .after-due .ensures, c .before .before .before .before .due-at .ensures, c .before .before .before .before .before .reached-at .ensures)
+returns c = rw (c .body-of .ensures, c .before .no-line3 .ensures, c .before .before .no-line2 .ensures, c .before .before .before .no-line .ensures, c .before .before .before .before .after-due .ensures, c .before .before .before .before .before .due-at .ensures, c .before .before .before .before .before .before .reached-at .ensures)
 
 pub compare-at-spec : {M : Type 1} → statement M
 compare-at-spec =
     tie.close
     (tie.spec (λ c. search needs) (λ c κs. search needs) (λ c κs. search needs) (λ c κs. search needs) (λ c κs. search needs) (λ c κs. search needs)
-    (λ c κs. search needs) returns)
+    (λ c κs. search needs) (λ c κs. search needs) returns)

@@ -1,9 +1,10 @@
--- What the columns of an allowed line of K 10, 11 or 12 hold: all that the laws of a request ask of its grammar.
+-- What the columns of an allowed line of K 10, 11, 12 or 16 hold, and that no line is judged by the schema: all that the laws of a request ask of its grammar.
 use Prim.Native.Nat.{ℕ, _≤_}
-use mathlib.Core.Path.{_≡_}
+use mathlib.Core.Path.{_≡_, refl}
 use mathlib.Core.Bool.{true}
 use native.Mathlib.Omega.{arith}
-use Rattle.rules.specs.Columns.{form, between, exactly, unnamed, free, parts, requestForms}
+use Rattle.rules.specs.Sheet.{Line}
+use Rattle.rules.specs.Columns.{form, between, exactly, unnamed, free, types, parts, requestForms}
 use Rattle.rules.specs.Judge.{Grammar}
 use Rattle.rules.specs.Request.{requestGrammar}
 use Rattle.sheet_form.specs.Columns.{inFormOf}
@@ -16,6 +17,9 @@ pub record Bounds (G : Grammar) : Type 0 where
   pub base : (a b c l : ℕ) → inFormOf (G .forms) 11 a b c l ≡ true → (b ≤ 8) × (1 ≤ a) × (a ≤ 4) × (a ≤ 2 → c ≡ 0)
   -- K 12: at most 16 types
   pub selection : (a b c l : ℕ) → inFormOf (G .forms) 12 a b c l ≡ true → b ≤ 16
+  -- K 16: types are 1 or more
+  pub ordering : (a b c l : ℕ) → inFormOf (G .forms) 16 a b c l ≡ true → 1 ≤ a
+  pub sound : (x : Line) → G .sound x ≡ true
 
 module _ (top a b c l : ℕ) where
   requester-columns : inFormOf (requestForms top) 10 a b c l ≡ true → b ≤ 8
@@ -34,5 +38,9 @@ module _ (top a b c l : ℕ) where
       by-form a b c l (form 12 (exactly 0) unnamed (between 0 1) unnamed) _ (λ r. omega (arith, r .1))
       (by-form a b c l (form 12 (exactly 1) (between 0 16) (between 0 1) unnamed) _ (λ r. r .1 .1) no-form)
 
+  ordering-columns : inFormOf (requestForms top) 16 a b c l ≡ true → 1 ≤ a
+  unfolding requestForms inFormOf
+  ordering-columns = by-form a b c l (form 16 (types top) (between 0 1) unnamed unnamed) _ (λ r. r .0 .0) no-form
+
 pub request-bounds : (top : ℕ) → Bounds (requestGrammar top)
-request-bounds top = record { requester = requester-columns top; base = base-columns top; selection = selection-columns top }
+request-bounds top = record { requester = requester-columns top; base = base-columns top; selection = selection-columns top; ordering = ordering-columns top; sound = λ x. refl }

@@ -1,17 +1,20 @@
 -- Laws of `Whole`: what the code makes of a sheet is what `judge` promises.
 use Prim.Native.Nat.{ℕ, _+_, _≤_}
 use mathlib.Core.Path.{_≡_, refl, sym, _∙_, subst}
-use mathlib.Core.Bool.{Bool, true, false, cond}
+use mathlib.Core.Bool.{Bool, true, false, not, cond}
+use mathlib.Core.Option.{none, some}
 use native.Mathlib.Omega.{arith}
 use lib.Dec.{ltb, eqb}
 use lib.ListN.{length}
 use borrow.Author.Tests.{eqb-true, eqb-false, ltb-false}
 use Rattle.rules.specs.Sheet.{Bytes, Sheet}
+use Rattle.rules.specs.Value.{ordered}
+use Rattle.rules.specs.Name.{Schema, ofSyntax}
 use Rattle.rules.specs.declared.Format.{Format}
-use Rattle.rules.specs.Judge.{Verdict, accept, refuse, refusalOf, refuseIf, Grammar, misplaced, atEnd, due, dueLines, nameOf}
+use Rattle.rules.specs.Judge.{Verdict, accept, refuse, refusalOf, refuseIf, then, Grammar, misplaced, atEnd, due, dueLines, nameOf}
 use Rattle.rules.specs.Laws.Judge.{refused-not, accepted-is}
-use Rattle.rules.specs.Request.{Operation, Request, requestGrammar, editionOf, operation, request, requestOf}
-use Rattle.rules.specs.Places.{linesAt}
+use Rattle.rules.specs.Request.{Operation, read, compare, list, search, Request, requestGrammar, editionOf, operation, request, orderingOf, hasOrder, requestOf}
+use Rattle.rules.specs.Places.{linesAt, orderingBy}
 use Rattle.sheet_line.specs.Line.{lineOf}
 use Rattle.sheet_line.specs.declared.Line.{Line}
 use Rattle.sheet_due.specs.Lines.{seenAt, reachedAt, afterGroup}
@@ -23,8 +26,8 @@ use Rattle.sheet_due.specs.declared.Group.{Group}
 use Rattle.request_operation.specs.Operations.{bodyAt}
 use Rattle.request_operation.specs.declared.Body.{Body}
 use Rattle.request_sheet.specs.declared.Asked.{Asked}
-use Rattle.request_sheet.specs.Noted.{NotedName, RequestNoted, refused, RequestJudged}
-use Rattle.request_sheet.specs.Whole.{asked, endBy, orRefused, withBody, requesterAt, baseAt, askedOf}
+use Rattle.request_sheet.specs.Noted.{NotedName, NotedOperation, RequestNoted, refused, RequestJudged}
+use Rattle.request_sheet.specs.Whole.{asked, endBy, orRefused, withBody, requesterAt, baseAt, askedOf, orderableBy}
 use Rattle.request_sheet.specs.Laws.Bounds.{Bounds, request-bounds}
 use Rattle.request_sheet.specs.Laws.Operations.{Leads, body-leads}
 
@@ -127,7 +130,39 @@ module _ (G : Grammar) (bounds : Bounds G) (w : ℕ) (q : Bytes) where
   asked-by true e = meets-refused 21 (λ z. omega arith)
   asked-by false e = rw request-is (meets-after (base .refusal) (body-meets (ltb-false 8192 (length q) e)))
 
+-- ---- a type that has an order
+
+module _ (G : Grammar) (bounds : Bounds G) (w : ℕ) (q : Bytes) (S : Schema) where
+  -- what an accepted request is ordered by, as it is noted
+  ordering-noted : (x : Operation) (r : Asked) → NotedOperation G w q x r → orderingOf x ≡ orderingBy (r .«order_type») (r .falling)
+  ordering-noted (read s) r h = rw (h .no-filter .type)
+  ordering-noted (compare t v) r h = rw (h .no-filter .type)
+  ordering-noted (list limit) r h = rw (h .no-filter .type)
+  ordering-noted (search s) r h = sym (h .ordering)
+
+  -- a request, judged by the schema too
+  ordered-accepted : (x : Request) (r : Asked) → Meets G w q (accept x) r → Meets G w q (refuseIf (not (hasOrder S (orderingOf (x .operation)))) 24 (accept x)) (orderableBy S r)
+  unfolding orderableBy
+  ordered-accepted x r m = rw (ordering-noted (x .operation) r (m .noted x refl .operation)) (go (eqb (r .«order_type») 0) (ofSyntax S ordered (r .«order_type»)) refl)
+    where
+      go : (t u : Bool) → ofSyntax S ordered (r .«order_type») ≡ u
+          → Meets G w q (refuseIf (not (hasOrder S (cond t none (some (record { type = r .«order_type»; falling = r .falling }))))) 24 (accept x)) (cond t r (cond u r (refused 24)))
+      go true u e = m
+      go false true e = rw e m
+      go false false e = rw e (meets-refused G bounds w q 24 (λ z. omega arith))
+
+  -- a refused request orders nothing
+  kept : (n : ℕ) (r : Asked) → r ≡ refused n → r ≡ orderableBy S r
+  unfolding orderableBy
+  kept n r e = rw e
+
+  ordered-meets : (v : Verdict Request) (r : Asked) → Meets G w q v r → Meets G w q (then v λ x. refuseIf (not (hasOrder S (orderingOf (x .operation)))) 24 (accept x)) (orderableBy S r)
+  ordered-meets (accept x) r m = ordered-accepted x r m
+  ordered-meets (refuse n) r m =
+      let some : r .refusal ≡ 0 → ⊥ = λ z. refused-not n _ (m .accepted z .1) in
+      subst (Meets G w q (refuse n)) (kept (r .refusal) r (m .nothing some)) m
+
 -- what the code does is what `judge` promises
-pub asked-judged : (f : Format) (q : Bytes) → RequestJudged f q (askedOf (requestGrammar (f .top)) (f .width) q)
+pub asked-judged : (f : Format) (S : Schema) (q : Bytes) → RequestJudged f S q (orderableBy S (askedOf (requestGrammar (f .top)) (f .width) q))
 unfolding askedOf requestOf
-asked-judged f q = let m = asked-by (requestGrammar (f .top)) (request-bounds (f .top)) (f .width) q (ltb 8192 (length q)) refl in record { refusal = m .refusal; noted = m .noted; accepted = m .accepted; nothing = m .nothing }
+asked-judged f S q = let m = ordered-meets (requestGrammar (f .top)) (request-bounds (f .top)) (f .width) q S _ _ (asked-by (requestGrammar (f .top)) (request-bounds (f .top)) (f .width) q (ltb 8192 (length q)) refl) in record { refusal = m .refusal; noted = m .noted; accepted = m .accepted; nothing = m .nothing }

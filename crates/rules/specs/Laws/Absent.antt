@@ -14,10 +14,12 @@ use Rattle.rules.specs.Name.{Schema, Name, sameName, covers, childOf}
 use Rattle.rules.specs.Directory.{Stored, blank, nameAt, Directory, Entry, entryOf, entries}
 use Rattle.rules.specs.Decision.{Setting}
 use Rattle.rules.specs.Request.{Search, list, search}
+use Rattle.rules.specs.Arrange.{arranged}
 use Rattle.rules.specs.Answer.{listed, candidate, found, inSubset, disclosed, noSuchObject, returned, listHit, searchHit, listHits, searchHits, answer}
 use Rattle.rules.specs.Laws.Tests.{and-left}
 use Rattle.rules.specs.Laws.Lists.{any-at, any-none, any-weaken, keep-none}
 use Rattle.rules.specs.Laws.Name.{covers-snoc, same-covers}
+use Rattle.rules.specs.Laws.Arrange.{nothing-arranged}
 use Rattle.rules.specs.Laws.Directory.{Accepted}
 
 -- an entry has the name
@@ -101,5 +103,6 @@ module _ (σ : Setting) (d : Directory) (e : σ .schema ≡ d .schema) (ok : Acc
   pub search-absent : (r : Search) → answer σ (entries d) n (search r) ≡ noSuchObject σ (entries d) 4 n
   unfolding answer searchHits found candidate
   search-absent r =
-      nothing-returned 4 (r .limit) _ (ap (map (searchHit σ r))
-      (none-kept (found σ n r) (λ x q. subset-covers σ (r .subset) n (x .name) (and-left (inSubset σ (r .subset) n (x .name)) _ (and-left (candidate σ n (r .subset) x) _ q)))))
+      nothing-returned 4 (r .limit) _ (ap (λ (xs : List Entry). map (searchHit σ r) (arranged σ (r .ordering) xs))
+      (none-kept (found σ n r) (λ x q. subset-covers σ (r .subset) n (x .name) (and-left (inSubset σ (r .subset) n (x .name)) _ (and-left (candidate σ n (r .subset) x) _ q))))
+      ∙ ap (map (searchHit σ r)) (nothing-arranged σ (r .ordering)))

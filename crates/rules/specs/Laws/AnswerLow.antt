@@ -16,10 +16,12 @@ use Rattle.rules.specs.FilterItem.{holds, someValue}
 use Rattle.rules.specs.declared.Outcome.{Outcome}
 use Rattle.rules.specs.declared.Outcome.the-variants.{Result, NoSuchObject, InsufficientAccessRights, NoSuchAttributeOrValue, InvalidAttributeSyntax}
 use Rattle.rules.specs.Request.{Selection, Search, Operation, read, compare, list, search}
+use Rattle.rules.specs.Arrange.{arranged}
 use Rattle.rules.specs.Answer.{bit, outcomeNumber, outcome, nameLines, entryLines, valueLines, limited, selected, orName, typeLines, information, readEntry, compareEntry, listed, listHit, found, searchHit, disclosed, matchedName, noSuchObject, named, opened, returned, listHits, searchHits, answer}
 use Rattle.rules.specs.Laws.Each.{Each, IfFound, each-map, each-append, each-given, each-cond, each-take, each-drop, each-keep, each-first, each-mapped, each-gathered}
 use Rattle.rules.specs.Laws.Low.{Low}
 use Rattle.rules.specs.Laws.EntriesLow.{Short, PartLow, NameLow, HeldLow, EntryLow}
+use Rattle.rules.specs.Laws.Arrange.{each-arranged}
 
 abbrev F : List Line → Type 0
 F ls = Each (Low 65536) ls
@@ -162,13 +164,15 @@ module _ (σ : Setting) where
     unfolding returned
     returned-low op n limit hits p k = each-cond (Low 65536) (isEmpty hits && not (any (disclosed σ n) es)) _ _ (absent-low op n p) (limited-low op limit hits p k)
 
-    -- what is made of the entries that pass
-    hits-low : (hit : Entry → List Line) (p : Entry → Bool) → ((e : Entry) → EntryLow e → F (hit e)) → Each F (map hit (keep p es))
-    hits-low hit p h = each-mapped F hit (keep p es) (each-map EntryLow (λ e. F (hit e)) h (keep p es) (each-keep EntryLow p es all))
+    -- what is made of entries
+    hits-low : (hit : Entry → List Line) → ((e : Entry) → EntryLow e → F (hit e)) → (xs : List Entry) → Each EntryLow xs → Each F (map hit xs)
+    hits-low hit h xs k = each-mapped F hit xs (each-map EntryLow (λ e. F (hit e)) h xs k)
 
     pub answer-low : (n : Name) (o : Operation) → F (answer σ es n o)
     unfolding answer named listHits searchHits
     answer-low n (read r) = opened-low 1 Read n (readEntry σ r) (omega arith) (read-low r) (named σ es n) (each-first EntryLow (λ e. sameName (σ .schema) n (e .name)) es all)
     answer-low n (compare t v) = opened-low 2 Read n (compareEntry σ t v) (omega arith) (λ e k. compare-low t v e) (named σ es n) (each-first EntryLow (λ e. sameName (σ .schema) n (e .name)) es all)
-    answer-low n (list limit) = returned-low 3 n limit (listHits σ es n) (omega arith) (hits-low (listHit σ n) (listed σ n) (list-hit-low n))
-    answer-low n (search r) = returned-low 4 n (r .limit) (searchHits σ es n r) (omega arith) (hits-low (searchHit σ r) (found σ n r) (search-hit-low r))
+    answer-low n (list limit) = returned-low 3 n limit (listHits σ es n) (omega arith) (hits-low (listHit σ n) (list-hit-low n) (keep (listed σ n) es) (each-keep EntryLow (listed σ n) es all))
+    answer-low n (search r) =
+        returned-low 4 n (r .limit) (searchHits σ es n r) (omega arith)
+        (hits-low (searchHit σ r) (search-hit-low r) (arranged σ (r .ordering) (keep (found σ n r) es)) (each-arranged σ EntryLow (r .ordering) (keep (found σ n r) es) (each-keep EntryLow (found σ n r) es all)))

@@ -1,4 +1,5 @@
--- Laws of `Directory`: in an accepted directory parents stand before their children, siblings differ, and so a name names at most one entry.
+-- Laws of `Directory`: in an accepted directory parents stand before their children, siblings differ, and so a name names at most one entry; its
+-- values are of their types' syntaxes.
 use mathlib.Core.Path.{_≡_, refl, sym, ap, _∙_, subst}
 use Prim.Native.Nat.{ℕ, zero, suc, _+_, _≤_, _<_}
 use native.Mathlib.Nat.{not-suc-le-zero}
@@ -14,7 +15,7 @@ use borrow.Author.Tests.{eq-eqb}
 use Rattle.rules.specs.Lists.{isEmpty, optional}
 use Rattle.rules.specs.Sheet.{Bytes, Line, Sheet, end, broken, row, lines}
 use Rattle.rules.specs.declared.Format.{Format}
-use Rattle.rules.specs.Name.{Schema, Name, samePart, sameName}
+use Rattle.rules.specs.Name.{Schema, part, Name, allowed, samePart, sameName}
 use Rattle.rules.specs.Judge.{accept}
 use Rattle.rules.specs.Directory
 use Rattle.rules.specs.Directory.{Stored, blank, nameAt, Reading, entriesOf, lacksNaming, clashes, step, finish, nothing, directoryOf, Entry, entryOf, entries}
@@ -22,14 +23,20 @@ use Rattle.rules.specs.Laws.Tests.{both}
 use Rattle.rules.specs.Laws.Lists.{Once, none-at, once-by-index}
 use Rattle.rules.specs.Laws.Name.{samePart-sym, sameName-join, nil-snoc, snoc-nil, snoc-snoc}
 use Rattle.rules.specs.Laws.Judge.{accepted-is, not-refused, Run}
+use Rattle.rules.specs.Laws.Each.{Each, each-append}
 use Rattle.rules.specs.Laws.Step.{Taken, ofType, ofEntry, ofValue, step-taken, accepted-run}
 
--- of the directory's rules, those that names rest on
+-- each value is one that its type's syntax allows
+abbrev pub ValuesAllowed : Schema → Stored → Type 0
+ValuesAllowed S e = Each (λ p. allowed S (p .type) (p .value) ≡ true) (e .values)
+
+-- of the directory's rules, those that names and the order of values rest on
 pub record Accepted (S : Schema) (es : List Stored) : Type 0 where
   pub parents : (k : ℕ) → k < length es → getD es k blank .parent ≤ k
   pub names : (k : ℕ) → k < length es → getD es k blank .name ≡ nameAt es (getD es k blank .parent) ++ (getD es k blank .naming ∷ [])
   pub siblings : (i j : ℕ) → i < j → j < length es → getD es i blank .parent ≡ getD es j blank .parent
       → samePart S (getD es i blank .naming) (getD es j blank .naming) ≡ true → ⊥
+  pub values : Each (ValuesAllowed S) es
 
 -- ---- one entry more
 
@@ -38,12 +45,14 @@ record Fresh (S : Schema) (es : List Stored) (e : Stored) : Type 0 where
   parent : e .parent ≤ length es
   name : e .name ≡ nameAt es (e .parent) ++ (e .naming ∷ [])
   alone : clashes S es (e .parent) (e .naming) ≡ false
+  values : ValuesAllowed S e
 
 none-accepted : (S : Schema) → Accepted S []
 none-accepted S = record {
   parents = λ k l. absurd (not-suc-le-zero l);
   names = λ k l. absurd (not-suc-le-zero l);
   siblings = λ i j l b e s. not-suc-le-zero b;
+  values = tt;
 }
 
 nameAt-front : (es fs : List Stored) (k : ℕ) → k ≤ length es → nameAt (es ++ fs) k ≡ nameAt es k
@@ -95,7 +104,7 @@ module _ (S : Schema) (es : List Stored) (e : Stored) (ok : Accepted S es) (fres
           (both _ _ (eq-eqb (getD es i blank .parent) (e .parent) p′) s′)
 
   accepted-more : Accepted S (es ++ (e ∷ []))
-  accepted-more = record { parents = parents′; names = names′; siblings = siblings′ }
+  accepted-more = record { parents = parents′; names = names′; siblings = siblings′; values = each-append (ValuesAllowed S) es (e ∷ []) (ok .values) (fresh .values, tt) }
 
 -- ---- the state of the judge
 
@@ -125,10 +134,18 @@ step-sound st x next top ok (ofType f t) = subst SoundReading (t .is) (go (st .c
     go [] (some c) h = absurd (true≢false h)
     go (c ∷ cs) o h = absurd (true≢false h)
 step-sound st x next top ok (ofEntry f t) =
-    subst SoundReading (t .is) (record { before = sound-all st ok; last = record { parent = t .parent; name = refl; alone = t .alone } })
+    subst SoundReading (t .is) (record { before = sound-all st ok; last = record { parent = t .parent; name = refl; alone = t .alone; values = tt } })
 step-sound st x next top ok (ofValue f t) =
     let l : FreshLast (st .schema) (st .complete) (some (t .last)) = subst (FreshLast (st .schema) (st .complete)) (t .current) (ok .last) in
-    subst SoundReading (t .is) (record { before = ok .before; last = record { parent = l .parent; name = l .name; alone = l .alone } })
+    subst SoundReading (t .is) (record {
+      before = ok .before;
+      last = record {
+        parent = l .parent;
+        name = l .name;
+        alone = l .alone;
+        values = each-append (λ p. allowed (st .schema) (p .type) (p .value) ≡ true) (t .last .values) (part (x .a) (x .bytes) ∷ []) (l .values) (t .allowed, tt);
+      };
+    })
 
 run-sound : (top : ℕ) (s : Sheet) (st : Reading) (d : Directory.Directory) → SoundReading st → Run (step top) finish st s d → Accepted (d .schema) (d .entries)
 unfolding finish

@@ -69,6 +69,15 @@ module _ {A : Type 0} where
     each-keep p [] k = tt
     each-keep p (x ∷ xs) k = each-append (given (p x) (x ∷ [])) (keep p xs) (each-given (p x) (x ∷ []) (k .0, tt)) (each-keep p xs (k .1))
 
+    -- what was kept passed
+    pub each-kept : (p : A → Bool) → ((x : A) → p x ≡ true → P x) → (xs : List A) → Each P (keep p xs)
+    each-kept p h [] = tt
+    each-kept p h (x ∷ xs) = go (p x) refl (each-kept p h xs)
+      where
+        go : (b : Bool) → p x ≡ b → Each P (keep p xs) → Each P (given b (x ∷ []) ++ keep p xs)
+        go true e k = (h x e, k)
+        go false e k = k
+
     pub each-first : (p : A → Bool) (xs : List A) → Each P xs → IfFound P (first p xs)
     each-first p [] k = tt
     each-first p (x ∷ xs) k = go (p x) (each-first p xs (k .1))

@@ -15,7 +15,7 @@ use Rattle.rules.specs.Laws.Tests.{and-cong}
 
 -- `typeOf` by its kind and columns
 abbrev kindType : ℕ → ℕ → ℕ → ℕ
-kindType k a b = cond (any (eqb k) (2 ∷ 7 ∷ [])) b (cond (any (eqb k) (1 ∷ 3 ∷ 9 ∷ 13 ∷ 14 ∷ 23 ∷ 24 ∷ 25 ∷ 26 ∷ 27 ∷ [])) a 0)
+kindType k a b = cond (any (eqb k) (2 ∷ 7 ∷ [])) b (cond (any (eqb k) (1 ∷ 3 ∷ 9 ∷ 13 ∷ 14 ∷ 16 ∷ 23 ∷ 24 ∷ 25 ∷ 26 ∷ 27 ∷ [])) a 0)
 
 -- under two highest types, neither below the line's own
 module _ (x : Line) (top high : ℕ) (p : typeOf x ≤ top) (q : typeOf x ≤ high) where
@@ -52,6 +52,7 @@ module _ (x : Line) (top high : ℕ) (p : typeOf x ≤ top) (q : typeOf x ≤ hi
         in-a 9 unnamed unnamed bytes refl,
         in-a 13 unnamed unnamed unnamed refl,
         in-a 14 unnamed unnamed bytes refl,
+        in-a 16 (between 0 1) unnamed unnamed refl,
         in-a 23 unnamed unnamed bytes refl,
         in-a 24 unnamed unnamed bytes refl,
         in-a 25 unnamed unnamed bytes refl,

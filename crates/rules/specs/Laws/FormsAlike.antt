@@ -2,7 +2,7 @@
 use Prim.Native.Nat.{ℕ, _≤_}
 use native.Mathlib.Omega.{arith}
 use mathlib.Core.Path.{_≡_, refl, sym, ap, _∙_, subst}
-use mathlib.Core.Bool.{Bool, true, false, true≢false}
+use mathlib.Core.Bool.{Bool, true, false, not, true≢false}
 use mathlib.Core.List.{List, [], _∷_}
 use lib.Dec.{leb, ltb, eqb}
 use lib.ListN.{length}
@@ -12,11 +12,12 @@ use Rattle.rules.specs.Sheet.{Bytes, Line, narrow, wide, Sheet, end, row
 use Rattle.rules.specs.declared.Format.{Format}
 use Rattle.rules.specs.declared.Limits.{Limits}
 use Rattle.rules.specs.Columns.{Form, directoryForms, permissionForms, requestForms}
+use Rattle.rules.specs.Name.{Schema}
 use Rattle.rules.specs.Judge.{Verdict, accept, refuse, refuseIf, then, fold}
 use Rattle.rules.specs.Directory.{Directory, step, finish, nothing, directoryOf, entries}
 use Rattle.rules.specs.Permission.{Item, items, permissionsOf}
 use Rattle.rules.specs.Decision.{Setting}
-use Rattle.rules.specs.Request.{Request, requestGrammar, request, requestOf}
+use Rattle.rules.specs.Request.{Request, requestGrammar, request, orderingOf, hasOrder, requestOf}
 use Rattle.rules.specs.Answer.{answer}
 use Rattle.rules.specs.Serve.{Ground, ground, above, within, settingOf, fitting, respond, judgedAt, serveAt}
 use Rattle.rules.specs.Theorems.{typeOf, modest, Written, Fitted, SameLines, FormsAlike}
@@ -52,6 +53,11 @@ module _ (n : ℕ) (length : any (eqb n) (1 ∷ 11 ∷ 21 ∷ 31 ∷ 33 ∷ []) 
       go false true v h p q = absurd (true≢false (sym length ∙ q))
       go false false (accept a) h p q = h a refl p q
       go false false (refuse m) h p q = refl
+
+-- after the same verdict
+followed : {A : Type 0} (v : Verdict A) (f g : A → Verdict Bytes) → ((a : A) → Alike (f a) (g a)) → Alike (then v f) (then v g)
+followed (accept a) f g h = h a
+followed (refuse n) f g h = λ p q. refl
 
 -- ---- the sheets
 
@@ -93,8 +99,14 @@ module _ (k : Limits) (x : Written) where
   abbrev replied : Format → ℕ → Directory → List Item → Request → Verdict Bytes
   replied f room d is r = respond f (record { directory = d; items = is }) (within k r) room
 
+  -- the request, or 24
+  abbrev orderly : Schema → Request → Verdict Request
+  orderly S r = refuseIf (not (hasOrder S (orderingOf (r .operation)))) 24 (accept r)
+
   abbrev asked : Format → ℕ → Directory → List Item → Verdict Bytes
-  asked f room d is = then (requestOf f (print (f .width) (x .request))) (replied f room d is)
+  asked f room d is =
+      let q : Bytes = print (f .width) (x .request) in
+      then (refuseIf (ltb 8192 (length q)) 21 (request (requestGrammar (f .top)) (lines (f .width) q))) (λ r. then (orderly (d .schema) r) (replied f room d is))
 
   abbrev permitted : Format → ℕ → Directory → Verdict Bytes
   permitted f room d = then (permissionsOf f (d .schema) (print (f .width) (x .permissions))) (asked f room d)
@@ -103,10 +115,13 @@ module _ (k : Limits) (x : Written) where
   judgedIn f room = judgedAt f k (print (f .width) (x .directory)) (print (f .width) (x .permissions)) (print (f .width) (x .request)) room
 
   judged-is : (f : Format) (room : ℕ) → judgedIn f room ≡ then (directoryOf f (print (f .width) (x .directory))) (permitted f room)
-  unfolding judgedAt ground
+  unfolding judgedAt ground requestOf
   judged-is f room =
       then-then (directoryOf f (print (f .width) (x .directory))) _ _
-      ∙ then-cong (directoryOf f (print (f .width) (x .directory))) _ _ (λ d e. then-then (permissionsOf f (d .schema) (print (f .width) (x .permissions))) _ _)
+      ∙ then-cong (directoryOf f (print (f .width) (x .directory))) _ _ (λ d e.
+      then-then (permissionsOf f (d .schema) (print (f .width) (x .permissions))) _ _
+      ∙ then-cong (permissionsOf f (d .schema) (print (f .width) (x .permissions))) _ _ (λ is i.
+      then-then (refuseIf (ltb 8192 (length (print (f .width) (x .request)))) 21 (request (requestGrammar (f .top)) (lines (f .width) (print (f .width) (x .request))))) _ _))
 
   module _ (room₁ room₂ : ℕ) (md : Each Modest (x .directory)) (mp : Each Modest (x .permissions)) (mr : Each Modest (x .request)) where
     respond-alike : (g : Ground) (r : Request) → directoryOf narrow (print 6 (x .directory)) ≡ accept (g .directory) → Alike (respond narrow g r room₁) (respond wide g r room₂)
@@ -119,7 +134,7 @@ module _ (k : Limits) (x : Written) where
         tested 31 refl (ltb room₁ (length (print 6 ls))) (ltb room₂ (length (print 9 ls))) (accept (print 6 ls)) (accept (print 9 ls)) (λ p q. (ls, refl, refl, b .0, b .1))
 
     sheets-alike : Alike (then (directoryOf narrow (print 6 (x .directory))) (permitted narrow room₁)) (then (directoryOf wide (print 9 (x .directory))) (permitted wide room₂))
-    unfolding directoryOf permissionsOf requestOf
+    unfolding directoryOf permissionsOf
     sheets-alike =
         judged 1 refl (ltb 65536 (length (print 6 (x .directory)))) (ltb 65536 (length (print 9 (x .directory)))) _ _
         (read-alike directoryForms directory-forms (fold (step 999) finish 2 nothing) (fold (step 9999999) finish 2 nothing) (λ s. fold-same 999 9999999 s nothing) (x .directory) md)
@@ -129,8 +144,8 @@ module _ (k : Limits) (x : Written) where
         (asked narrow room₁ d) (asked wide room₂ d) (λ is i.
         judged 21 refl (ltb 8192 (length (print 6 (x .request)))) (ltb 8192 (length (print 9 (x .request)))) _ _
         (read-alike requestForms request-forms (request (requestGrammar 999)) (request (requestGrammar 9999999)) (request-same (requestForms 999) (requestForms 9999999) (λ x. true) 20) (x .request) mr)
-        (replied narrow room₁ d is) (replied wide room₂ d is) (λ r j.
-        respond-alike (record { directory = d; items = is }) (within k r) e)))
+        _ _ (λ r j.
+        followed (orderly (d .schema) r) (replied narrow room₁ d is) (replied wide room₂ d is) (λ r. respond-alike (record { directory = d; items = is }) (within k r) e))))
 
     judged-alike : Alike (judgedIn narrow room₁) (judgedIn wide room₂)
     judged-alike =

@@ -14,15 +14,6 @@ given-cong {ℓ} : {A : Type ℓ} (b : Bool) {xs ys : List A} → (b ≡ true �
 given-cong true h = h refl
 given-cong false h = refl
 
-map-keep {ℓ κ} : {A : Type ℓ} {B : Type κ} (f : A → B) (p : A → Bool) (xs : List A) → map f (keep p xs) ≡ gather (λ x. given (p x) (f x ∷ [])) xs
-map-keep f p [] = refl
-map-keep {B = B} f p (x ∷ xs) = go (p x) (map-keep f p xs)
-  where
-    go : (b : Bool) → map f (keep p xs) ≡ gather (λ x. given (p x) (f x ∷ [])) xs
-        → map f (given b (x ∷ []) ++ keep p xs) ≡ given b (f x ∷ []) ++ gather (λ x. given (p x) (f x ∷ [])) xs
-    go true ih = ap (λ (l : List B). f x ∷ l) ih
-    go false ih = ih
-
 -- ---- a sifted list
 
 module _ {ℓ} {A : Type ℓ} (kept : A → Bool) (reduce : A → A) where
@@ -42,14 +33,26 @@ module _ {ℓ} {A : Type ℓ} (kept : A → Bool) (reduce : A → A) where
           ap₂ (λ (l r : List B). l ++ r) h ih
       go false e ih = rw (contra (p x) (kept x) (covered x) e) ih
 
-  -- what is made of the elements that pass
-  pub map-sift {κ} : {B : Type κ} (p : A → Bool) (f : A → B) → ((x : A) → p x ≡ true → kept x ≡ true)
-      → ((x : A) → kept x ≡ true → p (reduce x) ≡ p x) → ((x : A) → p x ≡ true → f (reduce x) ≡ f x)
-      → (xs : List A) → map f (keep p (sift kept reduce xs)) ≡ map f (keep p xs)
-  map-sift {B = B} p f covered same-p same-f xs =
-      map-keep f p (sift kept reduce xs)
-      ∙ gather-sift p (λ x. f x ∷ []) covered same-p (λ x e. ap (λ (y : B). y ∷ []) (same-f x e)) xs
-      ∙ sym (map-keep f p xs)
+  -- the elements that pass, each reduced
+  pub keep-sift : (p : A → Bool) → ((x : A) → p x ≡ true → kept x ≡ true) → ((x : A) → kept x ≡ true → p (reduce x) ≡ p x)
+      → (xs : List A) → keep p (sift kept reduce xs) ≡ map reduce (keep p xs)
+  keep-sift p covered same-p [] = refl
+  keep-sift p covered same-p (x ∷ xs) = go (kept x) refl (keep-sift p covered same-p xs)
+    where
+      one : (b : Bool) → keep p (sift kept reduce xs) ≡ map reduce (keep p xs)
+          → given b (reduce x ∷ []) ++ keep p (sift kept reduce xs) ≡ map reduce (given b (x ∷ []) ++ keep p xs)
+      one true ih = ap (λ (l : List A). reduce x ∷ l) ih
+      one false ih = ih
+
+      go : (b : Bool) → kept x ≡ b → keep p (sift kept reduce xs) ≡ map reduce (keep p xs)
+          → keep p (given b (reduce x ∷ []) ++ sift kept reduce xs) ≡ map reduce (given (p x) (x ∷ []) ++ keep p xs)
+      go true e ih = rw (same-p x e) (one (p x) ih)
+      go false e ih = rw (contra (p x) (kept x) (covered x) e) ih
+
+  -- what is made of reduced elements, where it does not look at what was left out
+  pub map-reduced {κ} : {B : Type κ} (f : A → B) → ((x : A) → f (reduce x) ≡ f x) → (xs : List A) → map f (map reduce xs) ≡ map f xs
+  map-reduced f same [] = refl
+  map-reduced {B = B} f same (x ∷ xs) = ap₂ (λ (y : B) (l : List B). y ∷ l) (same x) (map-reduced f same xs)
 
   pub any-sift : (p : A → Bool) → ((x : A) → p x ≡ true → kept x ≡ true) → ((x : A) → kept x ≡ true → p (reduce x) ≡ p x)
       → (xs : List A) → any p (sift kept reduce xs) ≡ any p xs
@@ -124,6 +127,14 @@ module _ {A : Type 0} (p : A → Bool) (z : A) where
   any-at (x ∷ xs) zero l e = ap (λ (b : Bool). b || any p xs) e
   any-at (x ∷ xs) (suc i) l e = or-right (p x) (any p xs) (any-at xs i (le-of-suc-le-suc l) e)
 
+  pub any-found : (xs : List A) → any p xs ≡ true → (i : ℕ) × (i < length xs) × (p (getD xs i z) ≡ true)
+  any-found [] e = absurd (true≢false (sym e))
+  any-found (x ∷ xs) e = go (p x) refl e (any-found xs)
+    where
+      go : (b : Bool) → p x ≡ b → (b || any p xs) ≡ true → (any p xs ≡ true → (i : ℕ) × (i < length xs) × (p (getD xs i z) ≡ true)) → (i : ℕ) × (i < suc (length xs)) × (p (getD (x ∷ xs) i z) ≡ true)
+      go true h r ih = (zero, suc-le-suc zero-le, h)
+      go false h r ih = let t = ih r in (suc (t .0), suc-le-suc (t .1), t .2)
+
   pub any-none : (xs : List A) → ((i : ℕ) → i < length xs → p (getD xs i z) ≡ true → ⊥) → any p xs ≡ false
   any-none [] h = refl
   any-none (x ∷ xs) h = go (p x) refl (any-none xs (λ i l. h (suc i) (suc-le-suc l)))
@@ -141,6 +152,12 @@ module _ {A : Type 0} (p : A → Bool) (z : A) where
     λ e. any-none xs (λ i l. h zero (suc i) (suc-le-suc zero-le) (suc-le-suc l) e),
     once-by-index xs (λ i j l b. h (suc i) (suc j) (suc-le-suc l) (suc-le-suc b)),
   )
+
+-- what is made of an element, whatever stands beyond the list
+pub getD-map : {A B : Type 0} (f : A → B) (z : A) (y : B) (xs : List A) (i : ℕ) → i < length xs → getD (map f xs) i y ≡ f (getD xs i z)
+getD-map f z y [] i l = absurd (not-suc-le-zero l)
+getD-map f z y (x ∷ xs) zero l = refl
+getD-map f z y (x ∷ xs) (suc i) l = getD-map f z y xs i (le-of-suc-le-suc l)
 
 -- what none passes keeps nothing
 pub keep-none : {A : Type 0} (p : A → Bool) (xs : List A) → any p xs ≡ false → keep p xs ≡ []

@@ -44,7 +44,7 @@ low-more m n more =
 
 -- a line's type is one of its numbers
 pub low-type : (m : ℕ) (x : Line) → Low m x → typeOf x ≤ m
-low-type m x l = go (any (eqb (x .kind)) (2 ∷ 7 ∷ [])) (any (eqb (x .kind)) (1 ∷ 3 ∷ 9 ∷ 13 ∷ 14 ∷ 23 ∷ 24 ∷ 25 ∷ 26 ∷ 27 ∷ []))
+low-type m x l = go (any (eqb (x .kind)) (2 ∷ 7 ∷ [])) (any (eqb (x .kind)) (1 ∷ 3 ∷ 9 ∷ 13 ∷ 14 ∷ 16 ∷ 23 ∷ 24 ∷ 25 ∷ 26 ∷ 27 ∷ []))
   where
     go : (s t : Bool) → cond s (x .b) (cond t (x .a) 0) ≤ m
     go true t = l .b

@@ -2,18 +2,19 @@
 use Prim.Native.Nat.{ℕ, zero, suc, _+_}
 use mathlib.Core.Path.{_≡_, refl, ap, ap₂, _∙_}
 use mathlib.Core.Bool.{Bool, true, false, _&&_, _||_, not, cond}
+use mathlib.Core.Option.{Option}
 use mathlib.Core.List.{List, [], _∷_, _++_}
 use lib.Dec.{eqb}
 use Rattle.rules.specs.Sheet.{Line, Sheet, end, broken, row}
 use Rattle.rules.specs.Columns.{Form, inForm, directoryForms, permissionForms}
 use Rattle.rules.specs.Value.{Piece}
 use Rattle.rules.specs.Name.{Schema}
-use Rattle.rules.specs.Judge.{Verdict, refuse, refuseIf, then, fold, Grammar, misplaced, atEnd, due, dueLines}
+use Rattle.rules.specs.Judge.{Verdict, refuse, refuseIf, then, fold, Grammar, misplaced, atEnd, due, dueLines, follows}
 use Rattle.rules.specs.Directory.{Reading, typeLine, entryLine, valueLine, step, finish}
 use Rattle.rules.specs.Permission.{Item, soundItem, item, items}
 use Rattle.rules.specs.declared.Edition.{Edition}
 use Rattle.rules.specs.Filter.{Filter, and, or, not′, Filters, none, more}
-use Rattle.rules.specs.Request.{Selection, Operation, read, filterLine, pieces, filters, filterOf, filter, selection, operation, editionOf, request}
+use Rattle.rules.specs.Request.{Selection, Operation, read, filterLine, pieces, filters, filterOf, filter, selection, Ordering, ordering, operation, editionOf, request}
 use Rattle.rules.specs.Laws.Judge.{then-cong}
 use Rattle.rules.specs.Laws.Sheet.{AllRows}
 
@@ -138,13 +139,17 @@ module _ (F G : List Form) (sound : Line → Bool) (n : ℕ) where
     unfolding selection
     selection-same s k p q e = due-same 12 s k _ _ (λ x s k. due-lines-same 13 (x .b) s k _ _ (λ ts s k. e _ s k))
 
+    ordering-same : (s : Sheet) → Rows s → (p q : Option Ordering → Sheet → Verdict A) → Next p q → ordering g s p ≡ ordering h s q
+    unfolding ordering
+    ordering-same s k p q e = cond-same (follows 16 s) (due-same 16 s k _ _ (λ x s k. e _ s k)) (e _ s k)
+
     operation-same : (ed : Edition) (x : Line) (s : Sheet) → Rows s → (p q : Operation → Sheet → Verdict A) → Next p q → operation g ed x s p ≡ operation h ed x s q
     unfolding operation
     operation-same ed x s k p q e =
         cond-same (eqb (x .a) 1) (selection-same s k _ _ (λ r s k. e (read r) s k))
         (cond-same (eqb (x .a) 2) (due-same 14 s k _ _ (λ y s k. e _ s k))
         (cond-same (eqb (x .a) 3) (e _ s k)
-        (selection-same s k _ _ (λ r s k. due-same 15 s k _ _ (λ y s k. filter-same 16 128 s k _ _ (λ f left s k. e _ s k))))))
+        (selection-same s k _ _ (λ r s k. ordering-same s k _ _ (λ o s k. due-same 15 s k _ _ (λ y s k. filter-same 16 128 s k _ _ (λ f left s k. e _ s k)))))))
 
   pub request-same : (s : Sheet) → Rows s → request g s ≡ request h s
   unfolding request

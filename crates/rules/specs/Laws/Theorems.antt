@@ -3,15 +3,22 @@ use Prim.Native.Nat.{ℕ}
 use native.Mathlib.Omega.{arith}
 use mathlib.Core.Path.{_≡_}
 use mathlib.Core.Bool.{true, false}
+use lib.ListN.{getD}
 use Rattle.rules.specs.Sheet.{Bytes, narrow, wide, print}
 use Rattle.rules.specs.declared.Format.{Format}
 use Rattle.rules.specs.Judge.{accept, refuse}
-use Rattle.rules.specs.Directory.{Directory, directoryOf, directoryLines}
+use Rattle.rules.specs.Lists.{keep}
+use Rattle.rules.specs.Directory.{Directory, directoryOf, directoryLines, blank, entryOf, entries}
 use Rattle.rules.specs.Move.{beyond, spills, moved}
-use Rattle.rules.specs.Theorems.{PrintedBack, RoundTrip, MovedAccepted, BackAgain, FormsAlike}
+use Rattle.rules.specs.Serve.{settingOf}
+use Rattle.rules.specs.Theorems.{PrintedBack, RoundTrip, MovedAccepted, BackAgain, FormsAlike, Permuted, InOrder, Stable, SmallestKey}
 use Rattle.rules.specs.Laws.DirectoryLines.{accepted-back}
 use Rattle.rules.specs.Laws.Move.{move-accepted, there-and-back, moved-back}
 use Rattle.rules.specs.Laws.FormsAlike.{served-alike}
+use Rattle.rules.specs.Laws.Each.{each-keep, each-at, mapped-each}
+use Rattle.rules.specs.Laws.Directory.{accepted-means}
+use Rattle.rules.specs.Laws.Allowed.{EntryAllowed, entries-allowed}
+use Rattle.rules.specs.Laws.Arrange.{arranged-permuted, key-stable, key-ordered, key-least}
 
 pub printed-back : PrintedBack
 printed-back = accepted-back
@@ -27,6 +34,24 @@ back-again = (moved-back narrow (omega arith) 8 9999999 (omega arith) (omega ari
 
 pub forms-alike : FormsAlike
 forms-alike = served-alike
+
+pub permuted : Permuted
+permuted = arranged-permuted
+
+pub in-order : InOrder
+unfolding entries
+in-order f s d e is u o chosen =
+    key-ordered (settingOf d is u) o (keep chosen (entries d))
+    (each-keep (EntryAllowed (d .schema)) chosen (entries d) (entries-allowed (d .schema) (d .entries) (accepted-means f s d e)))
+
+pub stable : Stable
+stable = key-stable
+
+pub smallest-key : SmallestKey
+smallest-key f s d e is u t k l =
+    key-least (settingOf d is u) t (entryOf (getD (d .entries) k blank))
+    (each-at (λ x. EntryAllowed (d .schema) (entryOf x)) blank (d .entries)
+    (mapped-each (EntryAllowed (d .schema)) entryOf (d .entries) (entries-allowed (d .schema) (d .entries) (accepted-means f s d e))) k l)
 
 -- ---- which refusal of a move comes where
 

@@ -298,7 +298,7 @@ orderℕ-equal a b next e = go (ltb a b) (ltb b a) refl refl e
     go false true p q e = unlike (cc)
     go false false p q e = (omega (arith, ltb-false a b p, ltb-false b a q), e)
 
-orderℕ-same : (a : ℕ) (next : Order) → orderℕ a a next ≡ next
+pub orderℕ-same : (a : ℕ) (next : Order) → orderℕ a a next ≡ next
 orderℕ-same a next = rw (le-ltb a a (omega arith))
 
 pub orderBytes-equal : (a b : Bytes) → orderBytes a b ≡ Equal → a ≡ b

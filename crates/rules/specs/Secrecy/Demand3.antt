@@ -16,7 +16,7 @@ use Rattle.rules.specs.Permission.{Item, permissionsOf, Read, ReturnDN, 
 use Rattle.rules.specs.Decision.{Setting, Requester, entry, ofType, ofValue, granted}
 use Rattle.rules.specs.Request.{Operation, read, compare, list, search, Request, requestOf}
 use Rattle.rules.specs.Answer.{answer}
-use Rattle.rules.specs.Serve.{settingOf, ground, exchange, above, tighter, capped, within, fitting, respond, judgedAt, serveAt}
+use Rattle.rules.specs.Serve.{settingOf, Ground, ground, exchange, above, tighter, capped, within, fitting, respond, judgedAt, serveAt}
 use Rattle.rules.specs.declared.Limits.{Limits}
 use Rattle.rules.specs.Shown.{ofEntries, ofTypes, ofValues, sight, shown, Alike}
 use Rattle.rules.specs.Laws.Tests.{or-right}
@@ -75,10 +75,13 @@ judged-alike f k d₁ d₂ p q room alike = rw (alike .accepted₁, alike .accep
     D₂ : Directory
     D₂ = alike .second
 
-    from : (S : Schema) → Directory → Verdict Bytes
-    from S d = then (then (permissionsOf f S p) (λ is. accept (record { directory = d; items = is }))) (λ g. then (requestOf f q) (λ r. respond f g (within k r) room))
+    onGround : Ground → Verdict Bytes
+    onGround g = then (requestOf f (g .directory .schema) q) (λ r. respond f g (within k r) room)
 
-    same : (is : List Item) → permissionsOf f (D₁ .schema) p ≡ accept is → (r : Request) → requestOf f q ≡ accept r
+    from : (S : Schema) → Directory → Verdict Bytes
+    from S d = then (then (permissionsOf f S p) (λ is. accept (record { directory = d; items = is }))) onGround
+
+    same : (is : List Item) → permissionsOf f (D₁ .schema) p ≡ accept is → (r : Request) → requestOf f (D₁ .schema) q ≡ accept r
         → respond f (record { directory = D₁; items = is }) (within k r) room ≡ respond f (record { directory = D₂; items = is }) (within k r) room
     same is e r h = unfold respond within in
         ap (λ (ls : List Line). fitting room (print (f .width) ls))
@@ -86,9 +89,10 @@ judged-alike f k d₁ d₂ p q room alike = rw (alike .accepted₁, alike .accep
         (alike .same is r e h) (r .base) (capped (k .entries) (r .operation)))
 
     by : (v : Verdict (List Item)) → permissionsOf f (D₁ .schema) p ≡ v
-        → then (then v (λ is. accept (record { directory = D₁; items = is }))) (λ g. then (requestOf f q) (λ r. respond f g (within k r) room))
-        ≡ then (then v (λ is. accept (record { directory = D₂; items = is }))) (λ g. then (requestOf f q) (λ r. respond f g (within k r) room))
-    by (accept is) e = then-cong (requestOf f q) _ _ (same is e)
+        → then (then v (λ is. accept (record { directory = D₁; items = is }))) onGround ≡ then (then v (λ is. accept (record { directory = D₂; items = is }))) onGround
+    by (accept is) e =
+        then-cong (requestOf f (D₁ .schema) q) _ _ (same is e)
+        ∙ ap (λ (S : Schema). then (requestOf f S q) (λ r. respond f (record { directory = D₂; items = is }) (within k r) room)) (alike .schema)
     by (refuse n) e = refl
 
     inner : from (D₁ .schema) D₁ ≡ from (D₂ .schema) D₂

@@ -4,7 +4,7 @@ use mathlib.Core.Path.{_≡_, refl, sym, ap, ap₂, _∙_, subst}
 use Prim.Native.Nat.{ℕ, zero, suc, _-_}
 use mathlib.Core.Bool.{Bool, true, false, _&&_, _||_, not, cond}
 use mathlib.Core.Option.{Option, none, some}
-use mathlib.Core.List.{List, [], _∷_, _++_}
+use mathlib.Core.List.{List, [], _∷_, _++_, map}
 use lib.ListN.{length, take}
 use lib.Dec.{eqb}
 use borrow.Author.Tests.{eqb-true}
@@ -16,13 +16,15 @@ use Rattle.rules.specs.Permission.{Read, Browse, ReturnDN, DiscloseOnErr
 use Rattle.rules.specs.Decision.{Setting, entry, ofType, ofValue, granted}
 use Rattle.rules.specs.Filter.{Assertion, equality, atLeast, atMost, present, substrings, Filter, truth, isTrue, evaluate}
 use Rattle.rules.specs.FilterItem.{assertedType, holds, someValue, defined, satisfied, decidable, itemTruth}
-use Rattle.rules.specs.Request.{Selection, Search, Operation, read, compare, list, search}
+use Rattle.rules.specs.Request.{Selection, Ordering, Search, Operation, read, compare, list, search}
 use Rattle.rules.specs.declared.Outcome.the-variants.{Result, NoSuchObject, InsufficientAccessRights, NoSuchAttributeOrValue, InvalidAttributeSyntax}
 use Rattle.rules.specs.Answer.{bit, outcome, nameLines, entryLines, valueLines, limited, selected, orName, typeLines, information, readEntry, compareEntry, listed, candidate, found, inSubset, disclosed, listHit, searchHit, matchedName, noSuchObject, named, opened, returned, listHits, searchHits, answer}
+use Rattle.rules.specs.Arrange.{smallest, precedes, readable, key, before, arranged}
 use Rattle.rules.specs.Shown.{Sight, shownHeld, shownEntry, shownBy}
 use Rattle.rules.specs.Laws.Tests.{contra, and-left, and-right, and-cong, and-cong-left, cond-cong}
-use Rattle.rules.specs.Laws.Lists.{gather-sift, map-sift, any-sift, first-sift, once-sift, Once}
+use Rattle.rules.specs.Laws.Lists.{gather-sift, keep-sift, map-reduced, any-sift, first-sift, once-sift, Once}
 use Rattle.rules.specs.Laws.Items.{own-items-decide}
+use Rattle.rules.specs.Laws.Arrange.{arranged-map}
 use Rattle.rules.specs.declared.Edition.{Edition}
 use Rattle.rules.specs.declared.Truth.{Truth}
 
@@ -256,21 +258,57 @@ module _ (σ : Setting) (g : Sight) where
     listHits-shown : (es : List Entry) (n : Name) → listHits σ (shownBy g es) n ≡ listHits σ es n
     unfolding listHits listed listHit shownBy shownEntry
     listHits-shown es n =
-        map-sift (λ e. g .entries (e .name)) (shownEntry g) (listed σ n) (listHit σ n)
+        ap (map (listHit σ n))
+        (keep-sift (λ e. g .entries (e .name)) (shownEntry g) (listed σ n)
         (λ e r. k .entryReturned (e .name) (and-right (granted σ (e .name) entry Browse) _ (and-right (childOf (σ .schema) n (e .name)) _ r)))
-        (λ e r. refl) (λ e r. refl) es
+        (λ e r. refl) es)
+        ∙ map-reduced (λ e. true) (shownEntry g) (listHit σ n) (λ e. refl) (keep (listed σ n) es)
+
+    -- the key of an entry
+    key-shown : (t : ℕ) (e : Entry) → key σ t (shownEntry g e) ≡ key σ t e
+    unfolding key readable shownEntry shownHeld
+    key-shown t e =
+        ap (smallest (σ .schema) t)
+        (gather-sift (λ h. g .types n (h .type)) (shownHeld g n) (λ h. eqb (h .type) t && granted σ n (ofType t) Read) (λ h. keep wanted (h .values))
+        (λ h r. subst (λ s. g .types n s ≡ true) (sym (of-type h r)) (k .typeRead n t (and-right (eqb (h .type) t) _ r))) (λ h r. refl)
+        (λ h r. gather-sift (g .values n (h .type)) (λ v. v) wanted (λ v. v ∷ [])
+        (λ v i. subst (λ s. g .values n s v ≡ true) (sym (of-type h r)) (k .valueRead n t v i)) (λ v i. refl) (λ v i. refl) (h .values))
+        (e .held))
+      where
+        n : Name
+        n = e .name
+
+        wanted : Bytes → Bool
+        wanted v = granted σ n (ofValue t v) Read
+
+        of-type : (h : Held) → (eqb (h .type) t && granted σ n (ofType t) Read) ≡ true → h .type ≡ t
+        of-type h r = eqb-true (h .type) t (and-left _ _ r)
+
+    arranged-shown : (o : Option Ordering) (xs : List Entry) → arranged σ o (map (shownEntry g) xs) ≡ map (shownEntry g) (arranged σ o xs)
+    unfolding arranged before
+    arranged-shown none xs = refl
+    arranged-shown (some o) xs =
+        arranged-map (before σ o) (before σ o) (shownEntry g)
+        (λ x y. ap₂ (precedes (σ .schema) (o .type) (o .falling)) (key-shown (o .type) x) (key-shown (o .type) y)) xs
+
+    hit-shown : (r : Search) (e : Entry) → searchHit σ r (shownEntry g e) ≡ searchHit σ r e
+    unfolding searchHit shownEntry
+    hit-shown r e =
+        ap (λ (i : List Line). entryLines (e .name) ++ i)
+        (information-shown (r .selection) e (k .typeRead (e .name)) (λ t v m. k .valueRead (e .name) t v))
 
     searchHits-shown : (es : List Entry) (n : Name) (r : Search) → searchHits σ (shownBy g es) n r ≡ searchHits σ es n r
-    unfolding searchHits searchHit found candidate shownBy shownEntry
+    unfolding searchHits found candidate shownBy shownEntry
     searchHits-shown es n r =
-        map-sift (λ e. g .entries (e .name)) (shownEntry g) (found σ n r) (searchHit σ r)
+        ap (λ (xs : List Entry). map (searchHit σ r) (arranged σ (r .ordering) xs))
+        (keep-sift (λ e. g .entries (e .name)) (shownEntry g) (found σ n r)
         (λ e q. k .entryReturned (e .name)
         (and-right (granted σ (e .name) entry Browse || sameName (σ .schema) n (e .name) && granted σ (e .name) entry Read) _
         (and-right (inSubset σ (r .subset) n (e .name)) _ (and-left (candidate σ n (r .subset) e) _ q))))
         (λ e q. ap (λ (t : Truth). candidate σ n (r .subset) e && isTrue t) (filter-shown e (k .typeFiltered (e .name)) (k .valueFiltered (e .name)) (r .edition) (r .filter)))
-        (λ e q. ap (λ (i : List Line). entryLines (e .name) ++ i)
-        (information-shown (r .selection) e (k .typeRead (e .name)) (λ t v m. k .valueRead (e .name) t v)))
-        es
+        es)
+        ∙ ap (map (searchHit σ r)) (arranged-shown (r .ordering) (keep (found σ n r) es))
+        ∙ map-reduced (λ e. true) (shownEntry g) (searchHit σ r) (hit-shown r) (arranged σ (r .ordering) (keep (found σ n r) es))
 
     -- the answer comes from what is shown
     pub answer-shown : (es : List Entry) (n : Name) → Once (λ e. sameName (σ .schema) n (e .name)) es → (o : Operation)

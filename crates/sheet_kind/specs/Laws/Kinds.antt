@@ -8,7 +8,7 @@ use lib.Dec.{eqb}
 use borrow.Author.Tests.{eqb-true, eqb-false, ne-eqb}
 use Rattle.sheet_kind.specs.Kinds.{numberOf, ranges, known, kindIn, kindOf}
 use Rattle.sheet_kind.specs.declared.Kind.{Kind}
-use Rattle.sheet_kind.specs.declared.Kind.the-variants.{AttributeType, Entry, Value, Item, Base, UserClass, ProtectedItem, Permissions, NamePart, Requester, Operation, Selection, SelectedType, Assertion, Subset, And, Or, Not, Equality, AtLeast, AtMost, Present, Substrings, Piece, Outcome, Comparison, Child, ReturnedEntry, ReturnedType, ReturnedValue, Unknown}
+use Rattle.sheet_kind.specs.declared.Kind.the-variants.{AttributeType, Entry, Value, Item, Base, UserClass, ProtectedItem, Permissions, NamePart, Requester, Operation, Selection, SelectedType, Assertion, Subset, Ordering, And, Or, Not, Equality, AtLeast, AtMost, Present, Substrings, Piece, Outcome, Comparison, Child, ReturnedEntry, ReturnedType, ReturnedValue, Unknown}
 
 pub kind-number : (x : Kind) → kindOf (numberOf x) ≡ x
 unfolding kindOf
@@ -27,6 +27,7 @@ kind-number Selection = refl
 kind-number SelectedType = refl
 kind-number Assertion = refl
 kind-number Subset = refl
+kind-number Ordering = refl
 kind-number And = refl
 kind-number Or = refl
 kind-number Not = refl

@@ -9,10 +9,12 @@ use harness::lent::ask;
 use harness::pairs::{pair, Change, Pair};
 use harness::random::{number_from_environment, Random};
 use harness::report::Report;
-use harness::requests::request_of;
+use harness::requests::{order, request_of};
 use harness::server::{subject, Peer, Server};
-use harness::shown::shown;
+use harness::shown::{shown, Requester};
+use harness::values::unfit;
 use harness::written::digit;
+use peer::builder::{FilterLines, OperationLines, Selected};
 use peer::caller::{Call, Caller, PANEL_ROOM};
 use peer::fault::Fault;
 use peer::form::Form;
@@ -109,9 +111,30 @@ fn main() -> ExitCode {
 /// A request of the pair's requester, about names and values of either directory.
 fn ask_about(random: &mut Random, pair: &Pair) -> Vec<u8> {
     let directory = if random.percent(50) { &pair.one } else { &pair.other };
-    let requester = &pair.requester;
-    let name = requester.name.clone();
-    request_of(random, pair.form, directory, requester.level, name).to_bytes(pair.form)
+    let Requester { level, name } = pair.requester.clone();
+    let mut request = request_of(random, pair.form, directory, level, name);
+    if random.once_in(8) && !directory.entries.is_empty() {
+        // Has an entry this value, or this type, which it may have in one of the two alone?
+        let index = random.below(directory.entries.len());
+        let (kind, mut value) = random.pick(&directory.entries[index].values).clone();
+        if random.once_in(3) {
+            value = unfit(random, directory.syntax(kind).unwrap_or_default());
+        }
+        request.name = directory.name(index);
+        request.operation = OperationLines::Compare(kind, value);
+    }
+    if random.once_in(6) {
+        // In an order that values out of sight must not change.
+        request.name.clear();
+        request.operation = OperationLines::Search {
+            limit: *random.pick(&[0, 0, 1, 2, 3]),
+            selected: Selected { types: Some(Vec::new()), values: false },
+            order: Some(order(random, directory)),
+            subset: random.between(1, 2) as u32,
+            filter: FilterLines::And(Vec::new()),
+        };
+    }
+    request.to_bytes(pair.form)
 }
 
 /// Damages permissions or request. The pair need only be alike for the sheets it was made for,
@@ -125,7 +148,7 @@ fn spoil(random: &mut Random, form: Form, dir: &[u8], perm: &mut Vec<u8>, req: &
     }
     let call = Call::new(Caller::Exchange, form);
     let reply = peer::serve_for(call, dir, &worse_perm, &worse_req, usize::MAX);
-    if matches!(reply, Err(11..=23)) {
+    if matches!(reply, Err(11..=24)) {
         (*perm, *req) = (worse_perm, worse_req);
     }
 }

@@ -21,10 +21,10 @@ use Rattle.sheet_form.proofs.columns.request_columns.Statement.{stateme
 use Rattle.sheet_form.proofs.columns.request_columns.Tie as tie
 
 abbrev others : List ℕ
-others = 0 ∷ 1 ∷ 2 ∷ 3 ∷ 4 ∷ 5 ∷ 6 ∷ 7 ∷ 24 ∷ 25 ∷ 26 ∷ 27 ∷ 28 ∷ 29 ∷ 30 ∷ []
+others = 0 ∷ 1 ∷ 2 ∷ 3 ∷ 4 ∷ 5 ∷ 6 ∷ 7 ∷ 25 ∷ 26 ∷ 27 ∷ 28 ∷ 29 ∷ 30 ∷ 31 ∷ []
 
-other : (c : tie.At-match-keys17) (n : ℕ) → T (not (hasKey others (tagOf the-type (kindOf n)))) → eqb (c .before .before .args .line .kind) n ≡ false
-other c n t = ne-eqb _ n (λ e. miss others (tagOf the-type (kindOf n)) t (subst (λ (x : Kind). OneOf others (tagOf the-type x)) (c .before .kind-of .ensures ∙ ap kindOf e) (c .match .keys17)))
+other : (c : tie.At-match-keys18) (n : ℕ) → T (not (hasKey others (tagOf the-type (kindOf n)))) → eqb (c .before .before .args .line .kind) n ≡ false
+other c n t = ne-eqb _ n (λ e. miss others (tagOf the-type (kindOf n)) t (subst (λ (x : Kind). OneOf others (tagOf the-type x)) (c .before .kind-of .ensures ∙ ap kindOf e) (c .match .keys18)))
 
 returns : tie.Need-returns
 unfolding inFormOf requestForms
@@ -89,16 +89,20 @@ unfolding inFormOf requestForms
 returns-16 c = let A = c .before .before .before .before .args in rw (c .row14 .ensures, kind-is (A .line .kind) refl (sym (c .before .before .before .kind-of .ensures) ∙ c .before .enum-told16 .given .1)) (one-form (A .line .a) (A .line .b) (A .line .c) (A .line .length) (omega arith) (omega arith) (omega arith) (omega arith) _)
 
 returns-17 : tie.Need-returns-17
+unfolding inFormOf requestForms
+returns-17 c = let A = c .before .before .before .before .args in rw (c .row15 .ensures, kind-is (A .line .kind) refl (sym (c .before .before .before .kind-of .ensures) ∙ c .before .enum-told17 .given .1)) (one-form (A .line .a) (A .line .b) (A .line .c) (A .line .length) (omega arith) (omega arith) (omega arith) (omega arith) _)
+
+returns-18 : tie.Need-returns-18
 unfolding inFormOf requestForms kindOf
-returns-17 c = rw (other c 9 tt, other c 10 tt, other c 11 tt, other c 12 tt, other c 13 tt, other c 14 tt, other c 15 tt, other c 20 tt, other c 21 tt, other c 22 tt, other c 23 tt, other c 24 tt, other c 25 tt, other c 26 tt, other c 27 tt, other c 28 tt)
+returns-18 c = rw (other c 9 tt, other c 10 tt, other c 11 tt, other c 12 tt, other c 13 tt, other c 14 tt, other c 15 tt, other c 16 tt, other c 20 tt, other c 21 tt, other c 22 tt, other c 23 tt, other c 24 tt, other c 25 tt, other c 26 tt, other c 27 tt, other c 28 tt)
 
 pub request-columns-spec : {M : Type 1} → statement M
 request-columns-spec =
     tie.close
-    (tie.spec (λ c κs. search needs) (λ c. search needs) (λ c κs. search needs) (λ c. search needs) (λ c κs. search needs) (λ c. search needs)
+    (tie.spec (λ c κs. search needs) (λ c. search needs) (λ c κs. search needs) (λ c. search needs) (λ c κs. search needs) (λ c. search needs) (λ c κs. search needs) (λ c. search needs)
     (λ c κs. search needs) (λ c. search needs) (λ c κs. search needs) (λ c. search needs) (λ c κs. search needs) (λ c. search needs)
     (λ c κs. search needs) (λ c. search needs) (λ c κs. search needs) (λ c. search needs) (λ c κs. search needs) (λ c. search needs)
     (λ c κs. search needs) (λ c. search needs) (λ c κs. search needs) (λ c. search needs) (λ c κs. search needs) (λ c. search needs)
     (λ c κs. search needs) (λ c. search needs) (λ c κs. search needs) (λ c. search needs) (λ c κs. search needs) (λ c. search needs)
     (λ c κs. search needs) (λ c. search needs) (λ c κs. search needs) returns returns-2 returns-3 returns-4 returns-5 returns-6 returns-7 returns-8
-    returns-9 returns-10 returns-11 returns-12 returns-13 returns-14 returns-15 returns-16 returns-17)
+    returns-9 returns-10 returns-11 returns-12 returns-13 returns-14 returns-15 returns-16 returns-17 returns-18)

@@ -1,4 +1,4 @@
-//! Worlds, and six requests over each.
+//! Worlds, and six requests or more over each.
 
 use std::sync::OnceLock;
 
@@ -38,6 +38,7 @@ pub fn worlds() -> Vec<World> {
         typed(),
         register("crowded", 256, 1_800, KEY, crowded),
         register("twins", 200, 800, KEY, twin),
+        ordered(),
     ]
 }
 
@@ -105,6 +106,41 @@ fn typed() -> World {
     });
     let tests = (0..127).map(|number| FilterLines::Present(64 - number % 64)).collect();
     world("typed", directory, items, FilterLines::Or(tests))
+}
+
+/// 256 entries whose keys differ in their last bytes alone, each before all that come earlier: the
+/// longest way to put them in order. Asked for in order, too.
+fn ordered() -> World {
+    let entries = (0..256).map(|number: u32| {
+        let mut entry = EntryLines::bare(0, NAME, letters(number).as_slice());
+        entry.values.push((ROLE, prefixed(255 - number)));
+        entry
+    });
+    let directory = DirectorySheet { types: TYPES.to_vec(), entries: entries.collect() };
+    let mut world = world("ordered", directory, items(12, |_| (true, Thing::Entry)), deep_filter());
+    for (name, direction, limit) in
+        [("rising search", 0, 0), ("falling search", 1, 0), ("first of a rising search", 0, 1)]
+    {
+        let operation = OperationLines::Search {
+            limit,
+            selected: Selected::ALL,
+            order: Some((ROLE, direction)),
+            subset: 2,
+            filter: FilterLines::Present(NAME),
+        };
+        let (requester, root) = (Name::new(), Name::new());
+        let request = RequestSheet { level: 0, edition: 0, requester, name: root, operation };
+        world.requests.push((name, request.to_bytes(Form::Narrow)));
+    }
+    world
+}
+
+/// 64 bytes of text, in words and letters of both kinds, the last of them others for each number.
+fn prefixed(number: u32) -> Vec<u8> {
+    let mut text = b"The Guest  ".repeat(6);
+    text.truncate(61);
+    text.extend(letters(number));
+    text
 }
 
 /// A hotel with departments, and people below them, each with a room, an extension and roles.
@@ -253,7 +289,8 @@ fn world(
     };
     let search = |filter| {
         let root = Name::new();
-        ask(&root, OperationLines::Search { limit: 0, selected: Selected::ALL, subset: 2, filter })
+        let (selected, order) = (Selected::ALL, None);
+        ask(&root, OperationLines::Search { limit: 0, selected, order, subset: 2, filter })
     };
     let requests = vec![
         ("read", ask(&person, OperationLines::Read(Selected::ALL))),

@@ -67,7 +67,7 @@ pub fn run(test: &mut Explicit) {
     for kind in [0, 1, 2, 3, 10, 15, 16, 20, 28, 29, 30, 36, 38, 999_999] {
         test.expect(&format!("permissions, kind {kind}"), 12, b"", &alone(kind), b"");
     }
-    for kind in [0, 1, 2, 3, 4, 5, 6, 7, 8, 16, 17, 18, 19, 29, 30, 36, 38, 999_999] {
+    for kind in [0, 1, 2, 3, 4, 5, 6, 7, 8, 17, 18, 19, 29, 30, 36, 38, 999_999] {
         test.expect(&format!("request, kind {kind}"), 22, b"", b"", &alone(kind));
     }
     orders(test);

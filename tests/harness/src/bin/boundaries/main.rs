@@ -4,6 +4,7 @@ mod buffer;
 mod directory;
 mod form;
 mod moves;
+mod order;
 mod panel;
 mod permissions;
 mod request;
@@ -30,6 +31,7 @@ fn main() -> ExitCode {
         directory::run(&mut test);
         permissions::run(&mut test);
         request::run(&mut test);
+        order::run(&mut test);
     }
     for form in Form::ALL {
         test.call = Call::new(Caller::Exchange, form);

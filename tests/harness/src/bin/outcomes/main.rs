@@ -6,6 +6,7 @@ mod editions;
 mod filters;
 mod high_types;
 mod operations;
+mod order;
 mod panels;
 
 use harness::explicit::Explicit;
@@ -23,6 +24,7 @@ fn main() -> ExitCode {
         blanks::run(&mut test);
         high_types::run(&mut test);
         editions::run(&mut test);
+        order::run(&mut test);
     }
     panels::run(&mut test);
     test.finish()

@@ -50,7 +50,8 @@ pub fn list(name: &[&str], limit: u32) -> RequestSheet {
 
 pub fn search(name: &[&str], subset: u32, limit: u32, filter: FilterLines) -> RequestSheet {
     let selected = listed(&[], false);
-    asking(named(name), OperationLines::Search { limit, selected, subset, filter })
+    let order = None;
+    asking(named(name), OperationLines::Search { limit, selected, order, subset, filter })
 }
 
 /// Line 30.

@@ -1,0 +1,4 @@
+pub mod Keys
+pub mod Weak
+pub mod Sort
+pub mod Arrange
