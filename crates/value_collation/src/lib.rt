@@ -97,7 +97,7 @@ pub fn common(syntax: u64, v: &[u8], w: &[u8]) -> usize
 }
 
 // The order by bytes, by what stands after the beginning that the values share.
-fn order_after(syntax: u64, v: &[u8], w: &[u8]) -> Order
+pub fn order_after(syntax: u64, v: &[u8], w: &[u8]) -> Order
     ensures { λ r. ⌜ r ≡ orderBytes (folded syntax (now (v .entry))) (folded syntax (now (w .entry))) ⌝ }
 {
     let i = common(syntax, v, w);
