@@ -43,13 +43,13 @@ fn permitted(
     requires { ⌜ ((x : Directory) × DirectoryAt (terms .format) (now d) x (now book) (now held)) ⌝ }
     ensures { λ r. ⌜ ((x : Directory) → DirectoryAt (terms .format) (now (d .entry)) x (now (book .entry)) (now (held .entry)) → Replies (fromDirectory (terms .format) (terms .limits) x (now (p .entry)) (now (q .entry)) (length (now (out .entry)))) (now (out .entry)) r (now (out .exit))) ⌝ }
 {
-    let items = permission_sheet::judge(p, terms.format, schema(book));
+    let mut rights: [u64; 2048] = [0; 2048];
+    let mut scopes: [u64; 1792] = [0; 1792];
+    let items = permission_sheet::judge(p, terms.format, schema(book), &mut rights, &mut scopes);
     if items.refusal != 0 {
         return refused(items.refusal);
     }
     let count = items.count;
-    let rights = items.rights;
-    let scopes = items.scopes;
     let mut order: [usize; 256] = [0; 256];
     rank_items(&rights, count, &mut order);
     requested(

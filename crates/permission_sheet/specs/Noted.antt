@@ -128,19 +128,19 @@ pub record Table (w : ℕ) (p : Bytes) (is : List Item) (rights scopes : List �
   pub scopes-rest : drop (length is * SCOPES) scopes ≡ replicate (256 * SCOPES - length is * SCOPES) 0
 
 -- the accepted items `is`
-pub record PermissionsNoted (f : Format) (p : Bytes) (is : List Item) (r : NotedItems) : Type 0 where
+pub record PermissionsNoted (f : Format) (p : Bytes) (is : List Item) (r : NotedItems) (rights scopes : List ℕ) : Type 0 where
   pub refusal : r .refusal ≡ 0
   pub count : r .count ≡ length is
-  pub table : Table (f .width) p is (r .rights) (r .scopes)
+  pub table : Table (f .width) p is rights scopes
   pub types : (k : ℕ) → k < length is → getD is k blank .type ≤ f .top
 
 -- nothing but a refusal
 abbrev pub refused : ℕ → NotedItems
-refused n = record { refusal = n; count = 0; rights = replicate 2048 0; scopes = replicate 1792 0 }
+refused n = record { refusal = n; count = 0 }
 
 -- what the sheet `p` in the format `f` gives, judged against the schema
-pub record PermissionsJudged (f : Format) (p : Bytes) (schema : List ℕ) (r : NotedItems) : Type 0 where
+pub record PermissionsJudged (f : Format) (p : Bytes) (schema : List ℕ) (r : NotedItems) (rights scopes : List ℕ) : Type 0 where
   pub refusal : r .refusal ≡ refusalOf (permissionsOf f (schemaOf schema) p)
   pub accepted : r .refusal ≡ 0 → (is : List Item) × (permissionsOf f (schemaOf schema) p ≡ accept is)
-  pub noted : (is : List Item) → permissionsOf f (schemaOf schema) p ≡ accept is → PermissionsNoted f p is r
+  pub noted : (is : List Item) → permissionsOf f (schemaOf schema) p ≡ accept is → PermissionsNoted f p is r rights scopes
   pub nothing : (n : ℕ) → permissionsOf f (schemaOf schema) p ≡ refuse n → r ≡ refused n

@@ -8,6 +8,7 @@ use sheet_due::grammar::Grammar;
 use sheet_due::misplaced_by;
 use sheet_due::seen_at;
 ghost use mathlib.Core.Path.{_≡_};
+ghost use lib.ListN.{replicate};
 ghost use Rattle.rules.specs.Sheet.{Usable};
 ghost use Rattle.permission_sheet.specs.Noted.{PermissionsJudged};
 ghost use Rattle.permission_sheet.specs.Noted as PermissionsNoted;
@@ -48,12 +49,10 @@ pub const LEVEL: usize = 6;
 
 pub const SCOPES: usize = 7;
 
-// The refusal number (0: none), and the items: 256 rows of rights and 256 rows of scopes.
+// The refusal number (0: none), and how many items are noted.
 pub struct NotedItems {
     pub refusal: u64,
     pub count: usize,
-    pub rights: [u64; 2048],
-    pub scopes: [u64; 1792],
 }
 
 // No items, but a refusal number.
@@ -63,21 +62,24 @@ fn refused(number: u64) -> NotedItems
     NotedItems {
         refusal: number,
         count: 0,
-        rights: [0; 2048],
-        scopes: [0; 1792],
     }
 }
 
-// The permission sheet `p`, in the format `f`, judged against the schema.
-pub fn judge(p: &[u8], f: Format, schema: &[u64]) -> NotedItems
-    requires { ⌜ Usable f ⌝ }
-    ensures { λ r. ⌜ PermissionsJudged f (now (p .entry)) (now (schema .entry)) r ⌝ }
+// The permission sheet `p`, in the format `f`, judged against the schema. Its items are noted in 256 rows of rights and 256 rows of scopes, where
+// they stay: no array is copied.
+pub fn judge(
+    p: &[u8],
+    f: Format,
+    schema: &[u64],
+    rights: &mut [u64; 2048],
+    scopes: &mut [u64; 1792],
+) -> NotedItems
+    requires { ⌜ Usable f × (now rights ≡ replicate 2048 0) × (now scopes ≡ replicate 1792 0) ⌝ }
+    ensures { λ r. ⌜ PermissionsJudged f (now (p .entry)) (now (schema .entry)) r (now (rights .exit)) (now (scopes .exit)) ⌝ }
 {
     if 65536 < p.len() {
         return refused(refusal::PERMISSIONS_TOO_LONG);
     }
-    let mut rights: [u64; 2048] = [0; 2048];
-    let mut scopes: [u64; 1792] = [0; 1792];
     let mut count: usize = 0;
     let mut at: usize = 0;
     while at < p.len() {
@@ -89,14 +91,9 @@ pub fn judge(p: &[u8], f: Format, schema: &[u64]) -> NotedItems
         if lines.refusal != 0 {
             return refused(lines.refusal);
         }
-        row::note(p, &mut rights, &mut scopes, count, lines);
+        row::note(p, rights, scopes, count, lines);
         count += 1;
         at = lines.mask.next;
     }
-    NotedItems {
-        refusal: 0,
-        count,
-        rights,
-        scopes,
-    }
+    NotedItems { refusal: 0, count }
 }

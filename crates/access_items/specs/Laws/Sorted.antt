@@ -21,6 +21,6 @@ accepted-small : (f : Format) (S : Schema) (p : Bytes) (is : List Item) → perm
 unfolding permissionsOf
 accepted-small f S p is e = ltb-false 65536 (length p) (not-refused (ltb 65536 (length p)) 11 (items (f .top) S 256 [] (lines (f .width) p)) is e .0)
 
-pub sorted-of : (f : Format) (S : Schema) (p : Bytes) (is : List Item) (r : NotedItems) (order : List ℕ) → permissionsOf f S p ≡ accept is → PermissionsNoted f p is r → Ranked is order → length order ≡ length is
-    → Sorted (f .width) p is (r .rights) (r .scopes) order
-sorted-of f S p is r order e n ranked count = record { small = accepted-small f S p is e; table = n .table; ranked = ranked; count = count }
+pub sorted-of : (f : Format) (S : Schema) (p : Bytes) (is : List Item) (r : NotedItems) (rights scopes order : List ℕ) → permissionsOf f S p ≡ accept is → PermissionsNoted f p is r rights scopes → Ranked is order → length order ≡ length is
+    → Sorted (f .width) p is rights scopes order
+sorted-of f S p is r rights scopes order e n ranked count = record { small = accepted-small f S p is e; table = n .table; ranked = ranked; count = count }

@@ -39,7 +39,7 @@ module _ (f : Format) (k : Limits) (d p q : Bytes) (room : ℕ) where
       go (accept is) = refl
       go (refuse n) = refl
 
-module _ (f : Format) (k : Limits) (x : Directory) (schema : List ℕ) (same : x .schema ≡ schemaOf schema) (p q : Bytes) (room : ℕ) (r : NotedItems) (j : Permissions.PermissionsJudged f p schema r) where
+module _ (f : Format) (k : Limits) (x : Directory) (schema : List ℕ) (same : x .schema ≡ schemaOf schema) (p q : Bytes) (room : ℕ) (r : NotedItems) (rights scopes : List ℕ) (j : Permissions.PermissionsJudged f p schema r rights scopes) where
   by-refusal : (v : Verdict (List Item)) → r .refusal ≡ refusalOf v → (r .refusal ≡ 0 → ⊥) → v ≡ refuse (r .refusal)
   by-refusal (accept is) e n = absurd (n e)
   by-refusal (refuse m) e n = rw e

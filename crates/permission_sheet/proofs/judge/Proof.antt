@@ -25,7 +25,7 @@ returns : tie.Need-returns Inv-loop μ-loop
 returns c = let A = c .before .before .before .before .args in rw (c .refused .ensures) (judged-long (A .f) (now (A .p)) (now (A .schema)) (c .before .if1 .taken))
 
 loop-holds : tie.Need-loop-holds Inv-loop μ-loop
-loop-holds c = let A = c .before .before .before .args in reading-start (A .f) (now (A .p)) (schemaOf (now (A .schema)))
+loop-holds c = let A = c .before .before .before .args in let P = c .before .before .before .pre in rw (P .1, P .2) (reading-start (A .f) (now (A .p)) (schemaOf (now (A .schema))))
 
 returns-2 : tie.Need-returns-2 Inv-loop μ-loop
 returns-2 c = let A = c .before .before .before .before .before .before .before .before .before .args in rw (c .refused2 .ensures) (judged-over (A .f) (now (A .p)) (now (A .schema)) (c .before .before .before .before .before .before .if1 .left) (c .before .before .before .before .before .loop .inv) (c .before .before .before .before .loop-test .taken) (c .before .before .before .if2 .taken) (c .before .misplaced-by .ensures ∙ ap (misplacedBy 10) (c .before .before .seen-at .ensures)))
@@ -33,20 +33,14 @@ returns-2 c = let A = c .before .before .before .before .before .before .before 
 returns-3 : tie.Need-returns-3 Inv-loop μ-loop
 returns-3 c = let A = c .before .before .before .before .before .before .before .before .before .before .args in rw (c .refused3 .ensures) (judged-item (A .f) (now (A .p)) (now (A .schema)) (c .before .before .before .before .before .before .before .if1 .left) (c .before .before .before .before .before .before .loop .inv) (ahead (c .before .before .before)) (c .before .if3 .taken))
 
-slice-aggregate-note : tie.Need-slice-aggregate-note Inv-loop μ-loop
-slice-aggregate-note c = sym (reading-lengths (c .before .before .before .before .before .before .loop .inv) .0)
-
-slice-aggregate-note-2 : tie.Need-slice-aggregate-note-2 Inv-loop μ-loop
-slice-aggregate-note-2 c = sym (reading-lengths (c .before .before .before .before .before .before .before .loop .inv) .1)
-
 note-requires : tie.Need-note-requires Inv-loop μ-loop
 note-requires c κs = let s = c .before .before .before .before .before .before .before .loop .inv in let n = ahead (c .before .before .before .before) in let h = reading-lengths s in let z = c .before .before .if3 .left in (n .room, h .0, h .1, item-small s n z, item-value s n z)
 
 loop-less : tie.Need-loop-less Inv-loop μ-loop
-loop-less c = item-less (c .before .before .before .before .before .before .before .before .before .before .loop .inv) (ahead (c .before .before .before .before .before .before .before)) (c .before .before .before .before .before .if3 .left)
+loop-less c = item-less (c .before .before .before .before .before .before .before .before .loop .inv) (ahead (c .before .before .before .before .before)) (c .before .before .before .if3 .left)
 
 loop-again : tie.Need-loop-again Inv-loop μ-loop
-loop-again c = reading-on (c .before .before .before .before .before .before .before .before .before .before .loop .inv) (ahead (c .before .before .before .before .before .before .before)) (c .before .before .before .before .before .if3 .left) (c .before .before .note .ensures .0) (c .before .before .note .ensures .1)
+loop-again c = reading-on (c .before .before .before .before .before .before .before .before .loop .inv) (ahead (c .before .before .before .before .before)) (c .before .before .before .if3 .left) (c .note .ensures .0) (c .note .ensures .1)
 
 returns-4 : tie.Need-returns-4 Inv-loop μ-loop
 returns-4 c = let A = c .before .before .before .before .before .args in judged-end (A .f) (now (A .p)) (now (A .schema)) (c .before .before .if1 .left) (c .before .loop .inv) (c .loop-test .left)
@@ -55,5 +49,5 @@ pub judge-spec : {M : Type 1} → statement M
 judge-spec =
     tie.close
     (tie.spec Inv-loop μ-loop (λ c κs. search needs) returns loop-holds (λ c κs. search needs) (λ c κs. search needs) (λ c κs. search needs) returns-2
-    (λ c κs. search needs) (λ c κs. search needs) returns-3 slice-aggregate-note slice-aggregate-note-2 note-requires (λ c. search needs) loop-less
+    (λ c κs. search needs) (λ c κs. search needs) returns-3 note-requires (λ c. search needs) loop-less
     loop-again returns-4)

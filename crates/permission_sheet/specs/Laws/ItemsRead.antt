@@ -163,7 +163,7 @@ module _ {f : Format} {p : Bytes} {S : Schema} {count at : ℕ} {rights scopes :
   unfolding itemOf
   reading-types k l = s .took k l .type
 
-  reading-noted : PermissionsNoted f p (map (itemOf w p) (s .its)) (record { refusal = 0; count = count; rights = rights; scopes = scopes })
+  reading-noted : PermissionsNoted f p (map (itemOf w p) (s .its)) (record { refusal = 0; count = count }) rights scopes
   reading-noted =
       let n : length (map (itemOf w p) (s .its)) ≡ length (s .its) = length-map (s .its) (itemOf w p) in
       record {
@@ -183,7 +183,7 @@ module _ {f : Format} {p : Bytes} {S : Schema} {count at : ℕ} {rights scopes :
 -- ---- what is given
 
 module _ (f : Format) (p : Bytes) (schema : List ℕ) where
-  judged-refused : {n : ℕ} → permissionsOf f (schemaOf schema) p ≡ refuse n → (n ≡ 0 → ⊥) → PermissionsJudged f p schema (refused n)
+  judged-refused : {n : ℕ} {rights scopes : List ℕ} → permissionsOf f (schemaOf schema) p ≡ refuse n → (n ≡ 0 → ⊥) → PermissionsJudged f p schema (refused n) rights scopes
   judged-refused {n} e z = record {
     refusal = sym (ap refusalOf e);
     accepted = λ q. absurd (z q);
@@ -191,16 +191,16 @@ module _ (f : Format) (p : Bytes) (schema : List ℕ) where
     nothing = λ m q. let h : n ≡ m = cc in ap refused h;
   }
 
-  judged-accepted : {r : NotedItems} {is : List Item} → permissionsOf f (schemaOf schema) p ≡ accept is → PermissionsNoted f p is r → PermissionsJudged f p schema r
-  judged-accepted {r} {is} e n = record {
+  judged-accepted : {r : NotedItems} {rights scopes : List ℕ} {is : List Item} → permissionsOf f (schemaOf schema) p ≡ accept is → PermissionsNoted f p is r rights scopes → PermissionsJudged f p schema r rights scopes
+  judged-accepted {r} {rights} {scopes} {is} e n = record {
     refusal = n .refusal ∙ sym (ap refusalOf e);
     accepted = λ q. (is, e);
-    noted = λ js q. subst (λ (x : List Item). PermissionsNoted f p x r) (accepted-is (sym e ∙ q)) n;
+    noted = λ js q. subst (λ (x : List Item). PermissionsNoted f p x r rights scopes) (accepted-is (sym e ∙ q)) n;
     nothing = λ m q. absurd (refused-not m is (sym q ∙ e));
   }
 
   -- too long
-  pub judged-long : 65536 < length p → PermissionsJudged f p schema (refused 11)
+  pub judged-long : {rights scopes : List ℕ} → 65536 < length p → PermissionsJudged f p schema (refused 11) rights scopes
   unfolding permissionsOf
   judged-long h = judged-refused (rw (lt-ltb 65536 (length p) h)) (λ e. omega arith)
 
@@ -211,13 +211,13 @@ module _ (f : Format) (p : Bytes) (schema : List ℕ) where
 
     module _ {count at : ℕ} {rights scopes : List ℕ} (s : ItemsRead f p (schemaOf schema) count at rights scopes) where
       -- at the sheet's end
-      pub judged-end : length p ≤ at → PermissionsJudged f p schema (record { refusal = 0; count = count; rights = rights; scopes = scopes })
+      pub judged-end : length p ≤ at → PermissionsJudged f p schema (record { refusal = 0; count = count }) rights scopes
       judged-end l = judged-accepted (by-items (items-end s l)) (reading-noted s)
 
       -- over the count
-      pub judged-over : at < length p → 256 ≤ count → {n : ℕ} → n ≡ misplacedBy 10 (seenAt (permissionForms (f .top)) (f .width) p at) → PermissionsJudged f p schema (refused n)
+      pub judged-over : at < length p → 256 ≤ count → {n : ℕ} → n ≡ misplacedBy 10 (seenAt (permissionForms (f .top)) (f .width) p at) → PermissionsJudged f p schema (refused n) rights scopes
       judged-over g l e = rw e (judged-refused (by-items (items-over s g l)) (misplaced-some 10 (seenAt (permissionForms (f .top)) (f .width) p at)))
 
       -- at an item that is refused
-      pub judged-item : {i : ItemLines} → Ahead f p (schemaOf schema) count at i → (i .refusal ≡ 0 → ⊥) → PermissionsJudged f p schema (refused (i .refusal))
+      pub judged-item : {i : ItemLines} → Ahead f p (schemaOf schema) count at i → (i .refusal ≡ 0 → ⊥) → PermissionsJudged f p schema (refused (i .refusal)) rights scopes
       judged-item n z = judged-refused (by-items (item-refused s n z)) z
