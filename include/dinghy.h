@@ -11,7 +11,9 @@
 extern "C" {
 #endif
 
-/* Either refusal is 0 and the answer is the first length bytes of the buffer, or refusal says why there is none and length is 0. */
+/* Either refusal is 0 and the answer is the first length bytes of the buffer, or refusal says why there is none and length is 0. The answer is a
+   sheet. Column B of its first line, K 30, is the outcome: 0 a result, 1 noSuchObject, 2 insufficientAccessRights, 3 noSuchAttributeOrValue,
+   4 invalidAttributeSyntax, 5 aliasProblem (the name leads through more than eight aliases, as in a loop). docs/SHEETS.md has every kind of line. */
 struct dinghy_reply {
     uint64_t refusal;
     uint64_t length;
@@ -25,8 +27,8 @@ enum dinghy_refusal {
     /* the directory */
     DINGHY_DIRECTORY_TOO_LONG = 1, /* more than 65,536 bytes */
     DINGHY_DIRECTORY_FORM = 2,     /* a line not in form, or a kind or column not allowed */
-    DINGHY_DIRECTORY_ORDER = 3,    /* a line out of order, missing, or over a count */
-    DINGHY_DIRECTORY_VALUE = 4,    /* an unknown type, or a value outside its syntax */
+    DINGHY_DIRECTORY_ORDER = 3,    /* a line out of order, missing, or over a count; an alias without its target (K 36), or with a child */
+    DINGHY_DIRECTORY_VALUE = 4,    /* an unknown type, or a value outside its syntax, in an alias's target too */
     DINGHY_DIRECTORY_TWICE = 5,    /* siblings of one name, or one value twice in a type */
     DINGHY_DIRECTORY_NAMING = 6,   /* an entry does not hold its naming value */
 

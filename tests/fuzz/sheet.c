@@ -55,6 +55,14 @@ static void person(struct sheet *dir, unsigned parent, const char *name, const c
     sheet_line(dir, 3, 3, 0, 0, number);
 }
 
+/* An alias to a name whose parts are all alike. */
+static void alias(struct sheet *dir, const char *name, unsigned parts, const char *target) {
+    sheet_line(dir, 2, 0, 2, 1, name);
+    sheet_line(dir, 3, 2, 0, 0, name);
+    sheet_line(dir, 36, 0, parts, 0, "");
+    for (unsigned i = 0; i < parts; i++) sheet_line(dir, 9, 2, 0, 0, target);
+}
+
 static void directories_init(struct sheet *dir, size_t width) {
     for (int i = 0; i < DIRECTORIES; i++) sheet_init(&dir[i], width);
     /* 0 is empty. */
@@ -94,6 +102,22 @@ static void directories_init(struct sheet *dir, size_t width) {
     if (width == WIDE) sheet_line(&dir[6], 1, top, 1, 0, "");
     sheet_line(&dir[6], 2, 0, top, 0, "Ann");
     sheet_line(&dir[6], 3, top, 0, 0, "ann");
+    /* Aliases to an entry, to themselves, one to the next. */
+    three_types(&dir[8]);
+    alias(&dir[8], "Ann", 1, "bob");
+    person(&dir[8], 0, "Bob", "7");
+    person(&dir[8], 2, "Cid", "8");
+    person(&dir[8], 3, "Cid", "9");
+    alias(&dir[8], "Nobody", 8, "Cid");
+    three_types(&dir[9]);
+    alias(&dir[9], "Ann", 1, "1");
+    for (unsigned number = 1; number <= 9; number++) {
+        char name[8], next[8];
+        snprintf(name, sizeof name, "%u", number);
+        snprintf(next, sizeof next, "%u", number + 1);
+        alias(&dir[9], name, 1 + number % 2, next);
+    }
+    alias(&dir[9], "10", 1, "10");
     /* Of 65,536 bytes in nine columns. */
     three_types(&dir[7]);
     sheet_line(&dir[7], 2, 0, 1, 0, "0");

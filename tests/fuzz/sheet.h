@@ -32,7 +32,7 @@ size_t sheet_head(const struct sheet *sheet);
 void sheet_line(struct sheet *sheet, unsigned kind, unsigned a, unsigned b, unsigned c,
                 const char *bytes);
 
-#define DIRECTORIES 8
+#define DIRECTORIES 10
 #define PERMISSIONS 5
 #define REQUESTS 15
 

@@ -2,13 +2,12 @@
 use Prim.Native.Nat.{ℕ}
 use mathlib.Core.Bool.{Bool, _&&_, cond}
 use lib.Dec.{eqb}
-use Rattle.rules.specs.Sheet.{Bytes}
+use Rattle.rules.specs.Sheet.{Bytes, bit}
 use Rattle.rules.specs.Name.{Part, Name, allowed, equal}
 use Rattle.rules.specs.Directory.{Entry}
 use Rattle.rules.specs.Permission.{DiscloseOnError, Compare}
 use Rattle.rules.specs.Decision.{Setting, ofType, ofValue, granted}
 use Rattle.rules.specs.FilterItem.{holds}
-use Rattle.rules.specs.Answer.{bit}
 use Rattle.rules.specs.declared.Outcome.{Outcome}
 use Rattle.rules.specs.declared.Outcome.the-variants.{Result, InsufficientAccessRights, NoSuchAttributeOrValue, InvalidAttributeSyntax}
 use Rattle.answer_plan.specs.declared.Plan.{Plan}

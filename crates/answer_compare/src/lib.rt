@@ -27,6 +27,7 @@ ghost use Prim.Native.Nat.{ℕ, suc, _+_, _≤_, _<_};
 ghost use lib.Dec.{ltb};
 ghost use lib.ListN.{getD};
 ghost use Rattle.rules.specs.Sheet.{Bytes};
+ghost use Rattle.rules.specs.Sheet as Sheet;
 ghost use Rattle.rules.specs.Name.{part, Name, equal};
 ghost use Rattle.rules.specs.Directory.{Stored, blank, entryOf};
 ghost use Rattle.rules.specs.Permission.{Compare};
@@ -40,7 +41,7 @@ ghost use Rattle.rules.specs.declared.Found.the-variants.{At};
 ghost use Rattle.tables.specs.Book.{types, entries, schema, firstAt};
 ghost use Rattle.tables.specs.Held.{rankAt, bytesAt, typeAt};
 ghost use Rattle.tables.specs.World.{World, Known};
-ghost use Rattle.answer_plan.specs.Plan.{planned};
+ghost use Rattle.answer_plan.specs.Plan.{aliasesOf, planned};
 ghost use Rattle.answer_plan.specs.Sound.{Base, KnownBase, SoundPlan};
 ghost use Rattle.answer_compare.specs.Compare.{counts, heldOutcome, comparePlan};
 
@@ -130,7 +131,7 @@ fn equal_any(
 
 // 1 for true, 0 for false.
 fn bit(b: bool) -> u64
-    ensures { λ r. ⌜ r ≡ Answer.bit b ⌝ }
+    ensures { λ r. ⌜ r ≡ Sheet.bit b ⌝ }
 {
     if b {
         return 1;
@@ -193,7 +194,7 @@ fn compare_entry(
     missing: usize,
 ) -> Plan
     requires { ⌜ KnownBase (now d) (now p) (now book) (now held) (now sets) (At b) missing ⌝ }
-    ensures { λ r. ⌜ ((hits : List ℕ) → SoundPlan (entries (now (book .entry))) r hits) × ((σ : Setting) (es : List Stored) (n : Name) (s : Selection) (hits : List ℕ) → World σ es (now (d .entry)) (now (p .entry)) (now (book .entry)) (now (held .entry)) (now (sets .entry)) → Base σ es n (At b) missing → planned σ es s r hits ≡ Answer.answer σ (map entryOf es) n (Request.compare t (now (v .entry)))) ⌝ }
+    ensures { λ r. ⌜ ((hits : List ℕ) → SoundPlan (entries (now (book .entry))) r hits) × ((σ : Setting) (es : List Stored) (n : Name) (s : Selection) (hits : List ℕ) → World σ es (now (d .entry)) (now (p .entry)) (now (book .entry)) (now (held .entry)) (now (sets .entry)) → Base σ es n (At b) missing → planned σ es s r hits ≡ Answer.answer σ (map entryOf es) (aliasesOf σ es) n (Request.compare t (now (v .entry)))) ⌝ }
 {
     let opened = opening(sets, b, READ);
     if !is_result(opened) {
@@ -217,7 +218,7 @@ pub fn compare(
     target: Target,
 ) -> Plan
     requires { ⌜ KnownBase (now d) (now p) (now book) (now held) (now sets) (target .base) (target .missing) ⌝ }
-    ensures { λ r. ⌜ ((hits : List ℕ) → SoundPlan (entries (now (book .entry))) r hits) × ((σ : Setting) (es : List Stored) (n : Name) (s : Selection) (hits : List ℕ) → World σ es (now (d .entry)) (now (p .entry)) (now (book .entry)) (now (held .entry)) (now (sets .entry)) → Base σ es n (target .base) (target .missing) → planned σ es s r hits ≡ Answer.answer σ (map entryOf es) n (Request.compare t (now (v .entry)))) ⌝ }
+    ensures { λ r. ⌜ ((hits : List ℕ) → SoundPlan (entries (now (book .entry))) r hits) × ((σ : Setting) (es : List Stored) (n : Name) (s : Selection) (hits : List ℕ) → World σ es (now (d .entry)) (now (p .entry)) (now (book .entry)) (now (held .entry)) (now (sets .entry)) → Base σ es n (target .base) (target .missing) → planned σ es s r hits ≡ Answer.answer σ (map entryOf es) (aliasesOf σ es) n (Request.compare t (now (v .entry)))) ⌝ }
 {
     let base = target.base;
     match base {

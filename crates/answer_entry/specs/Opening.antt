@@ -7,7 +7,7 @@ use Rattle.rules.specs.Permission.{DiscloseOnError}
 use Rattle.rules.specs.Decision.{Setting, entry}
 use Rattle.tables.specs.Sets.{grantedAt}
 use Rattle.rules.specs.declared.Outcome.{Outcome}
-use Rattle.rules.specs.declared.Outcome.the-variants.{Result, NoSuchObject, InsufficientAccessRights, NoSuchAttributeOrValue, InvalidAttributeSyntax}
+use Rattle.rules.specs.declared.Outcome.the-variants.{Result, NoSuchObject, InsufficientAccessRights, NoSuchAttributeOrValue, InvalidAttributeSyntax, AliasProblem}
 use Rattle.answer_plan.specs.declared.Plan.{Plan}
 use Rattle.answer_plan.specs.Outcome.{absentPlan, refusedPlan}
 
@@ -22,3 +22,4 @@ withheldPlan op NoSuchObject missing = absentPlan op missing
 withheldPlan op InsufficientAccessRights missing = refusedPlan op InsufficientAccessRights
 withheldPlan op NoSuchAttributeOrValue missing = refusedPlan op NoSuchAttributeOrValue
 withheldPlan op InvalidAttributeSyntax missing = refusedPlan op InvalidAttributeSyntax
+withheldPlan op AliasProblem missing = refusedPlan op AliasProblem

@@ -25,7 +25,7 @@ ghost use Rattle.rules.specs.Request.{Selection};
 ghost use Rattle.rules.specs.Answer.{answer};
 ghost use Rattle.tables.specs.Book.{entries};
 ghost use Rattle.tables.specs.World.{World, Known};
-ghost use Rattle.answer_plan.specs.Plan.{planned};
+ghost use Rattle.answer_plan.specs.Plan.{aliasesOf, planned};
 ghost use Rattle.answer_plan.specs.Sound.{Base, KnownBase, SoundPlan};
 ghost use Rattle.answer_entry.specs.Passing.{Indices, passing, over};
 ghost use Rattle.answer_list.specs.Hits.{listedAt, listFound};
@@ -68,7 +68,7 @@ pub fn list(
     hits: &mut [usize; 256],
 ) -> Plan
     requires { ⌜ (length (now hits) ≡ 256) × ((d p : Bytes) × (held : List ℕ) × KnownBase d p (now book) held (now sets) (target .base) (target .missing)) ⌝ }
-    ensures { λ r. ⌜ SoundPlan (entries (now (book .entry))) r (now (hits .exit)) × ((σ : Setting) (es : List Stored) (d p : Bytes) (held : List ℕ) (n : Name) (s : Selection) → World σ es d p (now (book .entry)) held (now (sets .entry)) → Base σ es n (target .base) (target .missing) → planned σ es s r (now (hits .exit)) ≡ answer σ (map entryOf es) n (Request.list limit)) × ((σ : Setting) (es : List Stored) (d p : Bytes) (held : List ℕ) → World σ es d p (now (book .entry)) held (now (sets .entry)) → now (hits .exit) ≡ over (listFound σ es (target .base)) (now (hits .entry))) ⌝ }
+    ensures { λ r. ⌜ SoundPlan (entries (now (book .entry))) r (now (hits .exit)) × ((σ : Setting) (es : List Stored) (d p : Bytes) (held : List ℕ) (n : Name) (s : Selection) → World σ es d p (now (book .entry)) held (now (sets .entry)) → Base σ es n (target .base) (target .missing) → planned σ es s r (now (hits .exit)) ≡ answer σ (map entryOf es) (aliasesOf σ es) n (Request.list limit)) × ((σ : Setting) (es : List Stored) (d p : Bytes) (held : List ℕ) → World σ es d p (now (book .entry)) held (now (sets .entry)) → now (hits .exit) ≡ over (listFound σ es (target .base)) (now (hits .entry))) ⌝ }
 {
     let base = target.base;
     let Found::At(b) = base else {

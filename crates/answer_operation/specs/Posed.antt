@@ -1,7 +1,8 @@
--- A request put to the tables: what is noted of it, what it selects, and the name that it asks for.
+-- A request put to the tables: what is noted of it, and what it selects.
 use Prim.Native.Nat.{ℕ}
 use mathlib.Core.List.{List}
 use Rattle.rules.specs.Sheet.{Bytes}
+use Rattle.rules.specs.Name.{Name}
 use Rattle.rules.specs.Directory.{Stored}
 use Rattle.rules.specs.Decision.{Setting}
 use Rattle.rules.specs.Judge.{Grammar}
@@ -17,13 +18,16 @@ use Rattle.answer_choice.specs.Selected.{selectionOf}
 use Rattle.answer_entry.specs.declared.Target.{Target}
 
 -- the request `x` in a world, `G` being the grammar of requests
-pub record Posed (σ : Setting) (es : List Stored) (G : Grammar) (x : Request) (d p q : Bytes) (book held sets : List ℕ) (asked : Asked) (target : Target) (choice : Choice) : Type 0 where
+pub record Posed (σ : Setting) (es : List Stored) (G : Grammar) (x : Request) (d p q : Bytes) (book held sets : List ℕ) (asked : Asked) (choice : Choice) : Type 0 where
   pub world : World σ es d p book held sets
   pub noted : RequestNoted G (width book) q x asked
   pub chosen : Chooses (schema book) (selectionOf (x .operation)) choice
-  pub named : Base σ es (x .base) (target .base) (target .missing)
 
 -- some request is
-abbrev pub KnownRequest : Bytes → Bytes → Bytes → List ℕ → List ℕ → List ℕ → Asked → Target → Choice → Type 0
-KnownRequest d p q book held sets asked target choice =
-    (σ : Setting) × (es : List Stored) × (G : Grammar) × (x : Request) × Posed σ es G x d p q book held sets asked target choice
+abbrev pub KnownRequest : Bytes → Bytes → Bytes → List ℕ → List ℕ → List ℕ → Asked → Choice → Type 0
+KnownRequest d p q book held sets asked choice = (σ : Setting) × (es : List Stored) × (G : Grammar) × (x : Request) × Posed σ es G x d p q book held sets asked choice
+
+-- about some name
+abbrev pub KnownTarget : Bytes → Bytes → Bytes → List ℕ → List ℕ → List ℕ → Asked → Target → Choice → Type 0
+KnownTarget d p q book held sets asked target choice =
+    (σ : Setting) × (es : List Stored) × (G : Grammar) × (x : Request) × (n : Name) × Posed σ es G x d p q book held sets asked choice × Base σ es n (target .base) (target .missing)

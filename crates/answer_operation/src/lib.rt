@@ -1,13 +1,17 @@
-// The plan of the answer, by the operation that is asked for.
+// The plan of the answer, by the name and the operation that are asked for.
 use answer_compare::compare;
 use answer_entry::Target;
 use answer_list::list;
 use answer_plan::Choice;
 use answer_plan::Plan;
+use answer_plan::refused;
 use answer_read::read;
 use answer_search::Query;
 use answer_search::search;
+use answer_target::Resolved;
+use answer_target::target_of;
 use request_sheet::Asked;
+use rules::Outcome;
 use rules::operation;
 use tables::book::BOOK;
 use tables::held::HELD;
@@ -15,23 +19,25 @@ use tables::sets::SETS;
 ghost use mathlib.Core.Path.{_≡_};
 ghost use mathlib.Core.List.{List, map};
 ghost use lib.ListN.{length};
+ghost use Rattle.rules.specs.Name.{Name};
 ghost use Rattle.rules.specs.Directory.{Stored, entryOf};
 ghost use Rattle.rules.specs.Decision.{Setting};
 ghost use Rattle.rules.specs.Judge.{Grammar};
 ghost use Rattle.rules.specs.Request.{Request};
-ghost use Rattle.rules.specs.Answer.{answer};
+ghost use Rattle.rules.specs.Answer.{answer, answerTo};
+ghost use Rattle.rules.specs.Aliases.{resolved};
 ghost use Rattle.request_sheet.specs.Noted.{RequestNoted};
 ghost use Rattle.tables.specs.Book.{width, entries};
 ghost use Rattle.tables.specs.World.{World};
-ghost use Rattle.answer_plan.specs.Plan.{planned};
-ghost use Rattle.answer_plan.specs.Sound.{SoundPlan};
+ghost use Rattle.answer_plan.specs.Plan.{aliasesOf, planned};
+ghost use Rattle.answer_plan.specs.Sound.{Base, SoundPlan};
 ghost use Rattle.answer_choice.specs.Selected.{selectionOf};
 ghost use Rattle.answer_entry.specs.Passing.{over};
-ghost use Rattle.answer_operation.specs.Hits.{foundBy};
-ghost use Rattle.answer_operation.specs.Posed.{Posed, KnownRequest};
+ghost use Rattle.answer_operation.specs.Hits.{foundBy, foundFor};
+ghost use Rattle.answer_operation.specs.Posed.{Posed, KnownRequest, KnownTarget};
 
-// The plan of the answer; the indices of the entries that list and search find are noted in `hits`.
-pub fn plan_of(
+// The plan of the answer about the target; the indices of the entries that list and search find are noted in `hits`.
+fn plan_at(
     book: &[u64; BOOK],
     held: &[u64; HELD],
     sets: &[u64; SETS],
@@ -43,8 +49,8 @@ pub fn plan_of(
     choice: Choice,
     hits: &mut [usize; 256],
 ) -> Plan
-    requires { ⌜ KnownRequest (now d) (now p) (now q) (now book) (now held) (now sets) asked target choice × (length (now hits) ≡ 256) ⌝ }
-    ensures { λ r. ⌜ SoundPlan (entries (now (book .entry))) r (now (hits .exit)) × ((σ : Setting) (es : List Stored) (G : Grammar) (x : Request) → Posed σ es G x (now (d .entry)) (now (p .entry)) (now (q .entry)) (now (book .entry)) (now (held .entry)) (now (sets .entry)) asked target choice → planned σ es (selectionOf (x .operation)) r (now (hits .exit)) ≡ answer σ (map entryOf es) (x .base) (x .operation)) × ((σ : Setting) (es : List Stored) (G : Grammar) (x : Request) → World σ es (now (d .entry)) (now (p .entry)) (now (book .entry)) (now (held .entry)) (now (sets .entry)) → RequestNoted G (width (now (book .entry))) (now (q .entry)) x asked → now (hits .exit) ≡ over (foundBy σ es (target .base) (x .operation)) (now (hits .entry))) ⌝ }
+    requires { ⌜ KnownTarget (now d) (now p) (now q) (now book) (now held) (now sets) asked target choice × (length (now hits) ≡ 256) ⌝ }
+    ensures { λ r. ⌜ SoundPlan (entries (now (book .entry))) r (now (hits .exit)) × ((σ : Setting) (es : List Stored) (G : Grammar) (x : Request) (n : Name) → Posed σ es G x (now (d .entry)) (now (p .entry)) (now (q .entry)) (now (book .entry)) (now (held .entry)) (now (sets .entry)) asked choice → Base σ es n (target .base) (target .missing) → planned σ es (selectionOf (x .operation)) r (now (hits .exit)) ≡ answer σ (map entryOf es) (aliasesOf σ es) n (x .operation)) × ((σ : Setting) (es : List Stored) (G : Grammar) (x : Request) → World σ es (now (d .entry)) (now (p .entry)) (now (book .entry)) (now (held .entry)) (now (sets .entry)) → RequestNoted G (width (now (book .entry))) (now (q .entry)) x asked → now (hits .exit) ≡ over (foundBy σ es (target .base) (x .operation)) (now (hits .entry))) ⌝ }
 {
     if asked.operation == operation::READ {
         return read(book, held, sets, d, p, choice, target);
@@ -66,4 +72,27 @@ pub fn plan_of(
         edition,
     };
     search(book, held, sets, d, p, q, target, query, hits)
+}
+
+// The plan of the answer. The name that is asked for is replaced while it begins with an alias's (#105); from then on the target alone counts.
+pub fn plan_of(
+    book: &[u64; BOOK],
+    held: &[u64; HELD],
+    sets: &[u64; SETS],
+    d: &[u8],
+    p: &[u8],
+    q: &[u8],
+    asked: Asked,
+    choice: Choice,
+    hits: &mut [usize; 256],
+) -> Plan
+    requires { ⌜ KnownRequest (now d) (now p) (now q) (now book) (now held) (now sets) asked choice × (length (now hits) ≡ 256) ⌝ }
+    ensures { λ r. ⌜ SoundPlan (entries (now (book .entry))) r (now (hits .exit)) × ((σ : Setting) (es : List Stored) (G : Grammar) (x : Request) → Posed σ es G x (now (d .entry)) (now (p .entry)) (now (q .entry)) (now (book .entry)) (now (held .entry)) (now (sets .entry)) asked choice → (planned σ es (selectionOf (x .operation)) r (now (hits .exit)) ≡ answerTo σ (map entryOf es) (aliasesOf σ es) (x .base) (x .operation)) × (now (hits .exit) ≡ over (foundFor σ es (resolved (σ .schema) (aliasesOf σ es) (x .base)) (x .operation)) (now (hits .entry)))) ⌝ }
+{
+    match target_of(book, sets, d, q, asked.base, asked.base_parts) {
+        Resolved::Target(target) => {
+            plan_at(book, held, sets, d, p, q, asked, target, choice, hits)
+        }
+        Resolved::AliasProblem => refused(asked.operation, Outcome::AliasProblem),
+    }
 }

@@ -2,7 +2,7 @@
 use Prim.Native.Nat.{ℕ}
 use mathlib.Core.Bool.{Bool, true, false}
 use Rattle.rules.specs.declared.Outcome.{Outcome}
-use Rattle.rules.specs.declared.Outcome.the-variants.{Result, NoSuchObject, InsufficientAccessRights, NoSuchAttributeOrValue, InvalidAttributeSyntax}
+use Rattle.rules.specs.declared.Outcome.the-variants.{Result, NoSuchObject, InsufficientAccessRights, NoSuchAttributeOrValue, InvalidAttributeSyntax, AliasProblem}
 use Rattle.answer_plan.specs.declared.Plan.{Plan}
 
 abbrev pub isResult : Outcome → Bool
@@ -11,6 +11,7 @@ isResult NoSuchObject = false
 isResult InsufficientAccessRights = false
 isResult NoSuchAttributeOrValue = false
 isResult InvalidAttributeSyntax = false
+isResult AliasProblem = false
 
 -- `missing` being the number of the entry with the matched name
 abbrev pub absentPlan : ℕ → ℕ → Plan

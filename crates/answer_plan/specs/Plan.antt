@@ -5,18 +5,23 @@ use mathlib.Core.List.{List, [], _∷_, _++_}
 use lib.Dec.{eqb}
 use lib.ListN.{getD, take}
 use Rattle.rules.specs.Lists.{gather}
-use Rattle.rules.specs.Sheet.{Line, line}
-use Rattle.rules.specs.Directory.{Stored, blank, nameAt, entryOf}
+use Rattle.rules.specs.Sheet.{Line, line, bit}
+use Rattle.rules.specs.Directory.{Stored, blank, nameAt, entryOf, isAlias, Alias, aliases}
 use Rattle.rules.specs.Decision.{Setting}
 use Rattle.rules.specs.Request.{Selection}
 use Rattle.rules.specs.declared.Outcome.{Outcome}
-use Rattle.rules.specs.declared.Outcome.the-variants.{Result, NoSuchObject, InsufficientAccessRights, NoSuchAttributeOrValue, InvalidAttributeSyntax}
-use Rattle.rules.specs.Answer.{outcomeNumber, nameLines, entryLines, information}
+use Rattle.rules.specs.declared.Outcome.the-variants.{Result, NoSuchObject, InsufficientAccessRights, NoSuchAttributeOrValue, InvalidAttributeSyntax, AliasProblem}
+use Rattle.rules.specs.Judge.{nameLines}
+use Rattle.rules.specs.Answer.{outcomeNumber, entryLines, information}
 use Rattle.answer_plan.specs.declared.Plan.{Plan}
 
--- K 32: the entry of index `k` as a child
+-- the aliases among the entries
+abbrev pub aliasesOf : Setting → List Stored → List Alias
+aliasesOf σ es = aliases (record { schema = σ .schema; entries = es })
+
+-- K 32: the entry of index `k` as a child, C 1 marking an alias
 unfoldable pub childLines : List Stored → ℕ → List Line
-childLines es k = line 32 (getD es k blank .naming .type) 0 0 (getD es k blank .naming .value) ∷ []
+childLines es k = line 32 (getD es k blank .naming .type) 0 (bit (isAlias (getD es k blank .target))) (getD es k blank .naming .value) ∷ []
 
 module _ (σ : Setting) (es : List Stored) (s : Selection) where
   -- what is returned of the entry number `e`; the root, 0, has nothing
@@ -43,6 +48,7 @@ module _ (σ : Setting) (es : List Stored) (s : Selection) where
   followed r hits InsufficientAccessRights = []
   followed r hits NoSuchAttributeOrValue = []
   followed r hits InvalidAttributeSyntax = []
+  followed r hits AliasProblem = []
 
   -- the whole answer; `hits` are the indices of the entries found
   unfoldable pub planned : Plan → List ℕ → List Line

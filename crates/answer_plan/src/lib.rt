@@ -71,6 +71,7 @@ pub fn is_result(outcome: Outcome) -> bool
         Outcome::InsufficientAccessRights => false,
         Outcome::NoSuchAttributeOrValue => false,
         Outcome::InvalidAttributeSyntax => false,
+        Outcome::AliasProblem => false,
     }
 }
 

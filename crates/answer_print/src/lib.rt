@@ -48,6 +48,7 @@ fn outcome_number(outcome: Outcome) -> u64
         Outcome::InsufficientAccessRights => 2,
         Outcome::NoSuchAttributeOrValue => 3,
         Outcome::InvalidAttributeSyntax => 4,
+        Outcome::AliasProblem => 5,
     }
 }
 
@@ -126,6 +127,7 @@ pub fn print(
         Outcome::InsufficientAccessRights => next,
         Outcome::NoSuchAttributeOrValue => next,
         Outcome::InvalidAttributeSyntax => next,
+        Outcome::AliasProblem => next,
     }
 }
 

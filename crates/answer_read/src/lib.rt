@@ -42,7 +42,7 @@ ghost use Rattle.tables.specs.Book.{entries, schema, firstAt};
 ghost use Rattle.tables.specs.Held.{rankAt, bytesAt, typeAt};
 ghost use Rattle.tables.specs.World.{World, Known};
 ghost use Rattle.answer_plan.specs.Choice.{Chooses, KnownChoice, KnownChoiceAt};
-ghost use Rattle.answer_plan.specs.Plan.{planned};
+ghost use Rattle.answer_plan.specs.Plan.{aliasesOf, planned};
 ghost use Rattle.answer_plan.specs.Sound.{Base, KnownBase, SoundPlan};
 ghost use Rattle.answer_read.specs.Read.{readable, disclosing, readOutcome, readPlan};
 
@@ -215,7 +215,7 @@ fn read_entry(
     missing: usize,
 ) -> Plan
     requires { ⌜ KnownBase (now d) (now p) (now book) (now held) (now sets) (At b) missing × KnownChoice (schema (now book)) choice ⌝ }
-    ensures { λ r. ⌜ ((hits : List ℕ) → SoundPlan (entries (now (book .entry))) r hits) × ((σ : Setting) (es : List Stored) (n : Name) (s : Selection) (hits : List ℕ) → World σ es (now (d .entry)) (now (p .entry)) (now (book .entry)) (now (held .entry)) (now (sets .entry)) → Chooses (schema (now (book .entry))) s choice → Base σ es n (At b) missing → planned σ es s r hits ≡ Answer.answer σ (map entryOf es) n (Request.read s)) ⌝ }
+    ensures { λ r. ⌜ ((hits : List ℕ) → SoundPlan (entries (now (book .entry))) r hits) × ((σ : Setting) (es : List Stored) (n : Name) (s : Selection) (hits : List ℕ) → World σ es (now (d .entry)) (now (p .entry)) (now (book .entry)) (now (held .entry)) (now (sets .entry)) → Chooses (schema (now (book .entry))) s choice → Base σ es n (At b) missing → planned σ es s r hits ≡ Answer.answer σ (map entryOf es) (aliasesOf σ es) n (Request.read s)) ⌝ }
 {
     let opened = opening(sets, b, READ);
     if !is_result(opened) {
@@ -238,7 +238,7 @@ pub fn read(
     target: Target,
 ) -> Plan
     requires { ⌜ KnownBase (now d) (now p) (now book) (now held) (now sets) (target .base) (target .missing) × KnownChoice (schema (now book)) choice ⌝ }
-    ensures { λ r. ⌜ ((hits : List ℕ) → SoundPlan (entries (now (book .entry))) r hits) × ((σ : Setting) (es : List Stored) (n : Name) (s : Selection) (hits : List ℕ) → World σ es (now (d .entry)) (now (p .entry)) (now (book .entry)) (now (held .entry)) (now (sets .entry)) → Chooses (schema (now (book .entry))) s choice → Base σ es n (target .base) (target .missing) → planned σ es s r hits ≡ Answer.answer σ (map entryOf es) n (Request.read s)) ⌝ }
+    ensures { λ r. ⌜ ((hits : List ℕ) → SoundPlan (entries (now (book .entry))) r hits) × ((σ : Setting) (es : List Stored) (n : Name) (s : Selection) (hits : List ℕ) → World σ es (now (d .entry)) (now (p .entry)) (now (book .entry)) (now (held .entry)) (now (sets .entry)) → Chooses (schema (now (book .entry))) s choice → Base σ es n (target .base) (target .missing) → planned σ es s r hits ≡ Answer.answer σ (map entryOf es) (aliasesOf σ es) n (Request.read s)) ⌝ }
 {
     let base = target.base;
     match base {

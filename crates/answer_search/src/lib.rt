@@ -45,7 +45,7 @@ ghost use Rattle.rules.specs.Numbers.{withinNumber};
 ghost use Rattle.tables.specs.Book.{width, entries};
 ghost use Rattle.tables.specs.Book as Book;
 ghost use Rattle.tables.specs.World.{World, Known, Entries};
-ghost use Rattle.answer_plan.specs.Plan.{planned};
+ghost use Rattle.answer_plan.specs.Plan.{aliasesOf, planned};
 ghost use Rattle.answer_plan.specs.Sound.{Base, KnownBase, SoundPlan};
 ghost use Rattle.answer_entry.specs.Passing.{Indices, passing, over};
 ghost use Rattle.filter_lines.specs.Lines.{LINES, LinesNoted, Typed, positionAt};
@@ -172,7 +172,7 @@ pub fn search(
     hits: &mut [usize; 256],
 ) -> Plan
     requires { ⌜ KnownBase (now d) (now p) (now book) (now held) (now sets) (target .base) (target .missing) × (length (now hits) ≡ 256) × (length (now q) ≤ (5 * width (now book) + 1) * LINES) × KnownQuery (width (now book)) (now q) query ⌝ }
-    ensures { λ r. ⌜ SoundPlan (entries (now (book .entry))) r (now (hits .exit)) × ((σ : Setting) (es : List Stored) (g : Grammar) (n : Name) (s : Search) → World σ es (now (d .entry)) (now (p .entry)) (now (book .entry)) (now (held .entry)) (now (sets .entry)) → Base σ es n (target .base) (target .missing) → Seeks g (width (now (book .entry))) (now (q .entry)) s query → planned σ es (s .selection) r (now (hits .exit)) ≡ answer σ (map entryOf es) n (Request.search s)) × ((σ : Setting) (es : List Stored) (g : Grammar) (s : Search) → World σ es (now (d .entry)) (now (p .entry)) (now (book .entry)) (now (held .entry)) (now (sets .entry)) → Seeks g (width (now (book .entry))) (now (q .entry)) s query → now (hits .exit) ≡ over (searchFound σ es s (target .base)) (now (hits .entry))) ⌝ }
+    ensures { λ r. ⌜ SoundPlan (entries (now (book .entry))) r (now (hits .exit)) × ((σ : Setting) (es : List Stored) (g : Grammar) (n : Name) (s : Search) → World σ es (now (d .entry)) (now (p .entry)) (now (book .entry)) (now (held .entry)) (now (sets .entry)) → Base σ es n (target .base) (target .missing) → Seeks g (width (now (book .entry))) (now (q .entry)) s query → planned σ es (s .selection) r (now (hits .exit)) ≡ answer σ (map entryOf es) (aliasesOf σ es) n (Request.search s)) × ((σ : Setting) (es : List Stored) (g : Grammar) (s : Search) → World σ es (now (d .entry)) (now (p .entry)) (now (book .entry)) (now (held .entry)) (now (sets .entry)) → Seeks g (width (now (book .entry))) (now (q .entry)) s query → now (hits .exit) ≡ over (searchFound σ es s (target .base)) (now (hits .entry))) ⌝ }
 {
     let base = target.base;
     let Found::At(b) = base else {

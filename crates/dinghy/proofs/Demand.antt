@@ -1,10 +1,11 @@
 -- What is promised of what runs: every entry meets its contract, that is, a call returns `replyOf` and leaves `leftOf` of the verdict that the rules
--- give; and what is proved of these verdicts: demand 3 in either form, what #109 claims of moves and of the two forms, and #106 of the order of what a search finds.
+-- give; and what is proved of these verdicts: demand 3 in either form, what #105 claims of aliases, #109 of moves and of the two forms,
+-- and #106 of the order of what a search finds.
 use mathlib.Core.Bool.{Bool}
 use Rattle.rules.specs.Sheet.{narrow, formatOf}
 use Rattle.rules.specs.Serve.{exchange, panel}
-use Rattle.rules.specs.Theorems.{PrintedBack, RoundTrip, MovedAccepted, BackAgain, FormsAlike, Permuted, InOrder, Stable, SmallestKey}
-use Rattle.rules.specs.Laws.Theorems.{printed-back, round-trip, moved-accepted, back-again, forms-alike, permuted, in-order, stable, smallest-key}
+use Rattle.rules.specs.Theorems.{PrintedBack, RoundTrip, MovedAccepted, BackAgain, FormsAlike, ResolvedAlike, LongAbsent, Permuted, InOrder, Stable, SmallestKey}
+use Rattle.rules.specs.Laws.Theorems.{printed-back, round-trip, moved-accepted, back-again, forms-alike, resolved-alike, long-absent, permuted, in-order, stable, smallest-key}
 use Rattle.dinghy.specs.Alike.{AnswersAlike, answers-alike}
 use Rattle.dinghy.proofs.dinghy_serve.Statement as exchange-entry
 use Rattle.dinghy.proofs.dinghy_serve.Met as exchange-met
@@ -35,6 +36,9 @@ pub record Demand (M : Type 1) : Type 2 where
   pub moved-accepted : MovedAccepted
   pub back-again : BackAgain
   pub forms-alike : FormsAlike
+  -- #105
+  pub resolved-alike : ResolvedAlike
+  pub long-absent : LongAbsent
   -- #106
   pub permuted : Permuted
   pub in-order : InOrder
@@ -56,6 +60,8 @@ demand {M} = record {
   moved-accepted = moved-accepted;
   back-again = back-again;
   forms-alike = forms-alike;
+  resolved-alike = resolved-alike;
+  long-absent = long-absent;
   permuted = permuted;
   in-order = in-order;
   stable = stable;

@@ -27,7 +27,7 @@ filled w r b =
     let counts = set (set (set b 0 w) 1 (r .types)) 2 n in
     let types = put counts 8 (r .schema) (r .types) in
     let entries = put (put (put (put types 72 (placesOf w (r .at)) n) 328 (r .parents) n) 584 (r .naming) n) 840 (r .lengths) n in
-    put entries 1096 (r .first) (n + 1)
+    put (put entries 1096 (r .first) (n + 1)) 1353 (r .targets) n
 
 -- the notes are of an accepted directory
 abbrev pub OfDirectory : Format → Notes → Type 0

@@ -10,6 +10,7 @@ use tables::book::NAMING;
 use tables::book::PARENT;
 use tables::book::PLACE;
 use tables::book::SCHEMA;
+use tables::book::TARGET;
 use tables::book::TYPES;
 use tables::book::WIDTH;
 ghost use mathlib.Core.Path.{_≡_};
@@ -71,4 +72,5 @@ pub fn note(f: Format, notes: Notes, book: &mut [u64; BOOK])
     put_numbers(book, NAMING, &notes.naming, count);
     put_sizes(book, LENGTH, &notes.lengths, count);
     put_sizes(book, FIRST, &notes.first, count + 1);
+    put_numbers(book, TARGET, &notes.targets, count);
 }

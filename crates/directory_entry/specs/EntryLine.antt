@@ -3,8 +3,9 @@ use Prim.Native.Nat.{ℕ}
 use mathlib.Core.Bool.{Bool, cond}
 use mathlib.Core.List.{List}
 use lib.Dec.{eqb, leb, ltb}
-use lib.ListN.{getD}
+use lib.ListN.{length, getD}
 use Rattle.rules.specs.Sheet.{Bytes}
+use Rattle.rules.specs.Directory.{Stored, nameAt, underAlias}
 use Rattle.sheet_line.specs.declared.Line.{Line}
 use Rattle.directory_schema.specs.Lines.{columnsFit}
 use Rattle.directory_ruling.specs.Mark.{Mark}
@@ -14,6 +15,10 @@ use Rattle.directory_ruling.specs.Rulings.{refusing, ruledOf}
 -- how many depths are kept: of the root, which is 0, and of 256 entries
 abbrev pub depthCount : ℕ
 depthCount = 257
+
+-- the depth of entry number `k`, and 8 for an alias: below either there is no room
+abbrev pub levelOf : List Stored → ℕ → ℕ
+levelOf es k = cond (underAlias es k) 8 (length (nameAt es k))
 
 -- an entry line by the tests of its parent's number, of the entry before it, of the count and of its depth
 abbrev pub placeNumber : Bool → Bool → Bool → Bool → ℕ

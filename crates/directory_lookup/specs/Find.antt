@@ -28,6 +28,11 @@ UpTo n Nothing = Unit {0}
 unfoldable pub isChild : List ℕ → Bytes → ℕ → ℕ → ℕ → ℕ → Bytes → Bool
 isChild book d k parent t s v = eqb (parentAt book k) parent && (eqb t (namingAt book k) && equalBy s v (namingOf book d k))
 
+-- by the child found
+abbrev pub byChild : {A : Type 0} → A → (ℕ → A) → Found → A
+byChild lost to (At k) = to k
+byChild lost to Nothing = lost
+
 -- ---- one part down
 
 -- a step leads to a number of at most `n`

@@ -30,6 +30,7 @@ pub record Sized (ks : List ℕ) (notes : Notes) (depths : List ℕ) : Type 0 wh
   pub naming : length (notes .naming) ≡ 256
   pub lengths : length (notes .lengths) ≡ 256
   pub first : length (notes .first) ≡ FIRST-ROWS
+  pub targets : length (notes .targets) ≡ 256
   pub levels : length depths ≡ depthCount
 
 -- the refusal where no line stands; 0 at the sheet's end, if the last entry does not lack its naming value

@@ -4,16 +4,17 @@ use Prim.Native.Nat.{ℕ, _+_, _*_, _≤_, _<_}
 use mathlib.Core.Path.{_≡_}
 use mathlib.Core.List.{List}
 use lib.ListN.{length, getD, take, drop, replicate}
-use Rattle.rules.specs.Sheet.{Bytes, frontOf, valueOf}
+use Rattle.rules.specs.Sheet.{Bytes, bit, frontOf, valueOf}
 use Rattle.rules.specs.declared.Format.{Format}
 use Rattle.rules.specs.Judge.{accept, refuse, refusalOf}
-use Rattle.rules.specs.Directory.{Stored, blank, Directory, directoryOf}
+use Rattle.rules.specs.Directory.{Stored, blank, isAlias, Directory, directoryOf}
 use Rattle.rules.specs.Places.{schemaOf, linesAt, valuesOf}
 use Rattle.rules.specs.declared.Front.the-variants.{Taken}
 use Rattle.directory_schema.specs.Schema.{Rising}
 use Rattle.directory_schema.specs.Zeros.{ZerosFrom}
 use Rattle.tables.specs.Book.{FIRST-ROWS}
 use Rattle.tables.specs.Held.{ROWS, HELD, noneHeld, HeldAt}
+use Rattle.tables.specs.World.{TargetAt}
 use Rattle.directory_values.specs.Rows.{RowKept}
 use Rattle.directory_sheet.specs.declared.Notes.{Notes}
 
@@ -29,6 +30,7 @@ nothingNoted n = record {
   naming = replicate 256 0;
   lengths = replicate 256 0;
   first = replicate FIRST-ROWS 0;
+  targets = replicate 256 0;
 }
 
 -- the columns are 0 after what is noted
@@ -39,19 +41,21 @@ pub record NothingAfter (r : Notes) : Type 0 where
   pub naming : ZerosFrom (r .count) (r .naming)
   pub lengths : ZerosFrom (r .count) (r .lengths)
   pub first : ZerosFrom (r .count + 1) (r .first)
+  pub targets : ZerosFrom (r .count) (r .targets)
 
 -- no value is held from row `end` on
 abbrev pub NoneFrom : ℕ → List ℕ → Type 0
 NoneFrom end held = (i : ℕ) → end ≤ i → i < ROWS → RowKept noneHeld held i
 
 -- an entry by the numbers noted of it, the first of them the position of its K 2 line
-pub record EntryNoted (w : ℕ) (s : Bytes) (e : Stored) (at parent naming size : ℕ) : Type 0 where
-  pub line : frontOf w (drop at s) ≡ Taken 2 (e .parent) (e .naming .type) 0 size
+pub record EntryNoted (w : ℕ) (s : Bytes) (e : Stored) (at parent naming size target : ℕ) : Type 0 where
+  pub line : frontOf w (drop at s) ≡ Taken 2 (e .parent) (e .naming .type) (bit (isAlias (e .target))) size
   pub value : valueOf w size (drop at s) ≡ e .naming .value
   pub within : at + (5 * w + 1 + size) ≤ length s
   pub values : valuesOf (linesAt w s (at + (5 * w + 1 + size))) ≡ e .values
   pub above : parent ≡ e .parent
   pub type : naming ≡ e .naming .type
+  pub leads : TargetAt w s (e .target) target
 
 -- the notes of the directory `d`, and the rows of its values
 pub record DirectoryNoted (w : ℕ) (s : Bytes) (d : Directory) (r : Notes) (held : List ℕ) : Type 0 where
@@ -66,9 +70,10 @@ pub record DirectoryNoted (w : ℕ) (s : Bytes) (d : Directory) (r : Notes) (hel
   pub naming-length : length (r .naming) ≡ 256
   pub lengths-length : length (r .lengths) ≡ 256
   pub first-length : length (r .first) ≡ FIRST-ROWS
+  pub targets-length : length (r .targets) ≡ 256
   pub held-length : length held ≡ HELD
   pub entry : (k : ℕ) → k < r .count
-      → EntryNoted w s (getD (d .entries) k blank) (getD (r .at) k 0) (getD (r .parents) k 0) (getD (r .naming) k 0) (getD (r .lengths) k 0)
+      → EntryNoted w s (getD (d .entries) k blank) (getD (r .at) k 0) (getD (r .parents) k 0) (getD (r .naming) k 0) (getD (r .lengths) k 0) (getD (r .targets) k 0)
   pub start : getD (r .first) 0 0 ≡ 0
   pub values : (k : ℕ) → k < r .count
       → HeldAt (take (r .types) (r .schema)) s (getD (d .entries) k blank .values) held (getD (r .first) k 0) (getD (r .first) (k + 1) 0)

@@ -1,5 +1,6 @@
 // The directory sheet judged line by line: the refusal that the rules give, or 0 with what later steps need of the sheet,
-// noted on the way: the schema as numbers, each entry line's position, parent, naming type and length, and the values that each entry holds.
+// noted on the way: the schema as numbers, each entry line's position, parent, naming type and length, the values that each entry holds, and
+// where the target of an alias stands.
 use directory_entry::DEPTHS;
 use directory_ruling::MARKS;
 use rules::Format;
@@ -8,12 +9,15 @@ use sheet_line::Taken;
 use tables::book::FIRST_ROWS;
 use tables::held::HELD;
 ghost use mathlib.Core.Path.{_≡_};
+ghost use mathlib.Core.Bool.{cond};
+ghost use Prim.Native.Nat.{_+_, _<_};
 ghost use Rattle.rules.specs.Sheet.{Usable};
 ghost use Rattle.tables.specs.Held.{noneHeld};
 ghost use Rattle.directory_sheet.specs.Judged.{nothingNoted, DirectoryJudged};
 ghost use Rattle.directory_sheet.specs.Entries.{Opened, endNumber};
 
-// The refusal or 0, and what is noted; `first` has the row of each entry's first value, and then the row after the last value.
+// The refusal or 0, and what is noted; `first` has the row of each entry's first value, and then the row after the last value; `targets` has 0, or where
+// the K 9 lines of an alias's target begin, times 16, and how many they are.
 pub struct Notes {
     pub refusal: u64,
     pub types: usize,
@@ -24,6 +28,7 @@ pub struct Notes {
     pub naming: [u64; 256],
     pub lengths: [usize; 256],
     pub first: [usize; FIRST_ROWS],
+    pub targets: [u64; 256],
 }
 
 // Nothing noted, with a refusal or 0.
@@ -40,6 +45,7 @@ fn blank(refusal: u64) -> Notes
         naming: [0; 256],
         lengths: [0; 256],
         first: [0; FIRST_ROWS],
+        targets: [0; 256],
     }
 }
 
@@ -65,6 +71,17 @@ fn ended(taken: Taken, lacks: bool) -> u64
             0
         }
     }
+}
+
+// The depth of an entry below one of depth `above`; 8 for an alias, since it has no children.
+fn level(above: usize, alias: bool) -> usize
+    requires { ⌜ above < 8 ⌝ }
+    ensures { λ r. ⌜ r ≡ cond alias 8 (above + 1) ⌝ }
+{
+    if alias {
+        return 8;
+    }
+    above + 1
 }
 
 // The entries, from the line `first` at `from` on.
@@ -110,16 +127,30 @@ fn entries(
         if run.refusal != 0 {
             return refused(run.refusal, held);
         }
+        let alias = line.c == 1;
+        let next = run.taken;
+        let last = directory_target::Last {
+            number: count + 1,
+            alias,
+            lacks: !run.found,
+            at: run.at,
+            taken: next,
+        };
+        let t = directory_target::target(s, f, schema, last);
+        if t.refusal != 0 {
+            return refused(t.refusal, held);
+        }
         let p = line.a as usize;
         notes.at[count] = at;
         notes.parents[count] = p;
         notes.naming[count] = line.b;
         notes.lengths[count] = line.length;
         notes.first[count + 1] = run.to;
+        notes.targets[count] = t.target;
         notes.count = count + 1;
-        depths[count + 1] = depths[p] + 1;
-        at = run.at;
-        taken = run.taken;
+        depths[count + 1] = level(depths[p], alias);
+        at = t.at;
+        taken = t.taken;
         n = run.marks;
         lacks = !run.found;
     }

@@ -10,7 +10,7 @@ use Rattle.rules.specs.Sheet.{Bytes, Usable}
 use Rattle.rules.specs.declared.Format.{Format}
 use Rattle.rules.specs.Name.{Part, part, allowed, samePart}
 use Rattle.rules.specs.Judge.{refuse}
-use Rattle.rules.specs.Directory.{Stored, Reading, withValues}
+use Rattle.rules.specs.Directory.{Stored, Reading, isUnread, withValues}
 use Rattle.rules.specs.Places.{linesAt, valuesOf, schemaOf}
 use Rattle.sheet_line.specs.declared.Line.{Line}
 use Rattle.sheet_line.specs.declared.Taken.the-variants as Taken
@@ -36,6 +36,7 @@ pub record Begun (f : Format) (s : Bytes) (ks table held : List ℕ) (n : ℕ) (
   pub type : e .line .b ≡ d .naming .type
   pub value : bytesOf s (e .line) ≡ d .naming .value
   pub fit : allowed (schemaOf ks) (d .naming .type) (d .naming .value) ≡ true
+  pub unread : isUnread (d .target) ≡ true
   pub bytes : e .line .place + e .line .length ≤ length s
   pub within : e .line .next ≤ length s
   pub space : 31 * n ≤ e .line .next

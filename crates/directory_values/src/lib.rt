@@ -7,7 +7,7 @@ use directory_ruling::refusing;
 use directory_ruling::ruled;
 use rules::Format;
 use rules::refusal;
-use sheet_form::columns::directory_columns;
+use sheet_form::columns::value_columns;
 use sheet_kind::Kind;
 use sheet_kind::is;
 use sheet_line::Line;
@@ -22,6 +22,8 @@ ghost use lib.Dec.{eqb};
 ghost use lib.ListN.{length, getD};
 ghost use Rattle.rules.specs.Value as Value;
 ghost use Rattle.sheet_line.specs.Line.{bytesOf};
+ghost use Rattle.sheet_kind.specs.Kinds.{numberOf};
+ghost use Rattle.sheet_kind.specs.declared.Kind.the-variants as Kinds;
 ghost use Rattle.directory_schema.specs.Schema.{rankOf};
 ghost use Rattle.tables.specs.Held.{ROWS, HELD};
 ghost use Rattle.directory_ruling.specs.Rulings.{ValueSought, Decides};
@@ -61,10 +63,10 @@ fn value_line(
     from: usize,
     line: Line,
 ) -> Ruling
-    requires { ⌜ ValueSought (now s) (now schema) (now marks) line × (number ≤ 256) × (from ≤ rankOf (now schema) last) ⌝ }
+    requires { ⌜ ValueSought (now s) (now schema) (now marks) line × (number ≤ 256) × (from ≤ rankOf (now schema) last) × (line .kind ≡ numberOf Kinds.Value) ⌝ }
     ensures { λ r. ⌜ Decides (now (s .entry)) (now (schema .entry)) (now (marks .entry)) (valueRuling top number last line) r ⌝ }
 {
-    if !directory_columns(line, top) {
+    if !value_columns(line, top) {
         return refusing(refusal::NOT_ALLOWED);
     }
     if line.a < last {

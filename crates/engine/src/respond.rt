@@ -6,13 +6,10 @@ use access_covers::note_rights;
 use access_scope::Requester;
 use access_scope::reach_all;
 use answer_choice::choice_of;
-use answer_entry::Target;
-use answer_matched::matched;
 use answer_operation::plan_of;
 use answer_print::write;
 use answer_reply::Reply;
 use answer_reply::refused;
-use directory_lookup::find::resolve;
 use request_sheet::Asked;
 use tables::book::BOOK;
 use tables::book::parents;
@@ -28,7 +25,7 @@ ghost use Rattle.rules.specs.Judge.{Grammar};
 ghost use Rattle.rules.specs.Directory.{Stored, entryOf};
 ghost use Rattle.rules.specs.Decision.{Setting};
 ghost use Rattle.rules.specs.Request.{Request};
-ghost use Rattle.rules.specs.Answer.{answer};
+ghost use Rattle.rules.specs.Answer.{answerTo};
 ghost use Rattle.rules.specs.Serve.{Ground, fitting};
 ghost use Rattle.answer_reply.specs.Reply.{Replies};
 ghost use Rattle.request_sheet.specs.Noted.{RequestNoted};
@@ -38,6 +35,7 @@ ghost use Rattle.tables.specs.Book as Book;
 ghost use Rattle.tables.specs.Sets as Sets;
 ghost use Rattle.tables.specs.World.{World, Entries, Known};
 ghost use Rattle.access_scope.specs.Scopes.{Asker};
+ghost use Rattle.answer_plan.specs.Plan.{aliasesOf};
 ghost use Rattle.access_items.specs.Sorted.{Sorted};
 ghost use Rattle.engine.specs.Serve.{fromGround};
 ghost use Rattle.engine.specs.Judges.{GroundAt};
@@ -54,15 +52,11 @@ fn respond(
     asked: Asked,
 ) -> Reply
     requires { ⌜ Known (now d) (now p) (now book) (now held) (now sets) × ((G : Grammar) × (x : Request) × RequestNoted G (width (now book)) (now q) x asked) ⌝ }
-    ensures { λ r. ⌜ ((σ : Setting) (es : List Stored) (G : Grammar) (x : Request) → World σ es (now (d .entry)) (now (p .entry)) (now (book .entry)) (now (held .entry)) (now (sets .entry)) → RequestNoted G (width (now (book .entry))) (now (q .entry)) x asked → Replies (fitting (length (now (out .entry))) (print (width (now (book .entry))) (answer σ (map entryOf es) (x .base) (x .operation)))) (now (out .entry)) r (now (out .exit))) ⌝ }
+    ensures { λ r. ⌜ ((σ : Setting) (es : List Stored) (G : Grammar) (x : Request) → World σ es (now (d .entry)) (now (p .entry)) (now (book .entry)) (now (held .entry)) (now (sets .entry)) → RequestNoted G (width (now (book .entry))) (now (q .entry)) x asked → Replies (fitting (length (now (out .entry))) (print (width (now (book .entry))) (answerTo σ (map entryOf es) (aliasesOf σ es) (x .base) (x .operation)))) (now (out .entry)) r (now (out .exit))) ⌝ }
 {
-    let target = Target {
-        base: resolve(book, d, q, asked.base, asked.base_parts),
-        missing: matched(book, sets, d, q, asked.base, asked.base_parts),
-    };
     let choice = choice_of(book, q, asked);
     let mut hits: [usize; 256] = [0; 256];
-    let plan = plan_of(book, held, sets, d, p, q, asked, target, choice, &mut hits);
+    let plan = plan_of(book, held, sets, d, p, q, asked, choice, &mut hits);
     write(out, book, held, sets, d, p, plan, &hits, choice)
 }
 

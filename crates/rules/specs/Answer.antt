@@ -1,45 +1,47 @@
--- Document 01, "Outcomes", and #106: read, compare, list and search over the entries of a directory, as answer lines 30 to 35.
+-- Document 01, "Outcomes", #105 and #106: read, compare, list and search over the entries of a directory, as answer lines 30 to 35.
 -- List and search go by names alone: that an absent base gives 1 is proved in `Laws.Absent`.
 use Prim.Native.Nat.{ℕ, zero, suc, _-_}
-use mathlib.Core.Bool.{Bool, true, false, _&&_, _||_, not, cond}
+use mathlib.Core.Bool.{Bool, _&&_, _||_, not, cond}
 use mathlib.Core.Option.{Option, none, some}
 use mathlib.Core.List.{List, [], _∷_, _++_, map}
 use lib.ListN.{length, take, drop}
 use lib.Dec.{ltb, eqb}
 use Rattle.rules.specs.Lists.{given, gather, any, first, keep, isEmpty}
-use Rattle.rules.specs.Sheet.{Bytes, Line, line}
+use Rattle.rules.specs.Sheet.{Bytes, Line, line, bit}
 use Rattle.rules.specs.Name.{Name, allowed, equal, sameName, covers, childOf}
-use Rattle.rules.specs.Directory.{Held, Entry}
+use Rattle.rules.specs.Judge.{nameLines}
+use Rattle.rules.specs.Directory.{Held, Entry, Alias}
 use Rattle.rules.specs.Permission.{Read, Browse, ReturnDN, DiscloseOnError, Compare}
 use Rattle.rules.specs.Decision.{Setting, entry, ofType, ofValue, granted}
 use Rattle.rules.specs.Filter.{isTrue, evaluate}
 use Rattle.rules.specs.FilterItem.{holds, someValue, itemTruth}
 use Rattle.rules.specs.declared.Outcome.{Outcome}
-use Rattle.rules.specs.declared.Outcome.the-variants.{Result, NoSuchObject, InsufficientAccessRights, NoSuchAttributeOrValue, InvalidAttributeSyntax}
+use Rattle.rules.specs.declared.Outcome.the-variants.{Result, NoSuchObject, InsufficientAccessRights, NoSuchAttributeOrValue, InvalidAttributeSyntax, AliasProblem}
 use Rattle.rules.specs.Request.{Selection, Search, Operation, read, compare, list, search}
+use Rattle.rules.specs.Aliases.{resolved, aliased}
 use Rattle.rules.specs.Arrange.{arranged}
 
 -- ---- answer lines
 
-abbrev pub bit : Bool → ℕ
-bit true = 1
-bit false = 0
+-- A of lines 11 and 30
+abbrev pub operationNumber : Operation → ℕ
+operationNumber (read s) = 1
+operationNumber (compare t v) = 2
+operationNumber (list limit) = 3
+operationNumber (search r) = 4
 
--- "B 0 result; 1 noSuchObject ..; 2 insufficientAccessRights; 3 noSuchAttributeOrValue; 4 invalidAttributeSyntax"
+-- "B 0 result; 1 noSuchObject ..; 2 insufficientAccessRights; 3 noSuchAttributeOrValue; 4 invalidAttributeSyntax"; #105: "5, aliasProblem"
 abbrev pub outcomeNumber : Outcome → ℕ
 outcomeNumber Result = 0
 outcomeNumber NoSuchObject = 1
 outcomeNumber InsufficientAccessRights = 2
 outcomeNumber NoSuchAttributeOrValue = 3
 outcomeNumber InvalidAttributeSyntax = 4
+outcomeNumber AliasProblem = 5
 
 -- line 30: "A operation, B outcome"
 unfoldable pub outcome : ℕ → Outcome → List Line
 outcome op o = line 30 op (outcomeNumber o) 0 [] ∷ []
-
--- a name as K 9 lines
-unfoldable pub nameLines : Name → List Line
-nameLines n = map (λ p. line 9 (p .type) 0 0 (p .value)) n
 
 -- "K 33: B name parts, as K 9"
 unfoldable pub entryLines : Name → List Line
@@ -106,9 +108,9 @@ module _ (σ : Setting) where
   unfoldable pub listed : Name → Entry → Bool
   listed n e = childOf (σ .schema) n (e .name) && (granted σ (e .name) entry Browse && granted σ (e .name) entry ReturnDN)
 
-  -- "K 32 (A naming type, bytes)": the one part that a child's name has more than the base's
-  unfoldable pub listHit : Name → Entry → List Line
-  listHit n e = map (λ p. line 32 (p .type) 0 0 (p .value)) (drop (length n) (e .name))
+  -- "K 32 (A naming type, bytes)": the one part that a child's name has more than the base's; #105: "list shows C 1 on an alias"
+  unfoldable pub listHit : List Alias → Name → Entry → List Line
+  listHit as′ n e = map (λ p. line 32 (p .type) 0 (bit (aliased (σ .schema) as′ (e .name))) (p .value)) (drop (length n) (e .name))
 
   -- K 15: "0 base, 1 one level (base excluded), 2 subtree (base included)"
   unfoldable pub inSubset : ℕ → Name → Name → Bool
@@ -162,15 +164,24 @@ module _ (σ : Setting) where
         (noSuchObject op n)
         (limited op limit hits)
 
-    unfoldable pub listHits : Name → List (List Line)
-    listHits n = map (listHit n) (keep (listed n) es)
+    unfoldable pub listHits : List Alias → Name → List (List Line)
+    listHits as′ n = map (listHit as′ n) (keep (listed n) es)
 
     -- #106: "the size limit keeps the first ones after ordering"
     unfoldable pub searchHits : Name → Search → List (List Line)
     searchHits n r = map (searchHit r) (arranged σ (r .ordering) (keep (found n r) es))
 
-    unfoldable pub answer : Name → Operation → List Line
-    answer n (read s) = opened 1 Read n (readEntry s) (named n)
-    answer n (compare t v) = opened 2 Read n (compareEntry t v) (named n)
-    answer n (list limit) = returned 3 n limit (listHits n)
-    answer n (search r) = returned 4 n (r .limit) (searchHits n r)
+    -- the answer to an operation on the entry with the name `n`
+    unfoldable pub answer : List Alias → Name → Operation → List Line
+    answer as′ n (read s) = opened 1 Read n (readEntry s) (named n)
+    answer as′ n (compare t v) = opened 2 Read n (compareEntry t v) (named n)
+    answer as′ n (list limit) = returned 3 n limit (listHits as′ n)
+    answer as′ n (search r) = returned 4 n (r .limit) (searchHits n r)
+
+    abbrev pub answerResolved : List Alias → Operation → Option Name → List Line
+    answerResolved as′ o none = outcome (operationNumber o) AliasProblem
+    answerResolved as′ o (some n) = answer as′ n o
+
+    -- #105: the answer to the name asked for, its beginning replaced while it is an alias's
+    unfoldable pub answerTo : List Alias → Name → Operation → List Line
+    answerTo as′ n o = answerResolved as′ o (resolved (σ .schema) as′ n)

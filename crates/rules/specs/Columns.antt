@@ -46,16 +46,19 @@ bytes = between 0 64
 abbrev pub parts : Range
 parts = between 0 8
 
+-- a part of a name: in permissions and requests, and in the target of an alias
+abbrev pub partForm : ℕ → Form
+partForm top = form 9 (types top) unnamed unnamed bytes
+
+-- #105: "in K 2, C 1 marks an alias"; "K 36 (B name parts, 1 to 8, as K 9)"
 unfoldable pub directoryForms : ℕ → List Form
 directoryForms top =
     form 1 (types top) (between 0 2) unnamed unnamed
-    ∷ form 2 free (types top) unnamed bytes
+    ∷ form 2 free (types top) (between 0 1) bytes
     ∷ form 3 (types top) unnamed unnamed bytes
+    ∷ form 36 unnamed (between 1 8) unnamed unnamed
+    ∷ partForm top
     ∷ []
-
--- a part of a name, in permissions and requests
-abbrev pub partForm : ℕ → Form
-partForm top = form 9 (types top) unnamed unnamed bytes
 
 unfoldable pub permissionForms : ℕ → List Form
 permissionForms top =

@@ -1,10 +1,12 @@
--- Document 01, "Examples": the eleven starred ones as one table with one theorem, and 12 and 13 as far as they compute quickly. Of document 02: #102's, #104's and #106's.
+-- Document 01, "Examples": the eleven starred ones as one table with one theorem, and 12 and 13 as far as they compute quickly. Of document 02: #102's, #104's, #105's and
+-- #106's.
 -- The others are run by a program.
 use mathlib.Core.Path.{_≡_, refl}
 use Prim.Native.Nat.{ℕ, zero, suc, _+_, _/_, _%_}
 use Prim.Native.Char.{code}
 use Prim.Native.String.{String, [] as none′, _∷_ as _∷′_}
 use mathlib.Core.Bool.{Bool, true, false}
+use mathlib.Core.Option.{none, some}
 use mathlib.Core.List.{List, [], _∷_, _++_}
 use Rattle.rules.specs.Sheet
 use Rattle.rules.specs.Sheet.{Bytes, Line, line, narrow, wide, print}
@@ -12,10 +14,11 @@ use Rattle.rules.specs.Columns
 use Rattle.rules.specs.Value
 use Rattle.rules.specs.Value.{Piece, text, integer, fits, order, contains}
 use Rattle.rules.specs.Name
-use Rattle.rules.specs.Name.{Name, part}
+use Rattle.rules.specs.Name.{Schema, Name, part}
 use Rattle.rules.specs.Judge
 use Rattle.rules.specs.Judge.{accept, refuse, refusalOf}
 use Rattle.rules.specs.Directory
+use Rattle.rules.specs.Directory.{Alias}
 use Rattle.rules.specs.Permission
 use Rattle.rules.specs.Permission.{Item}
 use Rattle.rules.specs.Decision
@@ -24,6 +27,8 @@ use Rattle.rules.specs.Filter
 use Rattle.rules.specs.Filter.{conjunction, disjunction, allUndefined, negation}
 use Rattle.rules.specs.Request
 use Rattle.rules.specs.FilterItem
+use Rattle.rules.specs.Aliases
+use Rattle.rules.specs.Aliases.{resolved}
 use Rattle.rules.specs.Arrange
 use Rattle.rules.specs.Answer
 use Rattle.rules.specs.Serve.{exchange, above, judgedAt, serveAt, ground, tighter, capped, within, respond, fitting}
@@ -217,15 +222,15 @@ unfolding directory permissions request printed serveAt judgedAt above ground ti
     Value.integerOf Value.small Value.printable Value.sized fits Value.normal Value.folded Value.tidied Value.shorten Value.trim Value.identical Value.same
     Name.ofSyntax Name.known Name.allowed Name.equal Name.samePart Name.sameName Name.covers Name.childOf
     Judge.fold Judge.misplaced Judge.due Judge.dueLines Judge.nameOf
-    Directory.nameAt Directory.entriesOf Directory.typeLine Directory.lacksNaming Directory.clashes Directory.entryLine Directory.valueLine Directory.step Directory.finish Directory.directoryOf Directory.hold
-    Directory.heldOf Directory.entryOf Directory.entries
+    Directory.nameAt Directory.entriesOf Directory.typeLine Directory.lacksNaming Directory.clashes Directory.lacksTarget Directory.underAlias Directory.entryLine Directory.valueLine Directory.targetLine Directory.partLine Directory.step Directory.finish Directory.directoryOf Directory.hold
+    Directory.heldOf Directory.entryOf Directory.entries Directory.aliases
     Permission.soundTarget Permission.soundItem Permission.item Permission.items Permission.permissionsOf
     Decision.baseCovers Decision.whoFits Decision.whatCovers Decision.names Decision.levelFits Decision.applies Decision.rank Decision.explicit Decision.highest Decision.allGrant granted
     conjunction disjunction allUndefined Filter.evaluate
     Request.filterLine Request.pieces Request.filters Request.filterOf Request.filter Request.selection Request.ordering Request.editionOf Request.operation Request.request Request.requestOf
     FilterItem.assertedType FilterItem.holds FilterItem.someValue FilterItem.defined FilterItem.satisfied FilterItem.decidable FilterItem.itemTruth
-    Answer.outcome Answer.nameLines Answer.entryLines Answer.valueLines Answer.limited Answer.selected Answer.typeLines Answer.information Answer.inSubset Answer.candidate Answer.found Answer.matchedName
-    Answer.noSuchObject Answer.returned Answer.disclosed Answer.searchHit Arrange.arranged Answer.searchHits Answer.answer
+    Answer.outcome Judge.nameLines Answer.entryLines Answer.valueLines Answer.limited Answer.selected Answer.typeLines Answer.information Answer.inSubset Answer.candidate Answer.found Answer.matchedName
+    Answer.noSuchObject Answer.returned Answer.disclosed Answer.searchHit Arrange.arranged Answer.searchHits Answer.answer Answer.answerTo Aliases.leading Aliases.followed
 example-13 = refl
 
 -- ---- #102: blanks in text
@@ -265,7 +270,7 @@ unfolding twins
     Sheet.strip Sheet.digits Sheet.numeral Sheet.columnOf Sheet.whole Sheet.frontOf Sheet.linesWithin Sheet.lines
     Columns.takes Columns.directoryForms Columns.inForm Value.integerOf Value.small Value.printable Value.sized fits Value.normal Value.folded Value.tidied Value.shorten Value.trim Value.identical Value.same
     Name.ofSyntax Name.known Name.allowed Name.equal Name.samePart Judge.fold
-    Directory.nameAt Directory.entriesOf Directory.typeLine Directory.lacksNaming Directory.clashes Directory.entryLine Directory.valueLine Directory.step Directory.finish Directory.directoryOf
+    Directory.nameAt Directory.entriesOf Directory.typeLine Directory.lacksNaming Directory.clashes Directory.lacksTarget Directory.underAlias Directory.entryLine Directory.valueLine Directory.targetLine Directory.partLine Directory.step Directory.finish Directory.directoryOf
 twins-refused = refl
 
 -- ---- #106: lists in the guest's order
@@ -353,16 +358,16 @@ unfolding floors allButOne searchBy answered serveAt judgedAt above ground tight
     Value.integerOf Value.small Value.printable Value.sized fits Value.normal Value.folded Value.tidied Value.shorten Value.trim Value.identical Value.same Value.ordered order
     Name.ofSyntax Name.known Name.allowed Name.equal Name.orderOf Name.samePart Name.sameName Name.covers Name.childOf
     Judge.fold Judge.misplaced Judge.due Judge.dueLines Judge.nameOf
-    Directory.nameAt Directory.entriesOf Directory.typeLine Directory.lacksNaming Directory.clashes Directory.entryLine Directory.valueLine Directory.step Directory.finish Directory.directoryOf Directory.hold
-    Directory.heldOf Directory.entryOf Directory.entries
+    Directory.nameAt Directory.entriesOf Directory.typeLine Directory.lacksNaming Directory.clashes Directory.lacksTarget Directory.underAlias Directory.entryLine Directory.valueLine Directory.targetLine Directory.partLine Directory.step Directory.finish Directory.directoryOf Directory.hold
+    Directory.heldOf Directory.entryOf Directory.entries Directory.aliases
     Permission.soundTarget Permission.soundItem Permission.item Permission.items Permission.permissionsOf
     Decision.baseCovers Decision.whoFits Decision.whatCovers Decision.names Decision.levelFits Decision.applies Decision.rank Decision.explicit Decision.highest Decision.allGrant granted
     conjunction disjunction allUndefined Filter.evaluate
     Request.filterLine Request.pieces Request.filters Request.filterOf Request.filter Request.selection Request.ordering Request.editionOf Request.operation Request.request Request.requestOf
     FilterItem.assertedType FilterItem.holds FilterItem.someValue FilterItem.defined FilterItem.satisfied FilterItem.decidable FilterItem.itemTruth
     Arrange.placed Arrange.arrangedBy Arrange.smallest Arrange.readable Arrange.key Arrange.before Arrange.arranged
-    Answer.outcome Answer.nameLines Answer.entryLines Answer.valueLines Answer.limited Answer.selected Answer.typeLines Answer.information Answer.inSubset Answer.candidate Answer.found Answer.matchedName
-    Answer.noSuchObject Answer.returned Answer.disclosed Answer.searchHit Answer.searchHits Answer.answer
+    Answer.outcome Judge.nameLines Answer.entryLines Answer.valueLines Answer.limited Answer.selected Answer.typeLines Answer.information Answer.inSubset Answer.candidate Answer.found Answer.matchedName
+    Answer.noSuchObject Answer.returned Answer.disclosed Answer.searchHit Answer.searchHits Answer.answer Answer.answerTo Aliases.leading Aliases.followed
 in-order = (refl, refl, refl, refl, refl, refl, refl)
 
 -- ---- of example 12
@@ -390,7 +395,7 @@ unfolding chain
     Sheet.strip Sheet.digits Sheet.numeral Sheet.columnOf Sheet.whole Sheet.frontOf Sheet.linesWithin Sheet.lines Sheet.leading Sheet.column Sheet.numbers Sheet.lineBytes Sheet.print
     Columns.takes Columns.directoryForms Columns.inForm Value.integerOf Value.small Value.printable Value.sized fits Value.normal Value.folded Value.tidied Value.shorten Value.trim Value.identical Value.same
     Name.ofSyntax Name.known Name.allowed Name.equal Name.samePart Judge.fold
-    Directory.nameAt Directory.entriesOf Directory.typeLine Directory.lacksNaming Directory.clashes Directory.entryLine Directory.valueLine Directory.step Directory.finish Directory.directoryOf
+    Directory.nameAt Directory.entriesOf Directory.typeLine Directory.lacksNaming Directory.clashes Directory.lacksTarget Directory.underAlias Directory.entryLine Directory.valueLine Directory.targetLine Directory.partLine Directory.step Directory.finish Directory.directoryOf
 depths = (refl, refl)
 
 -- all entries, for all users: Read, Browse and ReturnDN
@@ -418,15 +423,15 @@ unfolding flat open′ listTwo serveAt judgedAt above ground tighter capped with
     Value.integerOf Value.small Value.printable Value.sized fits Value.normal Value.folded Value.tidied Value.shorten Value.trim Value.identical Value.same
     Name.ofSyntax Name.known Name.allowed Name.equal Name.samePart Name.sameName Name.covers Name.childOf
     Judge.fold Judge.misplaced Judge.due Judge.dueLines Judge.nameOf
-    Directory.nameAt Directory.entriesOf Directory.typeLine Directory.lacksNaming Directory.clashes Directory.entryLine Directory.valueLine Directory.step Directory.finish Directory.directoryOf Directory.hold
-    Directory.heldOf Directory.entryOf Directory.entries
+    Directory.nameAt Directory.entriesOf Directory.typeLine Directory.lacksNaming Directory.clashes Directory.lacksTarget Directory.underAlias Directory.entryLine Directory.valueLine Directory.targetLine Directory.partLine Directory.step Directory.finish Directory.directoryOf Directory.hold
+    Directory.heldOf Directory.entryOf Directory.entries Directory.aliases
     Permission.soundTarget Permission.soundItem Permission.item Permission.items Permission.permissionsOf
     Decision.baseCovers Decision.whoFits Decision.whatCovers Decision.names Decision.levelFits Decision.applies Decision.rank Decision.explicit Decision.highest Decision.allGrant granted
     conjunction disjunction allUndefined Filter.evaluate
     Request.filterLine Request.pieces Request.filters Request.filterOf Request.filter Request.selection Request.ordering Request.editionOf Request.operation Request.request Request.requestOf
     FilterItem.assertedType FilterItem.holds FilterItem.someValue FilterItem.defined FilterItem.satisfied FilterItem.decidable FilterItem.itemTruth
-    Answer.outcome Answer.nameLines Answer.entryLines Answer.valueLines Answer.limited Answer.selected Answer.typeLines Answer.information Answer.inSubset Answer.candidate Answer.found Answer.matchedName
-    Answer.noSuchObject Answer.returned Answer.listed Answer.disclosed Answer.listHit Answer.listHits Answer.answer
+    Answer.outcome Judge.nameLines Answer.entryLines Answer.valueLines Answer.limited Answer.selected Answer.typeLines Answer.information Answer.inSubset Answer.candidate Answer.found Answer.matchedName
+    Answer.noSuchObject Answer.returned Answer.listed Answer.disclosed Answer.listHit Answer.listHits Answer.answer Answer.answerTo Aliases.leading Aliases.followed Aliases.aliased
 limits = (refl, refl)
 
 -- a read of the entry "aa", asked for in capitals, with an empty type list
@@ -447,15 +452,15 @@ unfolding flat open′ readCapitals serveAt judgedAt above ground tighter capped
     Value.integerOf Value.small Value.printable Value.sized fits Value.normal Value.folded Value.tidied Value.shorten Value.trim Value.identical Value.same
     Name.ofSyntax Name.known Name.allowed Name.equal Name.samePart Name.sameName Name.covers Name.childOf
     Judge.fold Judge.misplaced Judge.due Judge.dueLines Judge.nameOf
-    Directory.nameAt Directory.entriesOf Directory.typeLine Directory.lacksNaming Directory.clashes Directory.entryLine Directory.valueLine Directory.step Directory.finish Directory.directoryOf Directory.hold
-    Directory.heldOf Directory.entryOf Directory.entries
+    Directory.nameAt Directory.entriesOf Directory.typeLine Directory.lacksNaming Directory.clashes Directory.lacksTarget Directory.underAlias Directory.entryLine Directory.valueLine Directory.targetLine Directory.partLine Directory.step Directory.finish Directory.directoryOf Directory.hold
+    Directory.heldOf Directory.entryOf Directory.entries Directory.aliases
     Permission.soundTarget Permission.soundItem Permission.item Permission.items Permission.permissionsOf
     Decision.baseCovers Decision.whoFits Decision.whatCovers Decision.names Decision.levelFits Decision.applies Decision.rank Decision.explicit Decision.highest Decision.allGrant granted
     conjunction disjunction allUndefined Filter.evaluate
     Request.filterLine Request.pieces Request.filters Request.filterOf Request.filter Request.selection Request.ordering Request.editionOf Request.operation Request.request Request.requestOf
     FilterItem.assertedType FilterItem.holds FilterItem.someValue FilterItem.defined FilterItem.satisfied FilterItem.decidable FilterItem.itemTruth
-    Answer.outcome Answer.nameLines Answer.entryLines Answer.valueLines Answer.limited Answer.selected Answer.typeLines Answer.information Answer.inSubset Answer.candidate Answer.found Answer.matchedName
-    Answer.noSuchObject Answer.returned Answer.listed Answer.disclosed Answer.readEntry Answer.named Answer.opened Answer.answer
+    Answer.outcome Judge.nameLines Answer.entryLines Answer.valueLines Answer.limited Answer.selected Answer.typeLines Answer.information Answer.inSubset Answer.candidate Answer.found Answer.matchedName
+    Answer.noSuchObject Answer.returned Answer.listed Answer.disclosed Answer.readEntry Answer.named Answer.opened Answer.answer Answer.answerTo Aliases.leading Aliases.followed
 stored-name = refl
 
 -- ---- #109, nine columns
@@ -470,9 +475,107 @@ wide-types = (refl, refl, refl, refl)
 
 -- "empty directory accepted; empty request 23"
 pub empty-directory : Directory.directoryOf narrow [] ≡ accept (record { schema = []; entries = [] })
-unfolding Directory.directoryOf Sheet.lines Sheet.linesWithin Judge.fold Directory.finish Directory.lacksNaming Directory.entriesOf
+unfolding Directory.directoryOf Sheet.lines Sheet.linesWithin Judge.fold Directory.finish Directory.lacksNaming Directory.lacksTarget Directory.entriesOf
 empty-directory = refl
 
 pub empty-request : Request.requestOf narrow [] [] ≡ refuse 23
 unfolding Request.requestOf Sheet.lines Sheet.linesWithin Request.request Judge.due Judge.misplaced
 empty-request = refl
+
+-- ---- #105: aliases
+
+abbrev textOnly : Schema
+textOnly = record { number = 3; syntax = text } ∷ []
+
+-- the name of one part, a letter
+abbrev letter : ℕ → Name
+letter k = part 3 ((97 + k) ∷ []) ∷ []
+
+-- `n` aliases, each leading to the next letter
+abbrev chained : ℕ → List Alias
+chained zero = []
+chained (suc n) = record { name = letter n; target = letter (suc n) } ∷ chained n
+
+-- a, b, c and d
+abbrev four : Name
+four = letter 0 ++ (letter 1 ++ (letter 2 ++ letter 3))
+
+-- "that beginning is replaced by the target"; "after eight replacements a ninth gives outcome 5", also of an alias that leads to itself; "a replaced name
+-- of more than 8 parts is .. not replaced again", though it begins with an alias
+pub replacements :
+    (resolved textOnly (chained 1) (letter 0 ++ letter 5) ≡ some (letter 1 ++ letter 5))
+    × (resolved textOnly (chained 8) (letter 0) ≡ some (letter 8))
+    × (resolved textOnly (chained 9) (letter 0) ≡ none)
+    × (resolved textOnly (record { name = letter 0; target = letter 0 } ∷ []) (letter 0) ≡ none)
+    × (resolved textOnly (record { name = letter 4; target = four ++ four } ∷ chained 1) (letter 4 ++ letter 5) ≡ some (four ++ (four ++ letter 5)))
+unfolding Aliases.replaced Aliases.leading Aliases.followed Name.covers Name.samePart Name.equal Name.ofSyntax fits Value.sized Value.printable Value.same Value.identical Value.normal Value.folded Value.tidied
+    Value.shorten Value.trim Value.small Sheet.strip
+replacements = (refl, refl, refl, refl, refl)
+
+-- Bea, an alias of Ann, without its last line, a part of its target
+abbrev beaLines : List String
+beaLines =
+    "     1     3     1     0     0"
+    ∷ "     2     0     3     0     3Ann"
+    ∷ "     3     3     0     0     3Ann"
+    ∷ "     2     0     3     1     3Bea"
+    ∷ "     3     3     0     0     3Bea"
+    ∷ "    36     0     1     0     0"
+    ∷ []
+
+-- and with it
+abbrev guests : List String
+guests = beaLines ++ ("     9     3     0     0     3Ann" ∷ [])
+
+-- K 9 is due, and a part that the schema lacks gives 4; an alias "has no children"; no part is due any more; "6 counts on the entry's last line", that
+-- of an alias cut short too
+pub targets-judged :
+    (refusalOf (Directory.directoryOf narrow (sheetOf guests)) ≡ 0)
+    × (refusalOf (Directory.directoryOf narrow (sheetOf beaLines)) ≡ 3)
+    × (refusalOf (Directory.directoryOf narrow (sheetOf (beaLines ++ ("     9     4     0     0     3Ann" ∷ [])))) ≡ 4)
+    × (refusalOf (Directory.directoryOf narrow (sheetOf (guests ++ ("     2     2     3     0     3Cid" ∷ [])))) ≡ 3)
+    × (refusalOf (Directory.directoryOf narrow (sheetOf (guests ++ ("     9     3     0     0     3Ann" ∷ [])))) ≡ 3)
+    × (refusalOf (Directory.directoryOf narrow (sheetOf ("     1     3     1     0     0" ∷ "     2     0     3     1     3Bea" ∷ "    36     0     1     0     0" ∷ []))) ≡ 6)
+unfolding Sheet.strip Sheet.digits Sheet.numeral Sheet.columnOf Sheet.whole Sheet.frontOf Sheet.linesWithin Sheet.lines
+    Columns.takes Columns.directoryForms Columns.inForm Value.integerOf Value.small Value.printable Value.sized fits Value.normal Value.folded Value.tidied Value.shorten Value.trim Value.identical Value.same
+    Name.ofSyntax Name.known Name.allowed Name.equal Name.samePart Judge.fold
+    Directory.nameAt Directory.entriesOf Directory.typeLine Directory.lacksNaming Directory.clashes Directory.lacksTarget Directory.underAlias Directory.entryLine Directory.valueLine Directory.targetLine Directory.partLine Directory.step Directory.finish Directory.directoryOf
+targets-judged = (refl, refl, refl, refl, refl, refl)
+
+-- a list at the root; a read of Bea, and a search of all below the root, each with an empty type list
+abbrev listAll : List String
+listAll = "    10     0     0     0     0" ∷ "    11     3     0     0     0" ∷ []
+
+abbrev readBea : List String
+readBea = "    10     0     0     0     0" ∷ "    11     1     1     0     0" ∷ "     9     3     0     0     3Bea" ∷ "    12     1     0     0     0" ∷ []
+
+abbrev searchAll : List String
+searchAll = "    10     0     0     0     0" ∷ "    11     4     0     0     0" ∷ "    12     1     0     0     0" ∷ "    15     2     0     0     0" ∷ "    20     0     0     0     0" ∷ []
+
+-- "list shows C 1 on an alias"; a read of Bea is one of Ann, "it needs no permission", not DiscloseOnError either; "search judges those it meets as
+-- entries"; Bea that leads to Bea: "outcome 5, aliasProblem"
+pub guests-answered :
+    (serveAt narrow exchange (sheetOf guests) open′ (sheetOf listAll) 65536
+    ≡ accept (sheetOf ("    30     3     0     0     0" ∷ "    32     3     0     0     3Ann" ∷ "    32     3     0     1     3Bea" ∷ [])))
+    × (serveAt narrow exchange (sheetOf guests) open′ (sheetOf readBea) 65536
+    ≡ accept (sheetOf ("    30     1     0     0     0" ∷ "    33     0     1     0     0" ∷ "     9     3     0     0     3Ann" ∷ [])))
+    × (serveAt narrow exchange (sheetOf guests) open′ (sheetOf searchAll) 65536
+    ≡ accept (sheetOf ("    30     4     0     0     0" ∷ "    33     0     1     0     0" ∷ "     9     3     0     0     3Ann" ∷ "    33     0     1     0     0" ∷ "     9     3     0     0     3Bea" ∷ [])))
+    × (serveAt narrow exchange (sheetOf (beaLines ++ ("     9     3     0     0     3Bea" ∷ []))) open′ (sheetOf readBea) 65536 ≡ accept (sheetOf ("    30     1     5     0     0" ∷ [])))
+unfolding open′ serveAt judgedAt above ground tighter capped within respond fitting
+    Sheet.strip Sheet.digits Sheet.numeral Sheet.columnOf Sheet.whole Sheet.frontOf Sheet.linesWithin Sheet.lines Sheet.leading Sheet.column Sheet.numbers Sheet.lineBytes Sheet.print
+    Columns.takes Columns.directoryForms Columns.permissionForms Columns.requestForms Columns.inForm
+    Value.integerOf Value.small Value.printable Value.sized fits Value.normal Value.folded Value.tidied Value.shorten Value.trim Value.identical Value.same
+    Name.ofSyntax Name.known Name.allowed Name.equal Name.samePart Name.sameName Name.covers Name.childOf
+    Judge.fold Judge.misplaced Judge.due Judge.dueLines Judge.nameOf
+    Directory.nameAt Directory.entriesOf Directory.typeLine Directory.lacksNaming Directory.clashes Directory.lacksTarget Directory.underAlias Directory.entryLine Directory.valueLine Directory.targetLine Directory.partLine Directory.step Directory.finish Directory.directoryOf Directory.hold
+    Directory.heldOf Directory.entryOf Directory.entries Directory.aliases
+    Permission.soundTarget Permission.soundItem Permission.item Permission.items Permission.permissionsOf
+    Decision.baseCovers Decision.whoFits Decision.whatCovers Decision.names Decision.levelFits Decision.applies Decision.rank Decision.explicit Decision.highest Decision.allGrant granted
+    conjunction disjunction allUndefined Filter.evaluate
+    Request.filterLine Request.pieces Request.filters Request.filterOf Request.filter Request.selection Request.ordering Request.editionOf Request.operation Request.request Request.requestOf
+    FilterItem.assertedType FilterItem.holds FilterItem.someValue FilterItem.defined FilterItem.satisfied FilterItem.decidable FilterItem.itemTruth
+    Answer.outcome Judge.nameLines Answer.entryLines Answer.valueLines Answer.limited Answer.selected Answer.typeLines Answer.information Answer.inSubset Answer.candidate Answer.found Answer.matchedName
+    Answer.noSuchObject Answer.returned Answer.listed Answer.disclosed Answer.readEntry Answer.named Answer.opened Answer.listHit Answer.listHits Answer.searchHit Arrange.arranged Answer.searchHits Answer.answer Answer.answerTo
+    Aliases.replaced Aliases.leading Aliases.followed Aliases.aliased
+guests-answered = (refl, refl, refl, refl)

@@ -1,6 +1,7 @@
 pub mod Tests
 pub mod Lists
 pub mod Each
+pub mod Members
 pub mod Sheet
 pub mod Value
 pub mod Back
@@ -10,6 +11,7 @@ pub mod Judge
 pub mod Columns
 pub mod Step
 pub mod Directory
+pub mod Aliases
 pub mod DirectoryLines
 pub mod Order
 pub mod Allowed
@@ -24,6 +26,7 @@ pub mod Filter
 pub mod Items
 pub mod Loops
 pub mod Hits
+pub mod Targets
 pub mod Reach
 pub mod Forms
 pub mod SameForms

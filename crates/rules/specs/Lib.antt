@@ -10,12 +10,13 @@ pub mod Decision
 pub mod Filter
 pub mod Request
 pub mod FilterItem
+pub mod Aliases
 pub mod Arrange
 pub mod Answer
 pub mod Serve
 pub mod Move
-pub mod Theorems
 pub mod Shown
+pub mod Theorems
 pub mod Places
 pub mod Numbers
 pub mod FilterLines

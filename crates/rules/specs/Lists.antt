@@ -1,7 +1,7 @@
 -- What is gathered from a list, what is found in it, and what is kept of it: the words in which the rules are written.
 use mathlib.Core.Bool.{Bool, true, false, _||_, not}
 use mathlib.Core.Option.{Option, none, some}
-use mathlib.Core.List.{List, [], _∷_, _++_}
+use mathlib.Core.List.{List, [], _∷_, _++_, List·Memᴰ}
 
 module _ {ℓ} {A : Type ℓ} where
   -- `xs` where the test passes, else nothing
@@ -53,3 +53,8 @@ keep p xs = gather (λ x. given (p x) (x ∷ [])) xs
 -- the elements that pass, each reduced
 abbrev pub sift {ℓ} : {A : Type ℓ} → (A → Bool) → (A → A) → List A → List A
 sift p reduce xs = gather (λ x. given (p x) (reduce x ∷ [])) xs
+
+-- the same elements, in whatever order
+pub record SameMembers {A : Type 0} (xs ys : List A) : Type 0 where
+  pub there : (x : A) → List·Memᴰ x xs → List·Memᴰ x ys
+  pub back : (x : A) → List·Memᴰ x ys → List·Memᴰ x xs

@@ -1,12 +1,13 @@
 -- What the rules say of names, by entry numbers: entries count from 1, and 0 is the root. For the contracts of a program that looks names up once
--- and then goes by numbers; the laws `Resolve`, `ByNumber`, `Hits` and `Reach` say that it comes to the same. `serve` does not rest on these.
+-- and then goes by numbers; the laws `Resolve`, `ByNumber`, `Hits`, `Reach` and `Targets` say that it comes to the same. `serve` does not rest on these.
 use Prim.Native.Nat.{ℕ, zero, suc, _+_, _-_, _*_, _/_, _%_}
 use mathlib.Core.Bool.{Bool, true, false, _&&_, _||_, cond}
+use mathlib.Core.Option.{Option, none, some}
 use mathlib.Core.List.{List, [], _∷_}
 use lib.Dec.{eqb}
 use lib.ListN.{getD}
 use Rattle.rules.specs.Name.{Schema, Part, Name, samePart, sameName, covers}
-use Rattle.rules.specs.Directory.{Stored, blank}
+use Rattle.rules.specs.Directory.{Stored, blank, underAlias, Alias, aliasOf}
 use Rattle.rules.specs.Permission.{Item}
 use Rattle.rules.specs.Decision.{Setting, levelFits}
 use Rattle.rules.specs.declared.Found.{Found}
@@ -27,6 +28,17 @@ childFrom S parent p (e ∷ es) i = cond (eqb (e .parent) parent && samePart S p
 unfoldable pub walk : Schema → List Stored → ℕ → Name → Found
 walk S es k [] = At k
 walk S es k (p ∷ ps) = onFound (childFrom S k p es 0) (λ j. walk S es j ps)
+
+-- #105: the number of the alias with whose name a name begins, from number `k` on by the parts `ps`
+unfoldable pub lead : Schema → List Stored → ℕ → Name → Found
+lead S es k [] = cond (underAlias es k) (At k) Nothing
+lead S es k (p ∷ ps) = cond (underAlias es k) (At k) (onFound (childFrom S k p es 0) (λ j. lead S es j ps))
+
+-- the alias that has a number
+abbrev pub aliasBy : List Stored → Found → Option Alias
+aliasBy es Nothing = none
+aliasBy es (At zero) = none
+aliasBy es (At (suc k)) = some (aliasOf (getD es k blank))
 
 -- ---- entries below a base
 

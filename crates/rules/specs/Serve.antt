@@ -8,11 +8,11 @@ use lib.ListN.{length}
 use Rattle.rules.specs.Sheet.{Bytes, print}
 use Rattle.rules.specs.declared.Format.{Format}
 use Rattle.rules.specs.Judge.{Verdict, accept, refuseIf, then}
-use Rattle.rules.specs.Directory.{Directory, directoryOf, entries}
+use Rattle.rules.specs.Directory.{Directory, directoryOf, entries, aliases}
 use Rattle.rules.specs.Permission.{Item, permissionsOf}
 use Rattle.rules.specs.Decision.{Setting, Requester}
 use Rattle.rules.specs.Request.{Operation, read, compare, list, search, Request, requestOf}
-use Rattle.rules.specs.Answer.{answer}
+use Rattle.rules.specs.Answer.{answerTo}
 use Rattle.rules.specs.declared.Limits.{Limits}
 
 -- ---- the directory and the permissions, judged apart from any request
@@ -65,7 +65,9 @@ fitting room bs = refuseIf (ltb room (length bs)) 31 (accept bs)
 
 -- an accepted request's answer, in a buffer of `room` bytes
 unfoldable pub respond : Format → Ground → Request → ℕ → Verdict Bytes
-respond f g r room = fitting room (print (f .width) (answer (settingOf (g .directory) (g .items) (r .requester)) (entries (g .directory)) (r .base) (r .operation)))
+respond f g r room =
+    let d = g .directory in
+    fitting room (print (f .width) (answerTo (settingOf d (g .items) (r .requester)) (entries d) (aliases d) (r .base) (r .operation)))
 
 -- the answer's bytes to the sheets `d`, `p` and `q`, or the refusal, for a program of the limits `k`
 unfoldable pub judgedAt : Format → Limits → Bytes → Bytes → Bytes → ℕ → Verdict Bytes

@@ -26,6 +26,11 @@ pub record Line : Type 0 where
 abbrev pub line : ℕ → ℕ → ℕ → ℕ → Bytes → Line
 line k a b c bytes = record { kind = k; a = a; b = b; c = c; bytes = bytes }
 
+-- a column that says yes or no
+abbrev pub bit : Bool → ℕ
+bit true = 1
+bit false = 0
+
 -- "each right-justified in six columns", "types are 1 to 999"
 abbrev pub narrow : Format
 narrow = record { width = 6; top = 999 }

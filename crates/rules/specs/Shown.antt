@@ -1,14 +1,14 @@
--- Document 01, "Like directories": what a requester is shown, and when two directory sheets are alike.
+-- Document 01, "Like directories", and #105: what a requester is shown, and when two directory sheets are alike.
 use Prim.Native.Nat.{ℕ}
 use mathlib.Core.Path.{_≡_}
 use mathlib.Core.Bool.{Bool}
 use mathlib.Core.List.{List, [], _∷_}
-use Rattle.rules.specs.Lists.{any, keep, sift}
+use Rattle.rules.specs.Lists.{any, keep, sift, SameMembers}
 use Rattle.rules.specs.Sheet.{Bytes}
 use Rattle.rules.specs.declared.Format.{Format}
 use Rattle.rules.specs.Name.{Name}
 use Rattle.rules.specs.Judge.{accept}
-use Rattle.rules.specs.Directory.{Directory, directoryOf, Held, Entry, entries}
+use Rattle.rules.specs.Directory.{Directory, directoryOf, Held, Entry, entries, aliases}
 use Rattle.rules.specs.Permission.{Item, permissionsOf, Read, Browse, ReturnDN, DiscloseOnError, Compare, FilterMatch}
 use Rattle.rules.specs.Decision.{Setting, entry, ofType, ofValue, granted}
 use Rattle.rules.specs.Request.{Request, requestOf}
@@ -54,6 +54,10 @@ sight σ = record {
 unfoldable pub shown : Setting → Directory → List Entry
 shown σ d = shownBy (sight σ) (entries d)
 
+-- #105: "only if they hold the same aliases with the same targets", each by its stored name and target
+abbrev pub SameAliases : Directory → Directory → Type 0
+SameAliases d₁ d₂ = SameMembers (aliases d₁) (aliases d₂)
+
 -- two accepted directory sheets of one schema that are alike, under the permission sheet `p`, for the requester of the request sheet `q`;
 -- "where permissions get 11 to 14, or the request 21 to 23", and with 24 of #106, one schema is enough
 pub record Alike (f : Format) (p q d₁ d₂ : Bytes) : Type 0 where
@@ -63,4 +67,4 @@ pub record Alike (f : Format) (p q d₁ d₂ : Bytes) : Type 0 where
   pub accepted₂ : directoryOf f d₂ ≡ accept second
   pub schema : first .schema ≡ second .schema
   pub same : (is : List Item) (r : Request) → permissionsOf f (first .schema) p ≡ accept is → requestOf f (first .schema) q ≡ accept r
-      → shown (settingOf first is (r .requester)) first ≡ shown (settingOf second is (r .requester)) second
+      → SameAliases first second × (shown (settingOf first is (r .requester)) first ≡ shown (settingOf second is (r .requester)) second)

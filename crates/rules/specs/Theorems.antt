@@ -1,4 +1,4 @@
--- #109: what is claimed of moves and of the two forms; #106: of lists in the guest's order. `Laws/Theorems` has the proofs.
+-- #109: what is claimed of moves and of the two forms; #105: of aliases; #106: of lists in the guest's order. `Laws/Theorems` has the proofs.
 use Prim.Native.Nat.{ℕ, _≤_, _<_}
 use mathlib.Core.Path.{_≡_}
 use mathlib.Core.Bool.{Bool, true, false, _&&_, cond}
@@ -12,15 +12,17 @@ use Rattle.rules.specs.declared.Format.{Format}
 use Rattle.rules.specs.declared.Limits.{Limits}
 use Rattle.rules.specs.Judge.{Verdict, accept, refuse}
 use Rattle.rules.specs.Value.{identical}
-use Rattle.rules.specs.Name.{orderOf}
-use Rattle.rules.specs.Directory.{Directory, directoryOf, directoryLines, blank, Entry, entryOf, entries}
+use Rattle.rules.specs.Name.{Name, sameName, orderOf}
+use Rattle.rules.specs.Directory.{Directory, directoryOf, directoryLines, blank, Entry, entryOf, entries, aliases}
 use Rattle.rules.specs.Permission.{Item}
 use Rattle.rules.specs.Decision.{Setting, Requester}
 use Rattle.rules.specs.Request.{Ordering}
 use Rattle.rules.specs.FilterItem.{isLess}
+use Rattle.rules.specs.Aliases.{resolved}
 use Rattle.rules.specs.Arrange.{readable, key, before, arranged}
 use Rattle.rules.specs.Move.{widened, narrowed}
 use Rattle.rules.specs.Serve.{settingOf, serveAt}
+use Rattle.rules.specs.Shown.{SameAliases}
 
 -- ---- moves
 
@@ -88,6 +90,21 @@ FormsAlike =
     → all modest (x .directory) ≡ true → all modest (x .permissions) ≡ true → all modest (x .request) ≡ true
     → Fitted (servedIn narrow k x room₁) → Fitted (servedIn wide k x room₂)
     → SameLines (servedIn narrow k x room₁) (servedIn wide k x room₂)
+
+-- ---- #105: aliases
+
+-- in accepted directories with the same aliases a name is replaced alike, whatever the order of the aliases
+abbrev pub ResolvedAlike : Type 0
+ResolvedAlike =
+    (f : Format) (s₁ s₂ : Bytes) (d₁ d₂ : Directory) → directoryOf f s₁ ≡ accept d₁ → directoryOf f s₂ ≡ accept d₂
+    → d₁ .schema ≡ d₂ .schema → SameAliases d₁ d₂ → (n : Name)
+    → resolved (d₁ .schema) (aliases d₁) n ≡ resolved (d₂ .schema) (aliases d₂) n
+
+-- "a replaced name of more than 8 parts is absent": no entry has it
+abbrev pub LongAbsent : Type 0
+LongAbsent =
+    (f : Format) (s : Bytes) (d : Directory) → directoryOf f s ≡ accept d → (n : Name) → 8 < length n
+    → any (λ e. sameName (d .schema) n (e .name)) (entries d) ≡ false
 
 -- ---- #106: lists in the guest's order
 

@@ -13,7 +13,7 @@ ghost use mathlib.Core.Path.{_≡_};
 ghost use Prim.Native.Nat.{ℕ};
 ghost use Rattle.rules.specs.Columns.{directoryForms, permissionForms, requestForms};
 ghost use Rattle.sheet_kind.specs.Kinds.{numberOf};
-ghost use Rattle.sheet_kind.specs.declared.Kind.the-variants.{UserClass, ProtectedItem, Operation, Selection};
+ghost use Rattle.sheet_kind.specs.declared.Kind.the-variants.{Value, UserClass, ProtectedItem, Operation, Selection};
 ghost use Rattle.sheet_form.specs.Columns.{inFormOf, columnsIn};
 
 // The most parts of a name, the most bytes of a line, and the highest number of all.
@@ -132,7 +132,15 @@ fn selection_columns(line: Line) -> bool
     )
 }
 
-// A line of the directory. Value lines are the most.
+// A value line of the directory.
+pub fn value_columns(line: Line, top: u64) -> bool
+    requires { ⌜ line .kind ≡ numberOf Value ⌝ }
+    ensures { λ r. ⌜ r ≡ columnsIn (directoryForms top) line ⌝ }
+{
+    row(line, 1, top, 0, 0, 0, 0, 0, BYTES)
+}
+
+// A line of the directory. Value lines are the most, and an alias's target is rare.
 pub fn directory_columns(line: Line, top: u64) -> bool
     ensures { λ r. ⌜ r ≡ columnsIn (directoryForms top) line ⌝ }
 {
@@ -140,10 +148,16 @@ pub fn directory_columns(line: Line, top: u64) -> bool
         return row(line, 1, top, 0, 0, 0, 0, 0, BYTES);
     }
     if is(line.kind, Kind::Entry) {
-        return row(line, 0, ANY, 1, top, 0, 0, 0, BYTES);
+        return row(line, 0, ANY, 1, top, 0, 1, 0, BYTES);
     }
     if is(line.kind, Kind::AttributeType) {
         return row(line, 1, top, 0, 2, 0, 0, 0, 0);
+    }
+    if is(line.kind, Kind::Target) {
+        return row(line, 0, 0, 1, PARTS, 0, 0, 0, 0);
+    }
+    if is(line.kind, Kind::NamePart) {
+        return row(line, 1, top, 0, 0, 0, 0, 0, BYTES);
     }
     false
 }

@@ -4,7 +4,7 @@ use mathlib.Core.Bool.{cond}
 use mathlib.Core.List.{List, [], _∷_}
 use lib.Dec.{eqb}
 use Rattle.sheet_kind.specs.declared.Kind.{Kind}
-use Rattle.sheet_kind.specs.declared.Kind.the-variants.{AttributeType, Entry, Value, Item, Base, UserClass, ProtectedItem, Permissions, NamePart, Requester, Operation, Selection, SelectedType, Assertion, Subset, Ordering, And, Or, Not, Equality, AtLeast, AtMost, Present, Substrings, Piece, Outcome, Comparison, Child, ReturnedEntry, ReturnedType, ReturnedValue, Unknown}
+use Rattle.sheet_kind.specs.declared.Kind.the-variants.{AttributeType, Entry, Value, Item, Base, UserClass, ProtectedItem, Permissions, NamePart, Requester, Operation, Selection, SelectedType, Assertion, Subset, Ordering, And, Or, Not, Equality, AtLeast, AtMost, Present, Substrings, Piece, Outcome, Comparison, Child, ReturnedEntry, ReturnedType, ReturnedValue, Target, Unknown}
 
 -- document 01's number for each case; no sheet has kind 0
 abbrev pub numberOf : Kind → ℕ
@@ -39,6 +39,7 @@ numberOf Child = 32
 numberOf ReturnedEntry = 33
 numberOf ReturnedType = 34
 numberOf ReturnedValue = 35
+numberOf Target = 36
 numberOf Unknown = 0
 
 -- the lines of a filter and of an answer, K 20 to 28 and K 30 to 35
@@ -46,7 +47,7 @@ abbrev pub ranges : List Kind
 ranges = And ∷ Or ∷ Not ∷ Equality ∷ AtLeast ∷ AtMost ∷ Present ∷ Substrings ∷ Piece ∷ Outcome ∷ Comparison ∷ Child ∷ ReturnedEntry ∷ ReturnedType ∷ ReturnedValue ∷ []
 
 abbrev pub known : List Kind
-known = AttributeType ∷ Entry ∷ Value ∷ Item ∷ Base ∷ UserClass ∷ ProtectedItem ∷ Permissions ∷ NamePart ∷ Requester ∷ Operation ∷ Selection ∷ SelectedType ∷ Assertion ∷ Subset ∷ Ordering ∷ ranges
+known = AttributeType ∷ Entry ∷ Value ∷ Item ∷ Base ∷ UserClass ∷ ProtectedItem ∷ Permissions ∷ NamePart ∷ Requester ∷ Operation ∷ Selection ∷ SelectedType ∷ Assertion ∷ Subset ∷ Ordering ∷ Target ∷ ranges
 
 -- the first case of `xs` that has the number `k`
 abbrev pub kindIn : List Kind → ℕ → Kind

@@ -5,7 +5,7 @@ ghost use lib.Dec.{eqb};
 ghost use Rattle.sheet_kind.specs.Kinds.{numberOf, kindOf};
 
 // The lines of the directory, of a permission item in their order, a part of a name, the lines of a request in their order, of a
-// filter, of an answer, and a kind that no sheet has.
+// filter, of an answer, an alias's target, and a kind that no sheet has.
 pub enum Kind {
     AttributeType,
     Entry,
@@ -38,6 +38,7 @@ pub enum Kind {
     ReturnedEntry,
     ReturnedType,
     ReturnedValue,
+    Target,
     Unknown,
 }
 
@@ -95,6 +96,7 @@ pub fn kind_of(k: u64) -> Kind
         14 => Kind::Assertion,
         15 => Kind::Subset,
         16 => Kind::Ordering,
+        36 => Kind::Target,
         20..=28 => filter_kind(k),
         30..=35 => answer_kind(k),
         _ => Kind::Unknown,
@@ -137,6 +139,7 @@ pub fn number_of(kind: Kind) -> u64
         Kind::ReturnedEntry => 33,
         Kind::ReturnedType => 34,
         Kind::ReturnedValue => 35,
+        Kind::Target => 36,
         Kind::Unknown => 0,
     }
 }

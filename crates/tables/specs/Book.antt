@@ -5,9 +5,10 @@ use mathlib.Core.List.{List}
 use lib.ListN.{length, getD, take, drop}
 use Rattle.rules.specs.Sheet.{Bytes}
 
--- how many numbers it has: 8 for the counts, 64 for the types, 4 columns for the 256 entries, and the rows where their values begin and end
+-- how many numbers it has: 8 for the counts, 64 for the types, 4 columns for the 256 entries, the rows where their values begin and end, and a column
+-- for the targets of aliases
 abbrev pub BOOK : ℕ
-BOOK = 8 + 64 + 4 * 256 + 257
+BOOK = 8 + 64 + 4 * 256 + 257 + 256
 
 -- the row of each entry's first value, of 256 entries, and the row after the last value
 abbrev pub FIRST-ROWS : ℕ
@@ -51,6 +52,10 @@ parents b = take (entries b) (drop 328 b)
 -- the row of the first value of the entry of index `k`; the values of an entry end where those of the next begin
 abbrev pub firstAt : List ℕ → ℕ → ℕ
 firstAt b k = getD b (1096 + k) 0
+
+-- the target of the entry of index `k`: 0 where it is no alias, else where its K 9 lines begin, times 16, and how many they are
+abbrev pub targetAt : List ℕ → ℕ → ℕ
+targetAt b k = getD b (1353 + k) 0
 
 -- a table of the book's size, with counts that its columns have room for
 pub record BookFits (b : List ℕ) : Type 0 where

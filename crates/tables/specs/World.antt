@@ -1,16 +1,26 @@
 -- What the numbers of the tables stand for. A function that answers takes them as they are; its contract speaks of the world.
-use Prim.Native.Nat.{ℕ, suc, _+_, _≤_, _<_}
+use Prim.Native.Nat.{ℕ, suc, _+_, _/_, _%_, _≤_, _<_}
 use mathlib.Core.Path.{_≡_}
+use mathlib.Core.Bool.{not}
 use mathlib.Core.List.{List}
+use lib.Dec.{eqb}
 use lib.ListN.{length, getD}
 use Rattle.rules.specs.Sheet.{Bytes}
-use Rattle.rules.specs.Directory.{Stored, blank}
+use Rattle.rules.specs.Directory.{Target, Stored, blank, isAlias, leadsTo}
 use Rattle.rules.specs.Decision.{Setting}
-use Rattle.rules.specs.Places.{linesAt, valuesOf, schemaOf}
+use Rattle.rules.specs.Places.{linesAt, partsOf, valuesOf, schemaOf}
 use Rattle.rules.specs.Laws.Directory.{Accepted}
-use Rattle.tables.specs.Book.{BookFits, width, entries, schema, placeAt, parentAt, namingAt, lengthAt, namingOf, firstAt}
+use Rattle.tables.specs.Book.{BookFits, width, entries, schema, placeAt, parentAt, namingAt, lengthAt, namingOf, firstAt, targetAt}
 use Rattle.tables.specs.Held.{HELD, Distinct, HeldAt}
 use Rattle.tables.specs.Sets.{SETS, Rights}
+
+-- the target `t` by its number, the parts of an alias's being K 9 lines of the directory
+pub record TargetAt (w : ℕ) (d : Bytes) (t : Target) (x : ℕ) : Type 0 where
+  pub alias : isAlias t ≡ not (eqb x 0)
+  pub name : partsOf (x % 16) (linesAt w d (x / 16)) ≡ leadsTo t
+  pub count : length (leadsTo t) ≡ x % 16
+  pub within : x / 16 ≤ length d
+  pub few : x % 16 ≤ 8
 
 -- the entry `e` by the numbers of index `k`; its values stand after the line of its naming value
 pub record EntryAt (d : Bytes) (e : Stored) (book : List ℕ) (k : ℕ) : Type 0 where
@@ -19,6 +29,7 @@ pub record EntryAt (d : Bytes) (e : Stored) (book : List ℕ) (k : ℕ) : Type 0
   pub value : namingOf book d k ≡ e .naming .value
   pub within : placeAt book k + lengthAt book k < length d
   pub values : valuesOf (linesAt (width book) d (placeAt book k + lengthAt book k + 1)) ≡ e .values
+  pub target : TargetAt (width book) d (e .target) (targetAt book k)
 
 -- the setting and the accepted entries `es` of the directory `d`, by the book and the rows of the values held
 pub record Entries (σ : Setting) (es : List Stored) (d : Bytes) (book held : List ℕ) : Type 0 where

@@ -29,8 +29,11 @@ pub const FIRST: usize = 1096;
 
 pub const FIRST_ROWS: usize = 257;
 
+// 256 numbers, of the entries: 0, or where the K 9 lines of an alias's target begin, times 16, and how many they are.
+pub const TARGET: usize = 1353;
+
 // How many numbers the book has.
-pub const BOOK: usize = 1353;
+pub const BOOK: usize = 1609;
 
 pub fn schema(book: &[u64]) -> &[u64]
     requires { ⌜ BookFits (now book) ⌝ }

@@ -155,7 +155,7 @@ fn ends(form: Form, kind: u32) -> [&'static [u32]; 3] {
     let types = types(form);
     match kind {
         1 => [types, &[0, 1, 2, 3], &[1]],
-        2 => [&[0, 1, 2, 3], types, &[1]],
+        2 => [&[0, 1, 2, 3], types, &[0, 1, 2]],
         3 | 9 | 13 | 14 | 23..=26 => [types, &[1], &[1]],
         4 => [&[0, 255, 256], &[0, 2, 3], &[0, 1, 2]],
         5 => [&[0, 1, 2], &[0, 8, 9], &[1]],
@@ -170,6 +170,7 @@ fn ends(form: Form, kind: u32) -> [&'static [u32]; 3] {
         20 | 21 => [&[0, 1, 127, 128], &[1], &[1]],
         27 => [types, &[0, 1, 8, 9], &[1]],
         28 => [&[0, 1, 2, 3], &[1], &[1]],
+        36 => [&[1], &[0, 1, 2, 8, 9], &[1]],
         _ => [&[1], &[1], &[1]],
     }
 }
@@ -210,10 +211,10 @@ fn kind(random: &mut Random, which: Which) -> u32 {
         return random.below(40) as u32;
     }
     if random.once_in(20) {
-        return 16;
+        return *random.pick(&[16, 36]);
     }
     let kinds: &[u32] = match which {
-        Which::Directory => &[1, 2, 3],
+        Which::Directory => &[1, 2, 3, 9, 36],
         Which::Permissions => &[4, 5, 6, 7, 8, 9],
         Which::Request => &[9, 10, 11, 12, 13, 14, 15, 16, 20, 21, 22, 23, 24, 25, 26, 27, 28],
     };
@@ -224,7 +225,8 @@ fn any_line(random: &mut Random, which: Which) -> Raw {
     let kind = kind(random, which);
     let mut small = |bound: usize| random.below(bound) as u32;
     let columns = match kind {
-        2 => [kind, small(6), small(8), 0],
+        2 => [kind, small(6), small(8), small(2)],
+        36 => [kind, 0, small(3), 0],
         3 | 9 | 13 | 14 | 23..=26 => [kind, small(8), 0, 0],
         4 => [kind, small(3), small(3), small(2)],
         16 => [kind, small(8), small(2), 0],
@@ -247,6 +249,13 @@ fn damage_directory(random: &mut Random, form: Form, sheet: &mut Vec<u8>) {
     let values = of_kind(&lines, 3);
     if entries.is_empty() || values.is_empty() {
         return damage_lines(random, form, Which::Directory, sheet);
+    }
+    let targets = of_kind(&lines, 36);
+    if !targets.is_empty() && random.percent(40) {
+        let target = *random.pick(&targets);
+        damage_alias(random, &mut lines, target);
+        *sheet = sheet_of(form, &lines);
+        return;
     }
     let entry = *random.pick(&entries);
     let value = *random.pick(&values);
@@ -297,6 +306,70 @@ fn damage_directory(random: &mut Random, form: Form, sheet: &mut Vec<u8>) {
         }
     }
     *sheet = sheet_of(form, &lines);
+}
+
+/// Faults of an alias, whose K 36 stands at a place.
+fn damage_alias(random: &mut Random, lines: &mut Vec<Raw>, place: usize) {
+    let end = (place + 1 + lines[place].columns[2] as usize).min(lines.len());
+    if end == place + 1 {
+        // Already damaged.
+        lines.remove(place);
+        return;
+    }
+    let part = random.between(place + 1, end - 1);
+    let head = (0..place).rfind(|&place| lines[place].columns[0] == 2).unwrap_or(0);
+    let number = lines[..=head].iter().filter(|line| line.columns[0] == 2).count() as u32;
+    if random.once_in(4) {
+        // Its naming value is not held.
+        lines[head].bytes = b"77".to_vec();
+    }
+    match random.below(13) {
+        0 => lines[head].columns[3] = *random.pick(&[0, 2]),
+        1 => {
+            lines.drain(place..end);
+        }
+        2 => {
+            lines.remove(place);
+        }
+        3 => {
+            lines.remove(part);
+        }
+        // The sheet ends within the alias.
+        4 => lines.truncate(random.between(head + 1, end - 1)),
+        5 => lines[place].columns[2] = *random.pick(&[0, 1, 2, 7, 8, 9]),
+        6 => {
+            let twin = lines[part].clone();
+            lines.insert(end, twin);
+        }
+        7 => {
+            let twin = lines[place..end].to_vec();
+            lines.splice(end..end, twin);
+        }
+        8 => lines[part].columns[1] = *random.pick(&[4, 6, 998]),
+        9 => {
+            let syntax = random.below(3) as u32;
+            lines[part].bytes = unfit(random, syntax);
+        }
+        // A value after the target, or within it.
+        10 => {
+            let value = Raw { columns: [3, lines[head].columns[2], 0, 0], bytes: b"99".to_vec() };
+            lines.insert(random.between(place + 1, end), value);
+        }
+        // A child of the alias, in order or not.
+        11 => {
+            let kind = if random.percent(70) { lines[head].columns[2] } else { 6 };
+            let bytes = if random.percent(70) { b"5".to_vec() } else { Vec::new() };
+            let child = Raw { columns: [2, number, kind, 0], bytes };
+            let held = Raw { columns: [3, kind, 0, 0], bytes: child.bytes.clone() };
+            lines.splice(end..end, [child, held]);
+        }
+        // The target of an entry that is no alias.
+        _ => {
+            let target = lines[place..end].to_vec();
+            let entry = random.below(lines.len());
+            lines.splice(entry..entry, target);
+        }
+    }
 }
 
 /// Types and values outside the schema.

@@ -1,5 +1,6 @@
 //! What the test programs share: servers, generators, the independent view of what is shown.
 
+pub mod aliases;
 pub mod cases;
 pub mod damage;
 pub mod explicit;

@@ -3,12 +3,12 @@
 
 use crate::random::Random;
 use crate::requests::requester;
-use crate::shown::{shown, Requester};
+use crate::shown::{aliases, shown, Requester};
 use crate::values::{equal, fits, value, variant};
 use crate::world::{
     add_value, entry, free_part, item, rewrite, some_value, stored_name, world, World,
 };
-use peer::builder::{DirectorySheet, EntryLines, ItemLines, PermissionSheet, Thing, User};
+use peer::builder::{DirectorySheet, EntryLines, ItemLines, Name, PermissionSheet, Thing, User};
 use peer::directory::Directory;
 use peer::form::Form;
 
@@ -25,8 +25,37 @@ pub struct Pair {
 
 const ATTEMPTS: usize = 14;
 
+/// When two directories count as alike.
+#[derive(Clone, Copy, PartialEq, Eq)]
+pub enum Notion {
+    /// The same is shown, and they hold the same aliases with the same targets.
+    Alike,
+    /// Too little: aliases are not compared.
+    WithoutAliases,
+    /// Too little: aliases are compared, their targets are not.
+    WithoutTargets,
+}
+
+impl Notion {
+    /// Whether the directories have as much in common, apart from what they show.
+    fn holds(self, one: &DirectorySheet, other: &DirectorySheet) -> bool {
+        let names = |directory| -> Vec<Name> {
+            aliases(directory).into_iter().map(|(name, _)| name).collect()
+        };
+        match self {
+            Notion::Alike => aliases(one) == aliases(other),
+            Notion::WithoutAliases => true,
+            Notion::WithoutTargets => names(one) == names(other),
+        }
+    }
+}
+
 /// A pair whose directories differ, if one was found in a few attempts.
 pub fn pair(random: &mut Random) -> Option<Pair> {
+    pair_under(Notion::Alike, random)
+}
+
+pub fn pair_under(notion: Notion, random: &mut Random) -> Option<Pair> {
     let form = *random.pick(&Form::ALL);
     let World { directory: one, mut permissions } = world(random, form);
     if one.types.is_empty() {
@@ -43,6 +72,7 @@ pub fn pair(random: &mut Random) -> Option<Pair> {
         change.apply(random, &permissions, &mut changed);
         if changed != other
             && Directory::decode(form, &changed.to_bytes(form)).is_ok()
+            && notion.holds(&one, &changed)
             && shown(&changed, &permissions, &requester) == before
         {
             other = changed;
@@ -74,7 +104,7 @@ fn hide(
         let base = if random.percent(30) && what != Thing::Entry {
             Vec::new()
         } else {
-            stored_name(random, directory)
+            hidden_name(random, directory)
         };
         let mask = if random.percent(70) { 63 } else { random.between(1, 63) as u32 };
         permissions.items.push(ItemLines {
@@ -99,6 +129,15 @@ fn hide(
             ..ItemLines::everywhere(255, true, Thing::Entry, mask)
         };
         permissions.items.push(told);
+    }
+}
+
+/// The name of an entry; often where an alias leads.
+fn hidden_name(random: &mut Random, directory: &DirectorySheet) -> Name {
+    let alias = some_alias(random, directory).filter(|_| random.percent(40));
+    match alias.and_then(|alias| directory.entries[alias].target.clone()) {
+        Some(target) => target,
+        None => stored_name(random, directory),
     }
 }
 
@@ -129,10 +168,16 @@ pub enum Change {
     RemoveType,
     OrderOfValues,
     OrderOfEntries,
+    /// Of aliases, with what else stands between them.
+    OrderOfAliases,
+    /// An entry that an alias leads to, or one below it.
+    BehindAlias,
+    /// Where an alias leads, and whether an entry is one: only under a notion that is too little.
+    Target,
 }
 
 impl Change {
-    pub const ALL: [Change; 10] = [
+    pub const ALL: [Change; 13] = [
         Change::RemoveSubtree,
         Change::AddEntry,
         Change::Rename,
@@ -143,6 +188,9 @@ impl Change {
         Change::RemoveType,
         Change::OrderOfValues,
         Change::OrderOfEntries,
+        Change::OrderOfAliases,
+        Change::BehindAlias,
+        Change::Target,
     ];
 
     fn apply(
@@ -157,7 +205,14 @@ impl Change {
         if directory.entries.is_empty() {
             return;
         }
-        let index = random.below(directory.entries.len());
+        let index = match self {
+            Change::OrderOfAliases => some_alias(random, directory),
+            Change::BehindAlias => behind_alias(random, directory),
+            _ => Some(random.below(directory.entries.len())),
+        };
+        let Some(index) = index else {
+            return;
+        };
         let &(kind, syntax) = random.pick(&directory.types);
         let syntaxes = directory.types.clone();
         let entry = &mut directory.entries[index];
@@ -189,9 +244,43 @@ impl Change {
                     entry.values.swap(place, other);
                 }
             }
-            Change::OrderOfEntries => shift(random, directory, index),
+            Change::OrderOfEntries | Change::OrderOfAliases => shift(random, directory, index),
+            Change::BehindAlias => match random.below(3) {
+                0 => rename(random, directory, index),
+                1 => remove(directory, index),
+                _ => {
+                    let value = value(random, syntax);
+                    add_value(random, entry, kind, syntax, value);
+                }
+            },
+            Change::Target => {
+                let target = random.percent(80).then(|| stored_name(random, directory));
+                directory.entries[index].target = target;
+            }
         }
     }
+}
+
+fn some_alias(random: &mut Random, directory: &DirectorySheet) -> Option<usize> {
+    let is_alias = |&index: &usize| directory.entries[index].target.is_some();
+    let places: Vec<usize> = (0..directory.entries.len()).filter(is_alias).collect();
+    (!places.is_empty()).then(|| *random.pick(&places))
+}
+
+/// An entry at or below the target of some alias, found by its stored name.
+fn behind_alias(random: &mut Random, directory: &DirectorySheet) -> Option<usize> {
+    let alias = some_alias(random, directory)?;
+    let target = directory.entries[alias].target.as_ref()?;
+    let behind = |&index: &usize| {
+        let name = directory.name(index);
+        name.len() >= target.len()
+            && name.iter().zip(target).all(|((kind, value), (wanted, other))| {
+                let syntax = directory.syntax(*kind).unwrap_or_default();
+                kind == wanted && equal(syntax, value, other)
+            })
+    };
+    let places: Vec<usize> = (0..directory.entries.len()).filter(behind).collect();
+    (!places.is_empty()).then(|| *random.pick(&places))
 }
 
 /// Removes an entry and all below it.

@@ -1,6 +1,7 @@
 //! Random requests against a world: names that exist, nearly exist or do not, filters of all
 //! kinds, selections with repeats, unknown types and unfit values.
 
+use crate::aliases::name_through_alias;
 use crate::random::Random;
 use crate::values::{other_letters, unfit, value, variant, OCTETS, TEXT};
 use crate::world::{free_part, some_value, stored_name, user_name};
@@ -60,7 +61,8 @@ pub fn requester(random: &mut Random, directory: &DirectorySheet) -> Name {
 }
 
 fn asked_name(random: &mut Random, directory: &DirectorySheet) -> Name {
-    let mut name = stored_name(random, directory);
+    let through = random.percent(30).then(|| name_through_alias(random, directory)).flatten();
+    let mut name = through.unwrap_or_else(|| stored_name(random, directory));
     if random.percent(35) {
         spoil(random, directory, &mut name);
     }

@@ -3,6 +3,7 @@
 
 use crate::values::{equal, fits};
 use peer::builder::{DirectorySheet, ItemLines, Name, PermissionSheet, Thing, User};
+use std::collections::BTreeSet;
 
 const READ: u32 = 1;
 const BROWSE: u32 = 2;
@@ -60,6 +61,14 @@ pub fn shown(
         entries.push(ShownEntry { name: view.entry.clone(), types });
     }
     entries
+}
+
+/// The stored names and targets of all aliases, seen or not: who names one learns where it leads.
+pub fn aliases(directory: &DirectorySheet) -> BTreeSet<(Name, &Name)> {
+    let target = |index: usize| directory.entries[index].target.as_ref();
+    (0..directory.entries.len())
+        .filter_map(|index| Some((directory.name(index), target(index)?)))
+        .collect()
 }
 
 /// The thing asked about.

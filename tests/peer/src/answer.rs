@@ -14,6 +14,7 @@ pub enum Outcome {
     InsufficientAccessRights = 2,
     NoSuchAttributeOrValue = 3,
     InvalidAttributeSyntax = 4,
+    AliasProblem = 5,
 }
 
 pub struct Answer {
@@ -29,8 +30,13 @@ impl Answer {
     }
 
     pub fn line(&mut self, kind: u32, a: u32, b: u32, bytes: &[u8]) {
+        self.marked_line(kind, a, b, 0, bytes);
+    }
+
+    /// With column C.
+    pub fn marked_line(&mut self, kind: u32, a: u32, b: u32, c: u32, bytes: &[u8]) {
         let bytes = if planted(Fault::BlanksDroppedInAnswers) { bytes.trim_ascii() } else { bytes };
-        append(&mut self.sheet, self.form, &Line { kind, a, b, c: 0, bytes });
+        append(&mut self.sheet, self.form, &Line { kind, a, b, c, bytes });
     }
 
     /// K 9 for each part of an entry's stored name.
@@ -39,6 +45,11 @@ impl Answer {
             let naming = &directory.entry(above.into()).naming;
             self.line(9, directory.schema.number(naming.slot), 0, naming.value.bytes);
         }
+    }
+
+    /// B of line 30, for a planted fault.
+    pub fn become_alias_problem(&mut self) {
+        self.sheet[self.form.digit(2)] = b'5';
     }
 
     /// C of line 30: the size limit cut the answer.

@@ -43,13 +43,15 @@ pub struct EntryLines {
     pub parent: u32,
     pub naming: (u32, Vec<u8>),
     pub values: Vec<(u32, Vec<u8>)>,
+    /// Of an alias.
+    pub target: Option<Name>,
 }
 
 impl EntryLines {
     /// An entry that holds its naming value alone.
     pub fn bare(parent: u32, kind: u32, value: &[u8]) -> Self {
         let naming = (kind, value.to_vec());
-        EntryLines { parent, values: vec![naming.clone()], naming }
+        EntryLines { parent, values: vec![naming.clone()], naming, target: None }
     }
 }
 
@@ -60,9 +62,14 @@ impl DirectorySheet {
             sheet.line(1, number, syntax, 0, &[]);
         }
         for entry in &self.entries {
-            sheet.line(2, entry.parent, entry.naming.0, 0, &entry.naming.1);
+            let mark = u32::from(entry.target.is_some());
+            sheet.line(2, entry.parent, entry.naming.0, mark, &entry.naming.1);
             for (kind, value) in &entry.values {
                 sheet.line(3, *kind, 0, 0, value);
+            }
+            if let Some(target) = &entry.target {
+                sheet.line(36, 0, target.len() as u32, 0, &[]);
+                sheet.name(target);
             }
         }
         sheet.bytes

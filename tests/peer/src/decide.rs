@@ -1,10 +1,12 @@
 //! The decision function, for one requester.
 
+use crate::alias::resolve;
 use crate::directory::{Directory, Number, ROOT};
 use crate::fault::{planted, Fault};
-use crate::name::{begins_with, Asked};
+use crate::name::{begins_with, Asked, Part};
 use crate::permissions::{Covers, Item, Mask, Permissions, What, Who, ALL};
 use crate::schema::{Slot, MAX_TYPES};
+use std::borrow::Cow;
 use std::cmp::Reverse;
 
 pub struct Requester<'a> {
@@ -42,7 +44,7 @@ impl<'d, 'a> Judge<'d, 'a> {
     pub fn new(
         directory: &'d Directory<'a>,
         permissions: &'d Permissions<'a>,
-        requester: &Requester,
+        requester: &Requester<'a>,
     ) -> Self {
         let mut rules = fitting(directory, permissions, requester);
         rules.sort_by_key(|rule| Reverse(rule.rank));
@@ -117,14 +119,17 @@ impl<'d, 'a> Judge<'d, 'a> {
 }
 
 /// The items that fit the requester, as rules in the order of the sheet.
-fn fitting<'p>(
-    directory: &Directory,
-    permissions: &'p Permissions,
-    requester: &Requester,
+fn fitting<'p, 'a>(
+    directory: &Directory<'a>,
+    permissions: &'p Permissions<'a>,
+    requester: &Requester<'a>,
 ) -> Vec<Rule<'p>> {
-    let path = directory.walk(requester.name.iter().map(Option::as_ref));
+    let replaced = planted(Fault::RequesterReplaced)
+        .then(|| resolve(directory, &requester.name, |_| true).name);
+    let user = replaced.as_ref().unwrap_or(&requester.name);
+    let path = directory.walk(user.iter().map(Option::as_ref));
     // The entry that the requester is, if any.
-    let own = path.last().copied().filter(|_| path.len() == requester.name.len());
+    let own = path.last().copied().filter(|_| path.len() == user.len());
     let rule = |item: &'p Item| {
         let by_level = item.grants || planted(Fault::LevelCountsForDenials);
         let level_fits = !by_level || requester.level >= item.level || planted(Fault::LevelIgnored);
@@ -136,20 +141,21 @@ fn fitting<'p>(
             Who::AtOrBelow(name) => {
                 let name = &permissions.parts[name.clone()];
                 let wrong = match () {
-                    _ if planted(Fault::BelowExcludesTheName) => requester.name.len() == name.len(),
+                    _ if planted(Fault::BelowExcludesTheName) => user.len() == name.len(),
                     _ if planted(Fault::BelowEmptyNameIsNobody) => name.is_empty(),
-                    _ if planted(Fault::UnfitPartSpoilsName) => requester.name.contains(&None),
+                    _ if planted(Fault::UnfitPartSpoilsName) => user.contains(&None),
                     _ => false,
                 };
-                let fits = begins_with(&requester.name, name) && !wrong;
+                let fits = begins_with(user, &who_name(directory, name)) && !wrong;
                 (1, fits.then_some(item.covers)?)
             }
             Who::Named(name) => {
                 let name = &permissions.parts[name.clone()];
-                let exact = requester.name.len() == name.len()
+                let name = &who_name(directory, name)[..];
+                let exact = user.len() == name.len()
                     || (planted(Fault::EmptyNameIsEverybody) && name.is_empty());
                 let exists = !planted(Fault::NamedUserMustExist) || own.is_some();
-                let fits = exact && exists && begins_with(&requester.name, name);
+                let fits = exact && exists && begins_with(user, name);
                 (2, fits.then_some(item.covers)?)
             }
             Who::EntryItself => {
@@ -174,6 +180,16 @@ fn fitting<'p>(
         })
     };
     permissions.items.iter().filter_map(rule).collect()
+}
+
+/// The name of a "who"; with its aliases replaced only by a planted fault.
+fn who_name<'n, 'a>(directory: &Directory<'a>, name: &'n [Part<'a>]) -> Cow<'n, [Part<'a>]> {
+    if planted(Fault::WhoReplaced) {
+        let asked = name.iter().copied().map(Some).collect();
+        Cow::Owned(resolve(directory, &asked, |_| true).name.into_iter().flatten().collect())
+    } else {
+        Cow::Borrowed(name)
+    }
 }
 
 /// What rules of one rank say about each permission.

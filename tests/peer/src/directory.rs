@@ -1,4 +1,4 @@
-//! The directory sheet: schema, entries and their values.
+//! The directory sheet: schema, entries, their values, and the targets of aliases.
 
 use crate::fault::{planted, Fault};
 use crate::form::Form;
@@ -37,6 +37,18 @@ pub struct Entry<'a> {
     held: Range<usize>,
     /// One bit for each slot held.
     held_slots: u64,
+    alias: Option<Target>,
+}
+
+/// An alias's target, as far as it has been read.
+#[derive(Clone, Debug, Default)]
+struct Target {
+    /// Whether K 36 has been met.
+    begun: bool,
+    /// Places in `Directory::targets`.
+    parts: Range<usize>,
+    /// Parts that are still to come.
+    due: u32,
 }
 
 impl Entry<'_> {
@@ -46,6 +58,10 @@ impl Entry<'_> {
 
     pub fn holds(&self, slot: Slot) -> bool {
         self.held_slots & (1 << slot) != 0
+    }
+
+    pub fn is_alias(&self) -> bool {
+        self.alias.is_some()
     }
 }
 
@@ -62,6 +78,8 @@ pub struct Directory<'a> {
     entries: Vec<Entry<'a>>,
     held: Vec<Held>,
     pub values: Vec<Value<'a>>,
+    /// The parts of all targets; one that the schema does not allow only by a planted fault.
+    targets: Vec<Option<Part<'a>>>,
     /// By entry number, the root's first.
     links: Vec<Links>,
 }
@@ -77,12 +95,15 @@ impl<'a> Directory<'a> {
             entries: Vec::new(),
             held: Vec::new(),
             values: Vec::new(),
+            targets: Vec::new(),
             links: vec![Links::default()],
         };
         for line in Lines::new(form, sheet) {
             directory.add_line(form, line?)?;
         }
+        directory.close_alias(Fault::MissingTargetBeforeNaming)?;
         directory.close_entry()?;
+        directory.close_target()?;
         Ok(directory)
     }
 
@@ -97,7 +118,9 @@ impl<'a> Directory<'a> {
         match line.kind {
             1 => self.add_type(line),
             2 => self.add_entry(line),
-            _ => self.add_value(line),
+            3 => self.add_value(line),
+            36 => self.add_target(line),
+            _ => self.add_part(line),
         }
     }
 
@@ -127,9 +150,19 @@ impl<'a> Directory<'a> {
                 Reason::NotAllowed
             });
         }
-        // The line is in form: the entry before it is complete.
+        // The line is in form: the entry before it is complete, or its target is missing here.
+        self.close_alias(Fault::MissingTargetBeforeNaming)?;
+        let of_alias = parent != ROOT && self.entry(parent).is_alias();
+        if of_alias && planted(Fault::AliasChildBeforeNaming) {
+            return Err(Reason::OutOfOrder);
+        }
         if !planted(Fault::NamingJudgedLate) {
             self.close_entry()?;
+        }
+        self.close_target()?;
+        let childless = !planted(Fault::AliasChildAccepted);
+        if of_alias && childless && !planted(Fault::AliasChildJudgedLate) {
+            return Err(Reason::OutOfOrder);
         }
         let (mut lineage, above) = match parent {
             ROOT => ([0; MAX_DEPTH + 1], 0),
@@ -156,6 +189,9 @@ impl<'a> Directory<'a> {
         if planted(Fault::NamingJudgedLate) {
             self.close_entry()?;
         }
+        if of_alias && childless {
+            return Err(Reason::OutOfOrder);
+        }
         self.link(parent, number);
         let start = self.held.len();
         self.entries.push(Entry {
@@ -165,6 +201,7 @@ impl<'a> Directory<'a> {
             depth: above + 1,
             held: start..start,
             held_slots: 0,
+            alias: (line.c != 0).then(Target::default),
         });
         Ok(())
     }
@@ -173,6 +210,12 @@ impl<'a> Directory<'a> {
         let Some(entry) = self.entries.last_mut() else {
             return Err(Reason::OutOfOrder);
         };
+        let after = entry.alias.as_ref().is_some_and(|target| {
+            target.begun && (target.due > 0 || !planted(Fault::ValueAfterTargetAccepted))
+        });
+        if after {
+            return Err(Reason::OutOfOrder);
+        }
         let last = self.held[entry.held.clone()].last_mut();
         let highest = last.as_ref().map_or(0, |held| self.schema.number(held.slot));
         if line.a < highest {
@@ -205,9 +248,86 @@ impl<'a> Directory<'a> {
         Ok(())
     }
 
+    /// K 36, once after the values of an alias.
+    fn add_target(&mut self, line: Line) -> Result<(), Reason> {
+        let misplaced = Err(match () {
+            _ if planted(Fault::MisplacedTargetNotAllowed) => Reason::NotAllowed,
+            _ => Reason::OutOfOrder,
+        });
+        if planted(Fault::AliasNamingBeforeTarget) {
+            self.close_entry()?;
+        }
+        let start = self.targets.len();
+        let Some(entry) = self.entries.last_mut() else {
+            return misplaced;
+        };
+        match &mut entry.alias {
+            Some(target) if !target.begun => {
+                *target = Target { begun: true, parts: start..start, due: line.b };
+            }
+            Some(target) if planted(Fault::TargetTwiceAccepted) && target.due == 0 => {
+                *target = Target { begun: true, parts: start..start, due: line.b };
+            }
+            None if planted(Fault::TargetOfEntryAccepted) => {
+                entry.alias = Some(Target { begun: true, parts: start..start, due: line.b });
+            }
+            _ => return misplaced,
+        }
+        Ok(())
+    }
+
+    /// K 9, a part of the last alias's target.
+    fn add_part(&mut self, line: Line<'a>) -> Result<(), Reason> {
+        let target = self.entries.last_mut().and_then(|entry| entry.alias.as_mut());
+        let surplus = planted(Fault::SurplusPartAccepted);
+        let Some(target) = target.filter(|target| target.due > 0 || (surplus && target.begun))
+        else {
+            return Err(match () {
+                _ if planted(Fault::MisplacedPartNotAllowed) => Reason::NotAllowed,
+                _ => Reason::OutOfOrder,
+            });
+        };
+        let part = Part::new(&self.schema, line.a, line.bytes);
+        let unfit = match self.schema.slot(line.a) {
+            None => Fault::TargetOfUnknownTypeAccepted,
+            Some(_) => Fault::TargetOutsideSyntaxAccepted,
+        };
+        if part.is_none() && !planted(unfit) {
+            return Err(Reason::NotInSchema);
+        }
+        target.parts.end += 1;
+        target.due = target.due.saturating_sub(1);
+        self.targets.push(part);
+        Ok(())
+    }
+
+    /// The last entry, if it is an alias, has its whole target.
+    fn close_target(&self) -> Result<(), Reason> {
+        let alias = self.entries.last().and_then(|entry| entry.alias.as_ref());
+        match alias {
+            Some(target) if !target.begun && !planted(Fault::MissingTargetAccepted) => {
+                Err(Reason::OutOfOrder)
+            }
+            Some(target) if target.due > 0 && !planted(Fault::MissingPartAccepted) => {
+                Err(Reason::OutOfOrder)
+            }
+            _ => Ok(()),
+        }
+    }
+
+    /// As `close_target`, too early, if the fault is planted.
+    fn close_alias(&self, early: Fault) -> Result<(), Reason> {
+        if planted(early) {
+            self.close_target()
+        } else {
+            Ok(())
+        }
+    }
+
     /// The last entry is complete: its naming value must be among its values.
     fn close_entry(&self) -> Result<(), Reason> {
-        let Some(entry) = self.entries.last() else {
+        let unjudged = |entry: &&Entry| entry.is_alias() && planted(Fault::AliasNamingUnjudged);
+        let Some(entry) = self.entries.last().filter(|entry| !unjudged(entry)) else {
             return Ok(());
         };
         let among = self.values_of(entry, entry.naming.slot).iter().any(|value| {
@@ -279,6 +399,12 @@ impl<'a> Directory<'a> {
             parent = path[path.len() - 1];
         }
         path
+    }
+
+    /// The target of an alias.
+    pub fn target(&self, alias: Number) -> &[Option<Part<'a>>] {
+        let parts = self.entry(alias).alias.as_ref().map_or(0..0, |target| target.parts.clone());
+        &self.targets[parts]
     }
 
     /// Whether the entry is `base` or below it; everything is below the root.

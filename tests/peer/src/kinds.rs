@@ -7,16 +7,17 @@ use crate::sheet::{Line, Reason};
 pub const MAX_PARTS: u32 = 8;
 
 pub fn in_directory(kind: u32) -> bool {
-    matches!(kind, 1..=3) || (kind == 16 && planted(Fault::OrderInDirectoryMisplaced))
+    matches!(kind, 1..=3 | 9 | 36) || (kind == 16 && planted(Fault::OrderInDirectoryMisplaced))
 }
 
 pub fn in_permissions(kind: u32) -> bool {
     matches!(kind, 4..=9)
+        || (kind == 36 && planted(Fault::TargetInPermissionsMisplaced))
         || (kind == 16 && planted(Fault::OrderInPermissionsMisplaced))
 }
 
 pub fn in_request(kind: u32) -> bool {
-    matches!(kind, 9..=16 | 20..=28)
+    matches!(kind, 9..=16 | 20..=28) || (kind == 36 && planted(Fault::TargetInRequestMisplaced))
 }
 
 /// `NotAllowed` unless the sheet has the kind and every column is in its range. The parent
@@ -37,7 +38,7 @@ fn columns_allowed(form: Form, line: &Line) -> bool {
     let bare = bytes.is_empty();
     match kind {
         1 => is_type(a) && b <= 2 && c == 0 && bare,
-        2 => is_type(b) && c == 0,
+        2 => is_type(b) && c <= 1,
         3 | 9 | 14 | 23..=25 => is_type(a) && b == 0 && c == 0,
         4 => a <= 255 && b <= 2 && c <= 1 && bare,
         5 => a <= 1 && b <= MAX_PARTS && c == 0 && bare,
@@ -57,6 +58,7 @@ fn columns_allowed(form: Form, line: &Line) -> bool {
         22 => a == 0 && b == 0 && c == 0 && bare,
         27 => is_type(a) && (1..=8).contains(&b) && c == 0 && bare,
         28 => a <= 2 && b == 0 && c == 0 && !bare,
+        36 => a == 0 && (1..=MAX_PARTS).contains(&b) && c == 0 && bare,
         _ => false,
     }
 }
@@ -66,6 +68,9 @@ fn wrongly_allowed(form: Form, line: &Line) -> bool {
     let above = form.top_type() + 1;
     let Line { kind, a, b, c, bytes } = *line;
     match (kind, a, b, c) {
+        (2, _, 1..=999, 2) => planted(Fault::AliasMarkTwoAccepted),
+        (36, 0, 0, 0) => planted(Fault::TargetOfNoPartsAccepted) && bytes.is_empty(),
+        (36, 0, 9, 0) => planted(Fault::TargetOfNinePartsAccepted) && bytes.is_empty(),
         (4, 256, 0..=2, 0..=1) => planted(Fault::Precedence256Accepted) && bytes.is_empty(),
         (4, 0..=255, 3, 0..=1) => planted(Fault::LevelThreeAccepted) && bytes.is_empty(),
         (6, 0 | 2, 1..=8, 0) => planted(Fault::NameForAllUsersAccepted) && bytes.is_empty(),

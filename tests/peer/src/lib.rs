@@ -4,6 +4,7 @@
 //! the requester are kept in the order in which they decide, and those that cover an entry are
 //! picked once per entry.
 
+pub mod alias;
 pub mod answer;
 pub mod builder;
 pub mod caller;

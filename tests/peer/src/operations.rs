@@ -1,5 +1,6 @@
 //! Read, compare, list and search.
 
+use crate::alias::resolve;
 use crate::answer::{Answer, Outcome};
 use crate::caller::SizeLimit;
 use crate::decide::Judge;
@@ -14,24 +15,49 @@ use crate::permissions::{Mask, Permissions, BROWSE, COMPARE, DISCLOSE_ON_ERROR, 
 use crate::request::{Operation, Purported, Request, Search, Selection, Subset};
 
 /// The answer to a request, with at most so many entries, if there is a limit.
-pub fn answer(
+pub fn answer<'a>(
     form: Form,
-    directory: &Directory,
-    permissions: &Permissions,
-    request: &Request,
+    directory: &Directory<'a>,
+    permissions: &Permissions<'a>,
+    request: &Request<'a>,
     most: Option<u32>,
 ) -> Vec<u8> {
+    let mut judge = Judge::new(directory, permissions, &request.requester);
+    let followed = match request.operation {
+        Operation::List { .. } => !planted(Fault::ListNameUnreplaced),
+        Operation::Search(_) => !planted(Fault::SearchNameUnreplaced),
+        _ => !planted(Fault::ReadNameUnreplaced),
+    };
+    let resolved = resolve(directory, &request.name, |alias| {
+        let needed = match () {
+            _ if planted(Fault::ReplacementNeedsRead) => READ,
+            _ if planted(Fault::ReplacementNeedsBrowse) => BROWSE,
+            _ if planted(Fault::ReplacementNeedsDisclosure) => DISCLOSE_ON_ERROR,
+            _ => 0,
+        };
+        followed && judge.enter(alias) & needed == needed
+    });
     let mut service = Service {
         form,
         directory,
-        judge: Judge::new(directory, permissions, &request.requester),
+        judge,
         edition: request.edition,
         operation: request.operation.number(),
         most,
-        asked: &request.name,
-        path: directory.walk(request.name.iter().map(Option::as_ref)),
+        asked: resolved.name,
+        path: resolved.path,
     };
-    service.perform(&request.operation).into_bytes()
+    if planted(Fault::MatchedNameUnreplaced) && service.path.len() < service.asked.len() {
+        service.asked = request.name.clone();
+        service.path = directory.walk(request.name.iter().map(Option::as_ref));
+        service.path.truncate(service.asked.len() - 1);
+    }
+    let answer = if resolved.problem {
+        service.alias_problem()
+    } else {
+        service.perform(&request.operation)
+    };
+    answer.into_bytes()
 }
 
 struct Service<'d, 'a> {
@@ -43,7 +69,8 @@ struct Service<'d, 'a> {
     operation: u32,
     /// The caller's limit of entries.
     most: Option<u32>,
-    asked: &'d Asked<'a>,
+    /// Once aliases are replaced.
+    asked: Asked<'a>,
     /// The entries that the name asked for leads to, as far as they exist.
     path: Vec<Number>,
 }
@@ -65,6 +92,17 @@ impl Service<'_, '_> {
 
     fn answer(&self, outcome: Outcome) -> Answer {
         Answer::new(self.form, self.operation, outcome)
+    }
+
+    /// Aliases lead from one to the next too often.
+    fn alias_problem(&mut self) -> Answer {
+        if planted(Fault::AliasProblemIsMatched) {
+            self.path = self.directory.walk(self.asked.iter().map(Option::as_ref));
+            let mut answer = self.no_such_object();
+            answer.become_alias_problem();
+            return answer;
+        }
+        self.answer(Outcome::AliasProblem)
     }
 
     /// With the longest proper beginning of the name that names an entry open to disclosure.
@@ -188,17 +226,34 @@ impl Service<'_, '_> {
             let rights = self.judge.enter(child);
             let wanted =
                 if planted(Fault::ListIgnoresReturnDn) { BROWSE } else { BROWSE | RETURN_DN };
-            if rights & wanted != wanted {
+            let left_out = planted(Fault::AliasesUnlisted) && directory.entry(child).is_alias();
+            if rights & wanted != wanted || left_out {
                 count.withhold();
                 continue;
             }
             if !count.take() {
                 break;
             }
-            let naming = &directory.entry(child).naming;
-            count.answer.line(32, directory.schema.number(naming.slot), 0, naming.value.bytes);
+            let entry = directory.entry(child);
+            let kind = directory.schema.number(entry.naming.slot);
+            let mark = u32::from(self.is_marked(child));
+            count.answer.marked_line(32, kind, 0, mark, entry.naming.value.bytes);
         }
         self.close(base, count)
+    }
+
+    /// Whether list marks an entry as an alias.
+    fn is_marked(&self, number: Number) -> bool {
+        let exists = |target: &[Option<_>]| {
+            self.directory.walk(target.iter().map(Option::as_ref)).len() == target.len()
+        };
+        match () {
+            _ if planted(Fault::AliasesListedUnmarked) => false,
+            _ if planted(Fault::AliasMarkedIfTargetExists) => {
+                self.directory.entry(number).is_alias() && exists(self.directory.target(number))
+            }
+            _ => self.directory.entry(number).is_alias(),
+        }
     }
 
     fn search(&mut self, base: Number, search: &Search) -> Answer {
@@ -282,9 +337,10 @@ impl Service<'_, '_> {
 
     /// An entry that was found.
     fn show(&mut self, answer: &mut Answer, number: Number, selection: &Selection) {
-        self.judge.enter(number);
-        self.head(answer, number, true);
-        self.information(answer, number, selection);
+        let shown = self.followed(number);
+        self.judge.enter(shown);
+        self.head(answer, shown, true);
+        self.information(answer, shown, selection);
     }
 
     fn matches(&mut self, number: Number, base: Number, filter: &Filter) -> bool {
@@ -299,6 +355,7 @@ impl Service<'_, '_> {
         let entry = self.directory.entry(number);
         found
             && named
+            && !(entry.is_alias() && planted(Fault::AliasesNotSearched))
             && filter.evaluate(self.edition, self.directory, entry, &mut self.judge) == Truth::True
     }
 
@@ -320,12 +377,24 @@ impl Service<'_, '_> {
         count.answer
     }
 
+    /// The entry itself; where an alias leads only by a planted fault.
+    fn followed(&self, number: Number) -> Number {
+        if planted(Fault::SearchFollowsAliases) && self.directory.entry(number).is_alias() {
+            let target = self.directory.target(number);
+            let path = self.directory.walk(target.iter().map(Option::as_ref));
+            return path.last().copied().filter(|_| path.len() == target.len()).unwrap_or(number);
+        }
+        number
+    }
+
     /// K 33 and the stored name.
     fn head(&self, answer: &mut Answer, number: Number, named: bool) {
         let shown = if planted(Fault::EntryNumberShown) { number as u32 } else { 0 };
         if named {
             let parts = self.directory.entry(number).lineage().len();
-            answer.line(33, shown, parts as u32, &[]);
+            let alias = self.directory.entry(number).is_alias();
+            let mark = u32::from(alias && planted(Fault::FoundAliasMarked));
+            answer.marked_line(33, shown, parts as u32, mark, &[]);
             answer.name(self.directory, number);
         } else {
             answer.line(33, shown, 0, &[]);

@@ -1,10 +1,11 @@
 //! The permission sheet: items of K 4 to 8.
 
+use crate::alias::resolve;
 use crate::directory::{Directory, Number, ROOT};
 use crate::fault::{planted, Fault};
 use crate::form::Form;
 use crate::kinds;
-use crate::name::Part;
+use crate::name::{Asked, Part};
 use crate::schema::{Schema, Slot};
 use crate::sheet::{Line, Lines, Reason};
 use crate::value::Value;
@@ -70,7 +71,7 @@ pub struct Permissions<'a> {
 }
 
 impl<'a> Permissions<'a> {
-    pub fn decode(form: Form, sheet: &'a [u8], directory: &Directory) -> Result<Self, Reason> {
+    pub fn decode(form: Form, sheet: &'a [u8], directory: &Directory<'a>) -> Result<Self, Reason> {
         let longest = form.longest(MAX_LENGTH);
         if sheet.len() > longest + usize::from(planted(Fault::LongPermissionsAccepted)) {
             return Err(Reason::TooLong);
@@ -92,7 +93,7 @@ impl<'a> Permissions<'a> {
         &mut self,
         first: Line<'a>,
         reader: &mut Reader<'a, '_>,
-        directory: &Directory,
+        directory: &Directory<'a>,
     ) -> Result<Item<'a>, Reason> {
         let base = reader.expect(5)?;
         let covers = {
@@ -123,8 +124,12 @@ impl<'a> Permissions<'a> {
     }
 }
 
-fn covers(directory: &Directory, name: &[Part], subtree: bool) -> Covers {
-    let path = directory.walk(name.iter().map(Some));
+fn covers<'a>(directory: &Directory<'a>, name: &[Part<'a>], subtree: bool) -> Covers {
+    let mut name: Asked = name.iter().copied().map(Some).collect();
+    if planted(Fault::BaseReplaced) {
+        name = resolve(directory, &name, |_| true).name;
+    }
+    let path = directory.walk(name.iter().map(Option::as_ref));
     match path.last() {
         _ if path.len() < name.len() => Covers::Nothing,
         None if subtree || planted(Fault::EmptyBaseAloneCoversAll) => Covers::Subtree(ROOT),

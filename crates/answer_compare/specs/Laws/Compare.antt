@@ -8,7 +8,7 @@ use lib.Dec.{eqb}
 use lib.ListN.{length, getD}
 use borrow.Author.Tests.{eq-eqb, ne-eqb}
 use Rattle.rules.specs.Lists.{any}
-use Rattle.rules.specs.Sheet.{Bytes, Line, line}
+use Rattle.rules.specs.Sheet.{Bytes, Line, line, bit}
 use Rattle.rules.specs.Value.{fits}
 use Rattle.rules.specs.Name.{Schema, part, Name, allowed, equal}
 use Rattle.rules.specs.Directory.{Stored, blank, heldOf, Entry, entryOf}
@@ -16,7 +16,7 @@ use Rattle.rules.specs.Permission.{DiscloseOnError, Compare}
 use Rattle.rules.specs.Decision.{Setting, ofType, ofValue, granted}
 use Rattle.rules.specs.Request.{Selection}
 use Rattle.rules.specs.FilterItem.{holds, someValue}
-use Rattle.rules.specs.Answer.{bit, outcome, compareEntry}
+use Rattle.rules.specs.Answer.{outcome, compareEntry}
 use Rattle.rules.specs.Laws.Held.{holds-flat, someValue-flat}
 use Rattle.rules.specs.declared.Outcome.{Outcome}
 use Rattle.rules.specs.declared.Outcome.the-variants.{Result, InsufficientAccessRights, NoSuchAttributeOrValue, InvalidAttributeSyntax}

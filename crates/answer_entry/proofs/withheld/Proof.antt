@@ -9,7 +9,7 @@ use Rattle.answer_entry.proofs.withheld.Statement.{statement}
 use Rattle.answer_entry.proofs.withheld.Tie as tie
 
 abbrev others : List ℕ
-others = 0 ∷ 2 ∷ 3 ∷ 4 ∷ []
+others = 0 ∷ 2 ∷ 3 ∷ 4 ∷ 5 ∷ []
 
 returns : tie.Need-returns
 returns c = rw (c .before .enum-told .given .1) (c .absent .ensures)

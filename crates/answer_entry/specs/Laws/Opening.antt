@@ -15,7 +15,7 @@ use Rattle.rules.specs.Answer.{outcome, noSuchObject, named, opened}
 use Rattle.rules.specs.Laws.Directory.{Accepted}
 use Rattle.rules.specs.Laws.Resolve.{numbered, entryBy, named-walk}
 use Rattle.rules.specs.declared.Outcome.{Outcome}
-use Rattle.rules.specs.declared.Outcome.the-variants.{Result, NoSuchObject, InsufficientAccessRights, NoSuchAttributeOrValue, InvalidAttributeSyntax}
+use Rattle.rules.specs.declared.Outcome.the-variants.{Result, NoSuchObject, InsufficientAccessRights, NoSuchAttributeOrValue, InvalidAttributeSyntax, AliasProblem}
 use Rattle.rules.specs.declared.Found.{Found}
 use Rattle.rules.specs.declared.Found.the-variants.{At, Nothing}
 use Rattle.tables.specs.Sets.{grantedAt}
@@ -54,6 +54,7 @@ module _ (op : ℕ) where
   withheld-refused InsufficientAccessRights missing h = refl
   withheld-refused NoSuchAttributeOrValue missing h = refl
   withheld-refused InvalidAttributeSyntax missing h = refl
+  withheld-refused AliasProblem missing h = refl
 
   pub withheld-sound : (o : Outcome) (missing count : ℕ) (hits : List ℕ) → missing ≤ count → SoundPlan count (withheldPlan op o missing) hits
   withheld-sound Result missing count hits l = refused-sound count hits op Result
@@ -61,6 +62,7 @@ module _ (op : ℕ) where
   withheld-sound InsufficientAccessRights missing count hits l = refused-sound count hits op InsufficientAccessRights
   withheld-sound NoSuchAttributeOrValue missing count hits l = refused-sound count hits op NoSuchAttributeOrValue
   withheld-sound InvalidAttributeSyntax missing count hits l = refused-sound count hits op InvalidAttributeSyntax
+  withheld-sound AliasProblem missing count hits l = refused-sound count hits op AliasProblem
 
 module _ (σ : Setting) (es : List Stored) (ok : Accepted (σ .schema) es) (n : Name) (base : Found) (missing : ℕ) (h : Base σ es n base missing) (op q : ℕ) (f : Entry → List Line) where
   by-number : opened σ (map entryOf es) op q n f (named σ (map entryOf es) n) ≡ opened σ (map entryOf es) op q n f (entryBy es base)

@@ -9,14 +9,13 @@ use lib.ListN.{length, getD, take, length-map}
 use lib.Seq.{take-take, take-all, length-take-le}
 use borrow.Author.Tests.{ne-eqb, ltb-true, ltb-false}
 use Rattle.rules.specs.Lists.{gather, any, isEmpty}
-use Rattle.rules.specs.Sheet.{Line, line}
+use Rattle.rules.specs.Sheet.{Line, line, bit}
 use Rattle.rules.specs.Name.{Name}
 use Rattle.rules.specs.Directory.{Stored, entryOf}
 use Rattle.rules.specs.Permission.{Read, Browse, ReturnDN, DiscloseOnError}
 use Rattle.rules.specs.Decision.{Setting, entry, granted}
 use Rattle.rules.specs.Request.{Selection}
 use Rattle.rules.specs.Answer as Answer
-use Rattle.rules.specs.Answer.{bit}
 use Rattle.rules.specs.Laws.Directory.{Accepted}
 use Rattle.rules.specs.Numbers.{walk}
 use Rattle.rules.specs.Laws.Resolve.{numbered, disclosed-walk, entryBy, test}

@@ -11,20 +11,10 @@ use borrow.Author.Tests.{lt-ltb, le-ltb}
 use Rattle.rules.specs.Sheet.{Bytes, Line, lineBytes, print}
 use Rattle.rules.specs.Laws.Sheet.{line-length}
 use Rattle.sheet_write.specs.Put.{putAt}
-use Rattle.sheet_write.specs.Laws.Put.{put-append}
+use Rattle.sheet_write.specs.Laws.Put.{put-none, put-length, put-append}
 use Rattle.answer_line.specs.Emit.{emitAt, emitLines, Emits}
 
 -- ---- one part
-
-put-none : (d : Bytes) (at : ℕ) → putAt d at [] ≡ d
-unfolding putAt
-put-none d at = let e : at + 0 ≡ at = omega arith in rw (append-nil (take at d), e) (take-append-drop at d)
-
-put-length : (d : Bytes) (at : ℕ) (s : Bytes) → at + length s ≤ length d → length (putAt d at s) ≡ length d
-unfolding putAt
-put-length d at s h =
-    let t : length (take at d) ≡ at = length-take-le at d (omega arith) in
-    length-append (take at d ++ s) (drop (at + length s) d) ∙ rw (length-append (take at d) s, t, length-drop (at + length s) d) (omega arith)
 
 -- a part from the first byte on
 pub put-front : (d s : Bytes) → putAt d 0 s ≡ s ++ drop (length s) d

@@ -16,7 +16,7 @@ use Rattle.rules.specs.Laws.Directory.{Accepted}
 use Rattle.rules.specs.declared.Found.{Found}
 use Rattle.rules.specs.declared.Found.the-variants.{At, Nothing}
 use Rattle.answer_plan.specs.declared.Plan.{Plan}
-use Rattle.answer_plan.specs.Plan.{childLines, successLines, planned}
+use Rattle.answer_plan.specs.Plan.{aliasesOf, childLines, successLines, planned}
 use Rattle.answer_plan.specs.Sound.{Base}
 use Rattle.answer_plan.specs.Outcome.{absentPlan}
 use Rattle.tables.specs.Sets.{grantedAt}
@@ -30,11 +30,11 @@ use Rattle.answer_list.specs.Laws.Hits.{list-hits}
 
 module _ (σ : Setting) (es : List Stored) (ok : Accepted (σ .schema) es) (n : Name) (base : Found) (missing : ℕ) (h : Base σ es n base missing) (plan : Plan) (hits : List ℕ) where
   -- the base is absent
-  pub list-none : base ≡ Nothing → (s : Selection) (limit : ℕ) → plan ≡ absentPlan 3 missing → planned σ es s plan hits ≡ answer σ (map entryOf es) n (list limit)
+  pub list-none : base ≡ Nothing → (s : Selection) (limit : ℕ) → plan ≡ absentPlan 3 missing → planned σ es s plan hits ≡ answer σ (map entryOf es) (aliasesOf σ es) n (list limit)
   unfolding entries directoryOf
   list-none e s limit q =
       planned-absent σ es ok n base missing h plan hits s 3 q
-      ∙ sym (list-absent σ (directoryOf σ es) refl ok n (not-root σ es ok n base missing h e) (not-present σ es ok n base missing h e) limit)
+      ∙ sym (list-absent σ (directoryOf σ es) refl ok n (not-root σ es ok n base missing h e) (not-present σ es ok n base missing h e) (aliasesOf σ es) limit)
 
   -- the base has number `b`
   module _ (b : ℕ) (e : base ≡ At b) (d : Bool) (told : d ≡ grantedAt σ es b entry DiscloseOnError) (count : ℕ) (room : count ≤ length hits) where
@@ -43,11 +43,11 @@ module _ (σ : Setting) (es : List Stored) (ok : Accepted (σ .schema) es) (n : 
     child-success s more shown = refl
 
     pub list-some : (s : Selection) (limit : ℕ) → take count hits ≡ passing (listedAt σ es b) (length es) → plan ≡ returnedPlan 3 missing d limit count
-        → planned σ es s plan hits ≡ answer σ (map entryOf es) n (list limit)
+        → planned σ es s plan hits ≡ answer σ (map entryOf es) (aliasesOf σ es) n (list limit)
     unfolding answer
     list-some s limit taken q =
         ap (λ (r : Plan). planned σ es s r hits) q
-        ∙ returned-planned σ es s hits count room 3 (childLines es) (child-success s) n base missing h d (told-disclosed σ es ok n base missing h b e d told) limit (listHits σ (map entryOf es) n)
+        ∙ returned-planned σ es s hits count room 3 (childLines es) (child-success s) n base missing h d (told-disclosed σ es ok n base missing h b e d told) limit (listHits σ (map entryOf es) (aliasesOf σ es) n)
         (list-hits σ es ok n b (there σ es ok n base missing h b e) ∙ ap (map (childLines es)) (sym taken))
 
 -- ---- what the list of hits holds

@@ -1,16 +1,20 @@
 -- Laws of an entry's naming part and full name, by the numbers of the book.
 use Prim.Native.Nat.{ℕ, zero, suc, _+_, _-_, _≤_, _<_}
 use mathlib.Core.Path.{_≡_, refl, sym, ap, ap₂, _∙_, subst}
+use mathlib.Core.Bool.{not}
 use mathlib.Core.List.{List, [], _∷_, _++_}
 use native.Mathlib.Omega.{arith}
+use lib.Dec.{eqb}
 use lib.ListN.{length, getD, drop, length-append, length-drop}
 use lib.Seq.{length-take-le}
-use Rattle.rules.specs.Sheet.{Bytes, Line, line}
+use borrow.Author.Tests.{eq-eqb, ne-eqb}
+use Rattle.rules.specs.Sheet.{Bytes, Line, line, bit}
 use Rattle.rules.specs.Name.{Part, Name}
-use Rattle.rules.specs.Directory.{Stored, blank, nameAt}
+use Rattle.rules.specs.Directory.{Stored, blank, nameAt, isAlias}
 use Rattle.rules.specs.Decision.{Setting}
-use Rattle.rules.specs.Answer.{nameLines, entryLines}
-use Rattle.tables.specs.Book.{width, entries, placeAt, parentAt, namingAt, lengthAt, namingOf}
+use Rattle.rules.specs.Judge.{nameLines}
+use Rattle.rules.specs.Answer.{entryLines}
+use Rattle.tables.specs.Book.{width, entries, placeAt, parentAt, namingAt, lengthAt, namingOf, targetAt}
 use Rattle.tables.specs.World.{Entries}
 use Rattle.tables.specs.Laws.World.{entry-at, parent-is}
 use Rattle.answer_line.specs.Emit.{Emits}
@@ -28,11 +32,26 @@ module _ {σ : Setting} {es : List Stored} {d : Bytes} {book held : List ℕ} (E
       omega (arith, h, n, E .small)
 
   -- the line written is the naming part's
-  pub part-emits : {out : Bytes} {at kind : ℕ} {v out′ : Bytes} {r : ℕ} → v ≡ namingOf book d k → Emits (width book) out at (line kind (namingAt book k) 0 0 v ∷ []) out′ r
-      → Emits (width book) out at (namingLine kind (getD es k blank) ∷ []) out′ r
-  part-emits {out} {at} {kind} {out′ = out′} {r} q p =
+  pub part-emits : {out : Bytes} {at kind c : ℕ} {v out′ : Bytes} {r : ℕ} → v ≡ namingOf book d k → Emits (width book) out at (line kind (namingAt book k) 0 c v ∷ []) out′ r
+      → Emits (width book) out at (namingLine kind c (getD es k blank) ∷ []) out′ r
+  part-emits {out} {at} {kind} {c} {out′ = out′} {r} q p =
       subst (λ (x : Line). Emits (width book) out at (x ∷ []) out′ r)
-      (ap₂ (λ (t : ℕ) (v : Bytes). line kind t 0 0 v) (entry-at E k l .type) (q ∙ entry-at E k l .value)) p
+      (ap₂ (λ (t : ℕ) (v : Bytes). line kind t 0 c v) (entry-at E k l .type) (q ∙ entry-at E k l .value)) p
+
+-- whether it is an alias
+module _ {σ : Setting} {es : List Stored} {d : Bytes} {book held : List ℕ} (E : Entries σ es d book held) (k : ℕ) (l : k < entries book) where
+  aliased : isAlias (getD es k blank .target) ≡ not (eqb (targetAt book k) 0)
+  aliased = entry-at E k l .target .alias
+
+  pub mark-none : targetAt book k ≡ 0 → 0 ≡ bit (isAlias (getD es k blank .target))
+  mark-none e = rw (aliased, eq-eqb (targetAt book k) 0 e)
+
+  pub mark-some : (targetAt book k ≡ 0 → ⊥) → 1 ≡ bit (isAlias (getD es k blank .target))
+  mark-some e = rw (aliased, ne-eqb (targetAt book k) 0 e)
+
+-- the line with another number that is the same
+pub mark-emits : (w : ℕ) (out : Bytes) (at kind : ℕ) (e : Stored) {c m : ℕ} {out′ : Bytes} {r : ℕ} → c ≡ m → Emits w out at (namingLine kind c e ∷ []) out′ r → Emits w out at (namingLine kind m e ∷ []) out′ r
+mark-emits w out at kind e {out′ = out′} {r} q p = subst (λ (x : ℕ). Emits w out at (namingLine kind x e ∷ []) out′ r) q p
 
 -- ---- the name, by the parent's
 
@@ -96,11 +115,11 @@ named-root w out at es e z =
 -- the parent's name, and then the own part
 pub named-on : {σ : Setting} {es : List Stored} {d : Bytes} {book held : List ℕ} (E : Entries σ es d book held) (e : ℕ) → (e ≡ 0 → ⊥) → e ≤ entries book
     → {out : Bytes} {at : ℕ} {out₁ out₂ : Bytes} {n r : ℕ} → Emits (width book) out at (nameLines (nameAt es (parentAt book (e - 1)))) out₁ n
-    → Emits (width book) out₁ n (namingLine 9 (getD es (e - 1) blank) ∷ []) out₂ r → Emits (width book) out at (nameLines (nameAt es e)) out₂ r
+    → Emits (width book) out₁ n (namingLine 9 0 (getD es (e - 1) blank) ∷ []) out₂ r → Emits (width book) out at (nameLines (nameAt es e)) out₂ r
 named-on {es = es} {book = book} E e g l {out} {at} {out₁} {out₂} {n} {r} p q =
     subst (λ (ls : List Line). Emits (width book) out at ls out₂ r)
     (sym (ap nameLines (name-on E e (omega arith) l) ∙ lines-snoc (nameAt es (parentAt book (e - 1))) (getD es (e - 1) blank .naming)))
-    (emits-append (width book) out at (nameLines (nameAt es (parentAt book (e - 1)))) (namingLine 9 (getD es (e - 1) blank) ∷ []) p q)
+    (emits-append (width book) out at (nameLines (nameAt es (parentAt book (e - 1)))) (namingLine 9 0 (getD es (e - 1) blank) ∷ []) p q)
 
 -- the K 33 line, and then the name
 entry-is : (n : Name) → entryLines n ≡ (line 33 0 (length n) 0 [] ∷ []) ++ nameLines n

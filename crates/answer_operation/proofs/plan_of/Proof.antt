@@ -1,59 +1,63 @@
-use Prim.Native.Nat.{ℕ, _-_}
-use mathlib.Core.Path.{_≡_, refl, ap, _∙_}
+use Prim.Native.Nat.{ℕ}
+use mathlib.Core.Path.{sym, ap, _∙_, subst}
+use mathlib.Core.List.{List}
 use native.Mathlib.Omega.{arith}
 use denote.Ref.{now}
-use mathlib.Core.List.{List}
-use mathlib.Core.List.{map}
-use Rattle.rules.specs.Directory.{entryOf}
-use Rattle.rules.specs.Request.{Operation, compare, list}
-use Rattle.rules.specs.Answer.{answer}
-use Rattle.tables.specs.Book.{width, entries, schema}
-use Rattle.answer_plan.specs.Choice.{Chooses}
+use Rattle.rules.specs.Answer.{outcome}
+use Rattle.rules.specs.declared.Outcome.the-variants.{AliasProblem}
+use Rattle.tables.specs.Book.{width, entries}
 use Rattle.answer_plan.specs.Plan.{planned}
-use Rattle.answer_choice.specs.Selected.{nothingSelected, selectionOf}
+use Rattle.answer_plan.specs.Sound.{SoundPlan}
+use Rattle.answer_plan.specs.declared.Plan.{Plan}
+use Rattle.answer_plan.specs.Laws.Outcome.{refused-planned, refused-sound}
+use Rattle.answer_choice.specs.Selected.{selectionOf}
 use Rattle.answer_entry.specs.Passing.{over}
-use Rattle.answer_operation.specs.Hits.{foundBy}
-use Rattle.answer_operation.specs.Laws.Operations.{by-read, by-compare, by-list, by-search, value-within}
-use mathlib.Core.Path.{ap₂}
-use Rattle.answer_search.specs.Query.{KnownQuery}
-use Rattle.answer_operation.specs.Laws.Posed.{posed-base, posed-choice}
+use Rattle.answer_operation.specs.Laws.Posed.{posed-full, to-target, to-problem, answer-named, answer-problem, found-named, found-none, operation-is}
+use borrow.Author.Needs.{needs}
 use Rattle.answer_operation.proofs.plan_of.Statement.{statement}
 use Rattle.answer_operation.proofs.plan_of.Tie as tie
+use Rattle.answer_operation.proofs.plan_of.Reads as reads
+use Rattle.answer_operation.proofs.plan_of.Lts as lts
+use Rattle.answer_operation.proofs.plan_at.Reads as plan-at-reads
+use Rattle.answer_plan.proofs.refused.Reads as refused-reads
+use Rattle.answer_target.proofs.target_of.Reads as target-of-reads
 
-read-requires : tie.Need-read-requires
-read-requires c κs = let P = c .before .before .before .before .before .pre .0 in (posed-base P, posed-choice P)
+-- src/lib.rt:92:11
+target-of-requires : tie.Need-target-of-requires
+target-of-requires c κs = let A = c .before .before .before .args in let h = c .before .before .before .pre .0 in ((now (A .p), now (A .held), (h .0, h .1, h .4 .world)), posed-full h)
 
+-- src/lib.rt:93:26
+enum-known-target : tie.Need-enum-known-target
+enum-known-target c = search needs
+
+-- src/lib.rt:94:13
+plan-at-requires : tie.Need-plan-at-requires
+plan-at-requires c κs = let A = c .before .before .before .before .before .before .before .before .args in let h = c .before .before .before .before .before .before .before .before .pre .0 in let T = to-target (h .4) _ (c .before .before .before .before .target-of .ensures (h .0) (h .1) (now (A .p)) (now (A .held)) (h .4 .world)) (c .before .before .target .given .1) in ((h .0, h .1, h .2, h .3, T .0, h .4, T .1), search needs)
+
+-- src/lib.rt:96:60
+enum-told : tie.Need-enum-told
+enum-told c = search needs
+
+-- src/lib.rt:96:35
+refused-requires : tie.Need-refused-requires
+refused-requires c κs = search needs
+
+-- src/lib.rt:78:1
 returns : tie.Need-returns
-returns c = let A = c .before .before .before .before .before .before .args in let b = now (A .book) in let R = c .read .result in (c .read .ensures .0 (now (A .hits)), λ σ es G x Q. let w = Q .world in let N = Q .noted in let C = Q .chosen in let B = Q .named in by-read G (width b) (now (A .q)) (A .asked) (λ (o : Operation). Chooses (schema b) (selectionOf o) (A .choice) → planned σ es (selectionOf o) R (now (A .hits)) ≡ answer σ (map entryOf es) (x .base) o) (x .operation) (N .operation) (c .before .if1 .taken) (λ s. λ ch. c .read .ensures .1 σ es (x .base) s (now (A .hits)) w ch B) C, λ σ es G x w N. by-read G (width b) (now (A .q)) (A .asked) (λ (o : Operation). now (A .hits) ≡ over (foundBy σ es (A .target .base) o) (now (A .hits))) (x .operation) (N .operation) (c .before .if1 .taken) (λ s. refl))
+returns c = let A = c .before .before .before .before .before .before .before .before .before .args in (c .plan-at .ensures .0, λ σ es G x Q. let T = to-target Q _ (c .before .before .before .before .before .target-of .ensures σ es (now (A .p)) (now (A .held)) (Q .world)) (c .before .before .before .target .given .1) in (c .plan-at .ensures .1 σ es G x (T .0) Q (T .1) ∙ answer-named σ es (x .base) (x .operation) (T .0) (T .2), c .plan-at .ensures .2 σ es G x (Q .world) (Q .noted) ∙ ap (λ (f : List ℕ). over f (now (A .hits))) (found-named σ es (x .base) (x .operation) (T .0) _ _ (T .1) (T .2))))
 
-part-requires : tie.Need-part-requires
-part-requires c κs = let A = c .before .before .before .before .before .before .before .args in let b = now (A .book) in let P = c .before .before .before .before .before .before .before .pre .0 in value-within (P .2) (width b) (now (A .q)) (A .asked) (P .3 .operation) (P .4 .noted .operation) (c .if2 .taken)
-
-compare-requires : tie.Need-compare-requires
-compare-requires c κs = posed-base (c .before .before .before .before .before .before .before .before .pre .0)
-
+-- src/lib.rt:78:1
 returns-2 : tie.Need-returns-2
-returns-2 c = let A = c .before .before .before .before .before .before .before .before .before .args in let b = now (A .book) in let R = c .compare .result in (c .compare .ensures .0 (now (A .hits)), λ σ es G x Q. let w = Q .world in let N = Q .noted in let C = Q .chosen in let B = Q .named in by-compare G (width b) (now (A .q)) (A .asked) (λ (o : Operation). Chooses (schema b) (selectionOf o) (A .choice) → planned σ es (selectionOf o) R (now (A .hits)) ≡ answer σ (map entryOf es) (x .base) o) (x .operation) (N .operation) (c .before .before .if2 .taken) (λ t v et ev. λ ch. c .compare .ensures .1 σ es (x .base) nothingSelected (now (A .hits)) w B ∙ ap₂ (λ (i : ℕ) (u : List ℕ). answer σ (map entryOf es) (x .base) (compare i u)) et (c .before .part .ensures ∙ ev)) C, λ σ es G x w N. by-compare G (width b) (now (A .q)) (A .asked) (λ (o : Operation). now (A .hits) ≡ over (foundBy σ es (A .target .base) o) (now (A .hits))) (x .operation) (N .operation) (c .before .before .if2 .taken) (λ t v et ev. refl))
-
-list-requires : tie.Need-list-requires
-list-requires c κs = let A = c .before .before .before .before .before .before .before .before .before .before .args in let P = c .before .before .before .before .before .before .before .before .before .before .pre in (P .1, (now (A .d), now (A .p), now (A .held), posed-base (P .0)))
-
-returns-3 : tie.Need-returns-3
-returns-3 c = let A = c .before .before .before .before .before .before .before .before .before .before .before .args in let b = now (A .book) in let R = c .list .result in (c .list .ensures .0, λ σ es G x Q. let w = Q .world in let N = Q .noted in let C = Q .chosen in let B = Q .named in by-list G (width b) (now (A .q)) (A .asked) (λ (o : Operation). Chooses (schema b) (selectionOf o) (A .choice) → planned σ es (selectionOf o) R (c .list .last .1 .1 .1 .1 .0) ≡ answer σ (map entryOf es) (x .base) o) (x .operation) (N .operation) (c .before .before .if3 .taken) (λ m e. λ ch. c .list .ensures .1 σ es (now (A .d)) (now (A .p)) (now (A .held)) (x .base) nothingSelected w B ∙ ap (λ (i : ℕ). answer σ (map entryOf es) (x .base) (list i)) e) C, λ σ es G x w N. by-list G (width b) (now (A .q)) (A .asked) (λ (o : Operation). c .list .last .1 .1 .1 .1 .0 ≡ over (foundBy σ es (A .target .base) o) (now (A .hits))) (x .operation) (N .operation) (c .before .before .if3 .taken) (λ m e. c .list .ensures .2 σ es (now (A .d)) (now (A .p)) (now (A .held)) w))
-
-search-requires : tie.Need-search-requires
-search-requires c κs = let A = c .before .before .before .before .before .before .before .before .before .before .args in let P = c .before .before .before .before .before .before .before .before .before .before .pre in let b = now (A .book) in (
-  posed-base (P .0),
-  P .1,
-  omega (arith, P .0 .4 .world .entries .fits .narrow, P .0 .4 .noted .short),
-  by-search (P .0 .2) (width b) (now (A .q)) (A .asked) (λ (o : Operation). KnownQuery (width b) (now (A .q)) (record { limit = A .asked .limit; «order_type» = A .asked .«order_type»; falling = A .asked .falling; subset = A .asked .subset; filter = A .asked .filter; edition = A .asked .edition })) (P .0 .3 .operation) (P .0 .4 .noted .operation) (c .before .before .before .before .before .if1 .left) (c .before .before .before .if2 .left) (c .before .if3 .left) (λ s sk. (P .0 .2, s, sk)),
-)
-
-returns-4 : tie.Need-returns-4
-returns-4 c = let A = c .before .before .before .before .before .before .before .before .before .before .before .args in let b = now (A .book) in let R = c .search .result in (c .search .ensures .0, λ σ es G x Q. let w = Q .world in let N = Q .noted in let C = Q .chosen in let B = Q .named in by-search G (width b) (now (A .q)) (A .asked) (λ (o : Operation). Chooses (schema b) (selectionOf o) (A .choice) → planned σ es (selectionOf o) R (c .search .last .1 .1 .1 .1 .1 .1 .1 .1 .0) ≡ answer σ (map entryOf es) (x .base) o) (x .operation) (N .operation) (c .before .before .before .before .before .before .if1 .left) (c .before .before .before .before .if2 .left) (c .before .before .if3 .left) (λ s sk. λ ch. c .search .ensures .1 σ es G (x .base) s w B sk) C, λ σ es G x w N. by-search G (width b) (now (A .q)) (A .asked) (λ (o : Operation). c .search .last .1 .1 .1 .1 .1 .1 .1 .1 .0 ≡ over (foundBy σ es (A .target .base) o) (now (A .hits))) (x .operation) (N .operation) (c .before .before .before .before .before .before .if1 .left) (c .before .before .before .before .if2 .left) (c .before .before .if3 .left) (λ s sk. c .search .ensures .2 σ es G s w sk))
+returns-2 c = let A = c .before .before .before .before .before .before .before .args in let b = now (A .book) in (subst (λ (r : Plan). SoundPlan (entries b) r (now (A .hits))) (sym (c .refused .ensures)) (refused-sound (entries b) (now (A .hits)) (A .asked .operation) AliasProblem), λ σ es G x Q. let z = to-problem Q _ (c .before .before .before .target-of .ensures σ es (now (A .p)) (now (A .held)) (Q .world)) (c .before .enum-told .given .1) in (ap (λ (r : Plan). planned σ es (selectionOf (x .operation)) r (now (A .hits))) (c .refused .ensures) ∙ refused-planned σ es (selectionOf (x .operation)) (now (A .hits)) (A .asked .operation) AliasProblem (omega arith) ∙ ap (λ (o : ℕ). outcome o AliasProblem) (operation-is G (width b) (now (A .q)) (A .asked) (x .operation) (Q .noted .operation)) ∙ answer-problem σ es (x .base) (x .operation) z, found-none σ es (x .base) (x .operation) (now (A .hits)) z))
 
 pub plan-of-spec : {M : Type 1} → statement M
 plan-of-spec =
     tie.close
-    (tie.spec read-requires returns part-requires compare-requires returns-2 list-requires returns-3
-    search-requires returns-4)
+    (tie.spec
+    target-of-requires
+    enum-known-target
+    plan-at-requires
+    enum-told
+    refused-requires
+    returns
+    returns-2)

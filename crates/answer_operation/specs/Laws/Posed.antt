@@ -1,19 +1,96 @@
--- Laws of `Posed`: the parts of what is known.
+-- Laws of `Posed`: the parts of what is known, and the name asked for, replaced.
 use Prim.Native.Nat.{ℕ}
-use mathlib.Core.List.{List}
+use mathlib.Core.Path.{_≡_, refl, sym, ap, _∙_, subst}
+use mathlib.Core.Option.{Option, none, some}
+use mathlib.Core.List.{List, map}
+use lib.ListN.{length}
 use Rattle.rules.specs.Sheet.{Bytes}
+use Rattle.rules.specs.Name.{Name}
+use Rattle.rules.specs.Directory.{Stored, entryOf}
+use Rattle.rules.specs.Decision.{Setting}
+use Rattle.rules.specs.Judge.{Grammar}
+use Rattle.rules.specs.Request.{Operation, read, compare, list, search, Request}
+use Rattle.rules.specs.Aliases.{resolved}
+use Rattle.rules.specs.Answer.{operationNumber, outcome, answer, answerTo}
+use Rattle.rules.specs.Places.{linesAt, partsOf}
+use Rattle.rules.specs.declared.Found.{Found}
+use Rattle.rules.specs.declared.Outcome.the-variants.{AliasProblem}
+use Rattle.request_sheet.specs.Noted.{NotedOperation}
 use Rattle.request_sheet.specs.declared.Asked.{Asked}
-use Rattle.tables.specs.Book.{schema}
+use Rattle.tables.specs.Book.{width, schema}
 use Rattle.answer_plan.specs.declared.Choice.{Choice}
+use Rattle.answer_plan.specs.Plan.{aliasesOf}
 use Rattle.answer_plan.specs.Choice.{KnownChoice}
-use Rattle.answer_plan.specs.Sound.{KnownBase}
+use Rattle.answer_plan.specs.Sound.{Base, KnownBase}
 use Rattle.answer_choice.specs.Selected.{selectionOf}
 use Rattle.answer_entry.specs.declared.Target.{Target}
-use Rattle.answer_operation.specs.Posed.{KnownRequest}
+use Rattle.answer_target.specs.Target.{Full, Resolves}
+use Rattle.answer_target.specs.declared.Resolved.{Resolved}
+use Rattle.answer_target.specs.declared.Resolved.the-variants as Resolved
+use Rattle.answer_entry.specs.Passing.{over}
+use Rattle.answer_operation.specs.Hits.{foundBy, foundFor}
+use Rattle.answer_operation.specs.Posed.{Posed, KnownRequest, KnownTarget}
 
-module _ {d p q : Bytes} {book held sets : List ℕ} {asked : Asked} {target : Target} {choice : Choice} (h : KnownRequest d p q book held sets asked target choice) where
-  pub posed-base : KnownBase d p book held sets (target .base) (target .missing)
-  posed-base = (h .0, h .1, h .3 .base, h .4 .world, h .4 .named)
+module _ {d p q : Bytes} {book held sets : List ℕ} {asked : Asked} {target : Target} {choice : Choice} (h : KnownTarget d p q book held sets asked target choice) where
+  pub target-base : KnownBase d p book held sets (target .base) (target .missing)
+  target-base = (h .0, h .1, h .4, h .5 .world, h .6)
 
+  pub target-choice : KnownChoice (schema book) choice
+  target-choice = (selectionOf (h .3 .operation), h .5 .chosen)
+
+module _ {d p q : Bytes} {book held sets : List ℕ} {asked : Asked} {choice : Choice} (h : KnownRequest d p q book held sets asked choice) where
   pub posed-choice : KnownChoice (schema book) choice
   posed-choice = (selectionOf (h .3 .operation), h .4 .chosen)
+
+  -- all parts of the name that it asks for stand there
+  pub posed-full : Full (width book) q (asked .base) (asked .«base_parts»)
+  posed-full = let n = h .4 .noted .base in ap length (n .parts) ∙ n .count
+
+-- ---- the name asked for, replaced
+
+module _ {σ : Setting} {es : List Stored} {G : Grammar} {x : Request} {d p q : Bytes} {book held sets : List ℕ} {asked : Asked} {choice : Choice}
+    (Q : Posed σ es G x d p q book held sets asked choice) (r : Resolved)
+    (is : Resolves σ es (resolved (σ .schema) (aliasesOf σ es) (partsOf (asked .«base_parts») (linesAt (width book) q (asked .base)))) r)
+  where
+    by-name : Resolves σ es (resolved (σ .schema) (aliasesOf σ es) (x .base)) r
+    by-name = subst (λ (n : Name). Resolves σ es (resolved (σ .schema) (aliasesOf σ es) n) r) (Q .noted .base .parts) is
+
+    -- the name that is asked for in the end, and its target
+    pub to-target : {t : Target} → r ≡ Resolved.Target t → (n : Name) × Base σ es n (t .base) (t .missing) × (resolved (σ .schema) (aliasesOf σ es) (x .base) ≡ some n)
+    to-target {t} e = go (resolved (σ .schema) (aliasesOf σ es) (x .base)) (subst (Resolves σ es (resolved (σ .schema) (aliasesOf σ es) (x .base))) e by-name)
+      where
+        go : (v : Option Name) → Resolves σ es v (Resolved.Target t) → (n : Name) × Base σ es n (t .base) (t .missing) × (v ≡ some n)
+        go none b = absurd b
+        go (some n) b = (n, b, refl)
+
+    -- a ninth replacement is due
+    pub to-problem : r ≡ Resolved.AliasProblem → resolved (σ .schema) (aliasesOf σ es) (x .base) ≡ none
+    to-problem e = go (resolved (σ .schema) (aliasesOf σ es) (x .base)) (subst (Resolves σ es (resolved (σ .schema) (aliasesOf σ es) (x .base))) e by-name)
+      where
+        go : (v : Option Name) → Resolves σ es v Resolved.AliasProblem → v ≡ none
+        go none b = refl
+        go (some n) b = absurd b
+
+module _ (σ : Setting) (es : List Stored) (n : Name) (o : Operation) where
+  pub answer-named : (m : Name) → resolved (σ .schema) (aliasesOf σ es) n ≡ some m → answer σ (map entryOf es) (aliasesOf σ es) m o ≡ answerTo σ (map entryOf es) (aliasesOf σ es) n o
+  unfolding answerTo
+  answer-named m e = rw e
+
+  pub answer-problem : resolved (σ .schema) (aliasesOf σ es) n ≡ none → outcome (operationNumber o) AliasProblem ≡ answerTo σ (map entryOf es) (aliasesOf σ es) n o
+  unfolding answerTo
+  answer-problem e = rw e
+
+  -- what is found
+  pub found-named : (m : Name) (b : Found) (missing : ℕ) → Base σ es m b missing → resolved (σ .schema) (aliasesOf σ es) n ≡ some m
+      → foundBy σ es b o ≡ foundFor σ es (resolved (σ .schema) (aliasesOf σ es) n) o
+  found-named m b missing h e = sym (ap (λ (v : Option Name). foundFor σ es v o) e ∙ ap (λ (f : Found). foundBy σ es f o) (h .walked))
+
+  pub found-none : (before : List ℕ) → resolved (σ .schema) (aliasesOf σ es) n ≡ none → before ≡ over (foundFor σ es (resolved (σ .schema) (aliasesOf σ es) n) o) before
+  found-none before e = sym (ap (λ (v : Option Name). over (foundFor σ es v o) before) e)
+
+-- the number of the operation
+pub operation-is : (G : Grammar) (w : ℕ) (q : Bytes) (a : Asked) (o : Operation) → NotedOperation G w q o a → a .operation ≡ operationNumber o
+operation-is G w q a (read s) n = n .operation
+operation-is G w q a (compare t v) n = n .operation
+operation-is G w q a (list limit) n = n .operation
+operation-is G w q a (search s) n = n .operation

@@ -8,8 +8,9 @@ use Rattle.rules.specs.Directory.{Stored, entryOf}
 use Rattle.rules.specs.Decision.{Setting}
 use Rattle.rules.specs.Request.{Selection}
 use Rattle.rules.specs.declared.Outcome.{Outcome}
-use Rattle.rules.specs.declared.Outcome.the-variants.{Result, NoSuchObject, InsufficientAccessRights, NoSuchAttributeOrValue, InvalidAttributeSyntax}
-use Rattle.rules.specs.Answer.{outcomeNumber, outcome, nameLines, noSuchObject}
+use Rattle.rules.specs.declared.Outcome.the-variants.{Result, NoSuchObject, InsufficientAccessRights, NoSuchAttributeOrValue, InvalidAttributeSyntax, AliasProblem}
+use Rattle.rules.specs.Judge.{nameLines}
+use Rattle.rules.specs.Answer.{outcomeNumber, outcome, noSuchObject}
 use Rattle.rules.specs.Sheet.{line}
 use Rattle.rules.specs.declared.Found.{Found}
 use Rattle.answer_plan.specs.Plan.{planned}
@@ -28,6 +29,7 @@ module _ (σ : Setting) (es : List Stored) (s : Selection) (hits : List ℕ) (op
   refused-planned InsufficientAccessRights l = refl
   refused-planned NoSuchAttributeOrValue l = refl
   refused-planned InvalidAttributeSyntax l = refl
+  refused-planned AliasProblem l = refl
 
 -- they are sound
 module _ (count : ℕ) (hits : List ℕ) (op : ℕ) where

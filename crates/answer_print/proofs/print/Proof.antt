@@ -1,7 +1,7 @@
 use Rattle.answer_line.specs.Laws.Emit.{emits-length, emits-none}
 use denote.Ref.{now}
 use native.Mathlib.Omega.{arith}
-use Rattle.rules.specs.declared.Outcome.the-variants.{Result, NoSuchObject, InsufficientAccessRights, NoSuchAttributeOrValue, InvalidAttributeSyntax}
+use Rattle.rules.specs.declared.Outcome.the-variants.{Result, NoSuchObject, InsufficientAccessRights, NoSuchAttributeOrValue, InvalidAttributeSyntax, AliasProblem}
 use Rattle.tables.specs.Book.{width}
 use Rattle.answer_print.specs.Laws.Lines.{whole}
 use borrow.Author.Needs.{needs}
@@ -40,9 +40,12 @@ returns-4 c = let a = c .before .before .before .before .before .before .before 
 returns-5 : tie.Need-returns-5
 returns-5 c = let a = c .before .before .before .before .before .before .before .before .before .before .before .before .args in λ σ es s W C. whole σ es s (width (now (a .book))) (now (a .out)) 0 (a .plan) (now (a .hits)) InvalidAttributeSyntax (c .enum-told5 .given .1) (c .before .before .before .before .before .before .outcome-number .ensures) (c .before .before .before .before .emit .ensures) (emits-none (width (now (a .book))) _ _)
 
+returns-6 : tie.Need-returns-6
+returns-6 c = let a = c .before .before .before .before .before .before .before .before .before .before .before .before .args in λ σ es s W C. whole σ es s (width (now (a .book))) (now (a .out)) 0 (a .plan) (now (a .hits)) AliasProblem (c .enum-told6 .given .1) (c .before .before .before .before .before .before .outcome-number .ensures) (c .before .before .before .before .emit .ensures) (emits-none (width (now (a .book))) _ _)
+
 pub print-spec : {M : Type 1} → statement M
 print-spec =
     tie.close
     (tie.spec (λ c. search needs) (λ c κs. search needs) (λ c. search needs) emit-requires (λ c. search needs) emit-success-requires
-    (λ c. search needs) emit-name-requires (λ c. search needs) (λ c. search needs) (λ c. search needs) (λ c. search needs) returns
-    (λ c. search needs) returns-2 (λ c. search needs) returns-3 (λ c. search needs) returns-4 (λ c. search needs) returns-5)
+    (λ c. search needs) emit-name-requires (λ c. search needs) (λ c. search needs) (λ c. search needs) (λ c. search needs) (λ c. search needs) returns
+    (λ c. search needs) returns-2 (λ c. search needs) returns-3 (λ c. search needs) returns-4 (λ c. search needs) returns-5 (λ c. search needs) returns-6)

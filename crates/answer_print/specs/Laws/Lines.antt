@@ -8,8 +8,8 @@ use lib.ListN.{length, getD, take}
 use lib.Seq.{take-all, length-take-le, getD-take}
 use borrow.Author.Tests.{eq-eqb, ne-eqb}
 use Rattle.rules.specs.Lists.{gather}
-use Rattle.rules.specs.Sheet.{Bytes, Line, line}
-use Rattle.rules.specs.Directory.{Stored, blank, nameAt}
+use Rattle.rules.specs.Sheet.{Bytes, Line, line, bit}
+use Rattle.rules.specs.Directory.{Stored, blank, nameAt, isAlias}
 use Rattle.rules.specs.Decision.{Setting}
 use Rattle.rules.specs.Request.{Selection}
 use Rattle.rules.specs.declared.Outcome.{Outcome}
@@ -37,7 +37,7 @@ module _ (w : ℕ) (out : Bytes) (at : ℕ) (f : ℕ → List Line) (hits : List
   run-end i {out₁} {n} h p = subst (λ (l : List ℕ). Emits w out at (gather f l) out₁ n) (take-all i hits h) p
 
 -- the one line of a child
-pub child-by : (es : List Stored) (w : ℕ) (out : Bytes) (at k : ℕ) {out′ : Bytes} {r : ℕ} → Emits w out at (namingLine 32 (getD es k blank) ∷ []) out′ r → Emits w out at (childLines es k) out′ r
+pub child-by : (es : List Stored) (w : ℕ) (out : Bytes) (at k : ℕ) {out′ : Bytes} {r : ℕ} → Emits w out at (namingLine 32 (bit (isAlias (getD es k blank .target))) (getD es k blank) ∷ []) out′ r → Emits w out at (childLines es k) out′ r
 unfolding childLines
 child-by es w out at k p = p
 

@@ -24,7 +24,7 @@ use Rattle.rules.specs.Laws.Directory.{Accepted}
 use Rattle.rules.specs.declared.Found.{Found}
 use Rattle.rules.specs.declared.Found.the-variants.{At, Nothing}
 use Rattle.answer_plan.specs.declared.Plan.{Plan}
-use Rattle.answer_plan.specs.Plan.{foundLines, successLines, planned}
+use Rattle.answer_plan.specs.Plan.{aliasesOf, foundLines, successLines, planned}
 use Rattle.answer_plan.specs.Sound.{Base}
 use Rattle.answer_plan.specs.Outcome.{absentPlan}
 use Rattle.tables.specs.Sets.{grantedAt}
@@ -46,11 +46,11 @@ read-at g w q f e h = subst (λ (k : ℕ). FilterAt g w q k f) (sym e) h
 
 module _ (σ : Setting) (es : List Stored) (ok : Accepted (σ .schema) es) (n : Name) (base : Found) (missing : ℕ) (h : Base σ es n base missing) (plan : Plan) (hits : List ℕ) where
   -- the base is absent
-  pub search-none : base ≡ Nothing → (r : Search) → plan ≡ absentPlan 4 missing → planned σ es (r .selection) plan hits ≡ answer σ (map entryOf es) n (search r)
+  pub search-none : base ≡ Nothing → (r : Search) → plan ≡ absentPlan 4 missing → planned σ es (r .selection) plan hits ≡ answer σ (map entryOf es) (aliasesOf σ es) n (search r)
   unfolding entries directoryOf
   search-none e r q =
       planned-absent σ es ok n base missing h plan hits (r .selection) 4 q
-      ∙ sym (search-absent σ (directoryOf σ es) refl ok n (not-root σ es ok n base missing h e) (not-present σ es ok n base missing h e) r)
+      ∙ sym (search-absent σ (directoryOf σ es) refl ok n (not-root σ es ok n base missing h e) (not-present σ es ok n base missing h e) (aliasesOf σ es) r)
 
   -- the base has number `b`
   module _ (b : ℕ) (e : base ≡ At b) (d : Bool) (told : d ≡ grantedAt σ es b entry DiscloseOnError) (count : ℕ) (room : count ≤ length hits) where
@@ -59,7 +59,7 @@ module _ (σ : Setting) (es : List Stored) (ok : Accepted (σ .schema) es) (n : 
     found-success s more shown = refl
 
     pub search-some : (r : Search) (limit : ℕ) → r .limit ≡ limit → take count hits ≡ searchFound σ es r (At b) → plan ≡ returnedPlan 4 missing d limit count
-        → planned σ es (r .selection) plan hits ≡ answer σ (map entryOf es) n (search r)
+        → planned σ es (r .selection) plan hits ≡ answer σ (map entryOf es) (aliasesOf σ es) n (search r)
     unfolding answer searchFound
     search-some r limit l taken q =
         ap (λ (p : Plan). planned σ es (r .selection) p hits) (q ∙ ap (λ (x : ℕ). returnedPlan 4 missing d x count) (sym l))

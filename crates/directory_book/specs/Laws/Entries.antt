@@ -63,6 +63,7 @@ fit-of h = record {
   naming = h .naming-length;
   lengths = h .lengths-length;
   first = h .first-length;
+  targets = h .targets-length;
 }
 
 -- the lines of the entries begin on the directory
@@ -85,6 +86,7 @@ module _ (f : Format) (d : Bytes) (x : Directory) (r : Notes) (held : List ℕ) 
         value = rw (is .place-is k l, is .length-is k l) (ap (take size) (sym (drop-drop (5 * w) at d)) ∙ e .value);
         within = rw (is .place-is k l, is .length-is k l) (omega (arith, e .within));
         values = rw (is .width-is, is .place-is k l, is .length-is k l, n) (e .values);
+        target = rw (is .width-is, is .target-is k l) (e .leads);
       }
 
   values-held : (k : ℕ) → k < length (x .entries) → HeldAt (schema b) d (getD (x .entries) k blank .values) held (firstAt b k) (firstAt b (suc k))

@@ -5,7 +5,7 @@ use mathlib.Core.List.{List}
 use native.Mathlib.Omega.{arith}
 use lib.ListN.{length, getD, take, drop, set, length-set}
 use lib.Seq.{getD-set-same, getD-set-other}
-use Rattle.tables.specs.Book.{BOOK, FIRST-ROWS, width, types, entries, schema, placeAt, parentAt, namingAt, lengthAt, firstAt}
+use Rattle.tables.specs.Book.{BOOK, FIRST-ROWS, width, types, entries, schema, placeAt, parentAt, namingAt, lengthAt, firstAt, targetAt}
 use Rattle.directory_sheet.specs.declared.Notes.{Notes}
 use Rattle.directory_book.specs.Filled.{put, placesOf, filled}
 use Rattle.directory_book.specs.Laws.Put.{put-length, put-here, put-before, number-at, number-of, places-length, place-of}
@@ -20,6 +20,7 @@ pub record Fit (r : Notes) : Type 0 where
   pub naming : length (r .naming) ≡ 256
   pub lengths : length (r .lengths) ≡ 256
   pub first : length (r .first) ≡ FIRST-ROWS
+  pub targets : length (r .targets) ≡ 256
 
 -- the numbers of the notes, in the book
 pub record Copied (w : ℕ) (r : Notes) (b : List ℕ) : Type 0 where
@@ -33,6 +34,7 @@ pub record Copied (w : ℕ) (r : Notes) (b : List ℕ) : Type 0 where
   pub naming-is : (k : ℕ) → k < r .count → namingAt b k ≡ getD (r .naming) k 0
   pub length-is : (k : ℕ) → k < r .count → lengthAt b k ≡ getD (r .lengths) k 0
   pub first-is : (k : ℕ) → k ≤ r .count → firstAt b k ≡ getD (r .first) k 0
+  pub target-is : (k : ℕ) → k < r .count → targetAt b k ≡ getD (r .targets) k 0
 
 module _ (w : ℕ) (r : Notes) (b : List ℕ) (fit : Fit r) (size : length b ≡ BOOK) where
   -- ---- the book after each column
@@ -58,6 +60,9 @@ module _ (w : ℕ) (r : Notes) (b : List ℕ) (fit : Fit r) (size : length b ≡
   abbrev b₅ : List ℕ
   b₅ = put b₄ 840 (r .lengths) n
 
+  abbrev b₆ : List ℕ
+  b₆ = put b₅ 1096 (r .first) (n + 1)
+
   size₀ : length b₀ ≡ BOOK
   size₀ = simp length-set size
 
@@ -79,9 +84,12 @@ module _ (w : ℕ) (r : Notes) (b : List ℕ) (fit : Fit r) (size : length b ≡
   size₅ : length b₅ ≡ BOOK
   size₅ = put-length b₄ 840 (r .lengths) n (omega (arith, size₄)) (omega arith) ∙ size₄
 
-  size₆ : length (filled w r b) ≡ BOOK
-  unfolding filled
+  size₆ : length b₆ ≡ BOOK
   size₆ = put-length b₅ 1096 (r .first) (n + 1) (omega (arith, size₅)) (omega arith) ∙ size₅
+
+  size₇ : length (filled w r b) ≡ BOOK
+  unfolding filled
+  size₇ = put-length b₆ 1353 (r .targets) n (omega (arith, size₆)) (omega arith) ∙ size₆
 
   -- ---- a part before the columns that come later
 
@@ -100,9 +108,12 @@ module _ (w : ℕ) (r : Notes) (b : List ℕ) (fit : Fit r) (size : length b ≡
   before₅ : (j m : ℕ) → j + m ≤ 840 → take m (drop j b₅) ≡ take m (drop j b₄)
   before₅ j m h = put-before b₄ 840 (r .lengths) n (omega (arith, size₄)) (omega arith) j m h
 
-  before₆ : (j m : ℕ) → j + m ≤ 1096 → take m (drop j (filled w r b)) ≡ take m (drop j b₅)
+  before₇ : (j m : ℕ) → j + m ≤ 1353 → take m (drop j (filled w r b)) ≡ take m (drop j b₆)
   unfolding filled
-  before₆ j m h = put-before b₅ 1096 (r .first) (n + 1) (omega (arith, size₅)) (omega arith) j m h
+  before₇ j m h = put-before b₆ 1353 (r .targets) n (omega (arith, size₆)) (omega arith) j m h
+
+  before₆ : (j m : ℕ) → j + m ≤ 1096 → take m (drop j (filled w r b)) ≡ take m (drop j b₅)
+  before₆ j m h = before₇ j m (omega arith) ∙ put-before b₅ 1096 (r .first) (n + 1) (omega (arith, size₅)) (omega arith) j m h
 
   -- ---- the columns
 
@@ -136,8 +147,11 @@ module _ (w : ℕ) (r : Notes) (b : List ℕ) (fit : Fit r) (size : length b ≡
         number-of (filled w r b) (r .lengths) 840 n k (before₆ 840 n (omega arith) ∙ put-here b₄ 840 (r .lengths) n (omega (arith, size₄)) (omega arith)) l
 
   first-at : (k : ℕ) → k ≤ n → firstAt (filled w r b) k ≡ getD (r .first) k 0
+  first-at k h = number-of (filled w r b) (r .first) 1096 (n + 1) k (before₇ 1096 (n + 1) (omega arith) ∙ put-here b₅ 1096 (r .first) (n + 1) (omega (arith, size₅)) (omega arith)) (omega arith)
+
+  target-at : (k : ℕ) → k < n → targetAt (filled w r b) k ≡ getD (r .targets) k 0
   unfolding filled
-  first-at k h = number-of (filled w r b) (r .first) 1096 (n + 1) k (put-here b₅ 1096 (r .first) (n + 1) (omega (arith, size₅)) (omega arith)) (omega arith)
+  target-at k l = number-of (filled w r b) (r .targets) 1353 n k (put-here b₆ 1353 (r .targets) n (omega (arith, size₆)) (omega arith)) l
 
   -- ---- the counts
 
@@ -166,7 +180,7 @@ module _ (w : ℕ) (r : Notes) (b : List ℕ) (fit : Fit r) (size : length b ≡
   pub copied : Copied w r (filled w r b)
   unfolding schema
   copied = record {
-    size = size₆;
+    size = size₇;
     width-is = width-at;
     types-are = types-at;
     entries-are = entries-at;
@@ -176,4 +190,5 @@ module _ (w : ℕ) (r : Notes) (b : List ℕ) (fit : Fit r) (size : length b ≡
     naming-is = naming-at;
     length-is = length-at;
     first-is = first-at;
+    target-is = target-at;
   }

@@ -26,7 +26,7 @@ use Rattle.sheet_line.specs.declared.Taken.the-variants as Taken
 use Rattle.tables.specs.Book.{entries, width, schema, parentAt, namingAt, namingOf}
 use Rattle.tables.specs.World.{Entries}
 use Rattle.tables.specs.Laws.World.{inside}
-use Rattle.directory_lookup.specs.Find.{UpTo, isChild, LeadsWithin, stepFound, stepOf}
+use Rattle.directory_lookup.specs.Find.{UpTo, isChild, byChild, LeadsWithin, stepFound, stepOf}
 use Rattle.directory_lookup.specs.Laws.Names.{partsBy, parts-by}
 use Rattle.directory_lookup.specs.declared.find.Descent.{Descent}
 use Rattle.directory_lookup.specs.declared.find.Descent.the-variants.{To, Lost, Ended}
@@ -157,11 +157,6 @@ pub step-found : (S : Schema) (es : List Stored) (from w : ℕ) (s : Bytes) (j :
     → f ≡ childFrom S from (part (x .a) v) es 0 → stepFound f (x .next) ≡ stepOf S es from s (takenAt w s j)
 unfolding stepOf
 step-found S es from w s j x e v f q c = rw (e, ← q, ← c)
-
--- by the child found
-abbrev pub byChild : {A : Type 0} → A → (ℕ → A) → Found → A
-byChild lost to (At k) = to k
-byChild lost to Nothing = lost
 
 -- by the step
 abbrev pub byStep : {A : Type 0} → A → A → (ℕ → ℕ → A) → Descent → A

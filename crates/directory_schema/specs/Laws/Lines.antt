@@ -4,14 +4,14 @@ use mathlib.Core.Path.{_≡_, refl, sym, _∙_, subst}
 use mathlib.Core.Bool.{Bool, true, false, _&&_, _||_, or-false}
 use mathlib.Core.List.{[], _∷_}
 use lib.Dec.{eqb, leb}
-use borrow.Author.Tests.{eq-eqb, ne-eqb, eqb-true, leb-true}
+use borrow.Author.Tests.{eq-eqb, ne-eqb, leb-true}
 use native.Mathlib.Omega.{arith}
 use Rattle.rules.specs.Sheet.{Bytes}
 use Rattle.rules.specs.Sheet as Rules
 use Rattle.rules.specs.declared.Format.{Format}
 use Rattle.rules.specs.Columns.{directoryForms, inForm}
 use Rattle.rules.specs.Judge.{accept, refuse, then, fold}
-use Rattle.rules.specs.Directory.{Reading, step, finish, typeLine, entryLine, valueLine}
+use Rattle.rules.specs.Directory.{Reading, step, finish, typeLine, entryLine, valueLine, targetLine, partLine, ofLast}
 use Rattle.rules.specs.Places.{linesAt, valuesOf}
 use Rattle.rules.specs.Laws.Tests.{and-left, and-right}
 use Rattle.sheet_form.specs.Columns.{fits, inFormOf}
@@ -84,9 +84,17 @@ module _ (top : ℕ) (st : Reading) (x : Rules.Line) where
     unfolding step
     step-entry e = rw (h, ne-eqb (x .kind) 1 (λ q. omega arith), eq-eqb (x .kind) 2 e)
 
-    pub step-value : (x .kind ≡ 1 → ⊥) → (x .kind ≡ 2 → ⊥) → step top st x ≡ valueLine st (st .current) x
+    pub step-value : x .kind ≡ 3 → step top st x ≡ valueLine st (st .current) x
     unfolding step
-    step-value e f = rw (h, ne-eqb (x .kind) 1 e, ne-eqb (x .kind) 2 f)
+    step-value e = rw (h, e)
+
+    pub step-target : x .kind ≡ 36 → step top st x ≡ ofLast (targetLine st) (st .current) x
+    unfolding step
+    step-target e = rw (h, e)
+
+    pub step-part : x .kind ≡ 9 → step top st x ≡ ofLast (partLine st) (st .current) x
+    unfolding step
+    step-part e = rw (h, e)
 
 -- ---- columns by kind
 
@@ -109,13 +117,8 @@ module _ (top : ℕ) (x : Line) (h : columnsFit top x ≡ true) where
       let rb = between-true 0 2 (x .b) (and-left _ _ (and-right (leb 1 (x .a) && leb (x .a) top) _ f)) in
       (ra .0, ra .1, rb .1)
 
-  pub entry-columns : x .kind ≡ 2 → x .c ≡ 0
+  pub entry-columns : x .kind ≡ 2 → x .c ≤ 1
   unfolding inFormOf directoryForms fits
   entry-columns e =
       let f = or-none _ (subst (λ (n : ℕ). At n ≡ true) e h) in
-      eqb-true (x .c) 0 (and-left _ _ (and-right (leb 1 (x .b) && leb (x .b) top) _ f))
-
-  -- no other kind
-  pub other-columns : (x .kind ≡ 1 → ⊥) → (x .kind ≡ 2 → ⊥) → x .kind ≡ 3
-  unfolding inFormOf directoryForms
-  other-columns e f = eqb-true (x .kind) 3 (and-left (eqb (x .kind) 3) _ (or-none _ (rw (ne-eqb (x .kind) 1 e, ne-eqb (x .kind) 2 f) at h)))
+      between-true 0 1 (x .c) (and-left _ _ (and-right (leb 1 (x .b) && leb (x .b) top) _ f)) .1

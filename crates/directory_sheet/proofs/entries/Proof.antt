@@ -1,6 +1,6 @@
 -- The entries before the position are noted, with their values and the rows of these; `taken` stands there.
 use Rattle.directory_schema.proofs.Lines.{not-line}
-use Rattle.directory_sheet.specs.Laws.Entries.{EntriesRead, answer-refused, standing-start, standing-refused, standing-room, standing-asked, standing-lost, standing-on, standing-further, standing-short, standing-ended}
+use Rattle.directory_sheet.specs.Laws.Entries.{EntriesRead, answer-refused, standing-start, standing-refused, standing-room, standing-asked, standing-lost, standing-owed, standing-cut, standing-on, standing-further, standing-short, standing-ended}
 use Rattle.directory_ruling.specs.Mark.{Mark, Room, heads}
 use Rattle.directory_ruling.specs.Laws.Rulings.{line-within}
 use Rattle.sheet_line.specs.Laws.{taken-fits-line}
@@ -87,71 +87,86 @@ values-requires c κs = standing-asked (c .before .before .before .before .befor
 returns-4 : tie.Need-returns-4 Inv-loop μ-loop
 returns-4 c = answer-refused _ _ (c .before .before .before .before .before .before .before .before .before .before .before .before .before .before .before .before .before .before .loop .inv .3 .ready .sheet) _ _ _ (c .refused3 .ensures) (standing-lost (c .before .before .before .before .before .before .before .before .before .before .before .before .before .before .before .before .before .before .loop .inv .3) (c .before .before .before .before .before .before .before .before .before .before .before .before .before .before .before .before .taken .given .1) (c .before .before .before .before .before .before .before .before .before .before .before .before .entry-line .ensures) (c .before .before .before .before .before .before .before .before .before .before .if2 .left) (c .before .before .before .before .before .before .before .before .note .ensures) (c .before .before .before .before .values .ensures) (c .before .before .if3 .taken))
 
+add-notes : tie.Need-add-notes Inv-loop μ-loop
+add-notes c = next-fits (room (c .before .before .before .before .before .before .before .before .before) .0)
+
+target-requires : tie.Need-target-requires Inv-loop μ-loop
+target-requires c κs = standing-owed (c .before .before .before .before .before .before .before .before .before .before .before .before .before .before .before .before .before .before .loop .inv .3) (c .before .before .before .before .before .before .before .before .before .before .before .before .before .before .before .before .taken .given .1) (c .before .before .before .before .before .before .before .before .before .before .before .before .entry-line .ensures) (c .before .before .before .before .before .before .before .before .before .before .if2 .left) (c .before .before .before .before .before .before .before .before .note .ensures) (c .before .before .before .before .values .ensures) (c .before .before .if3 .left)
+
+returns-5 : tie.Need-returns-5 Inv-loop μ-loop
+returns-5 c = answer-refused _ _ (c .before .before .before .before .before .before .before .before .before .before .before .before .before .before .before .before .before .before .before .before .before .before .before .loop .inv .3 .ready .sheet) _ _ _ (c .refused4 .ensures) (standing-cut (c .before .before .before .before .before .before .before .before .before .before .before .before .before .before .before .before .before .before .before .before .before .before .before .loop .inv .3) (c .before .before .before .before .before .before .before .before .before .before .before .before .before .before .before .before .before .before .before .before .before .taken .given .1) (c .before .before .before .before .before .before .before .before .before .before .before .before .before .before .before .before .before .entry-line .ensures) (c .before .before .before .before .before .before .before .before .before .before .before .before .before .before .before .if2 .left) (c .before .before .before .before .before .before .before .before .before .before .before .before .before .note .ensures) (c .before .before .before .before .before .before .before .before .before .values .ensures) (c .before .before .before .before .before .before .before .if3 .left) (c .before .before .before .before .target .ensures) (c .before .before .if4 .taken))
+
 mul-notes-2 : tie.Need-mul-notes-2 Inv-loop μ-loop
-mul-notes-2 c = place-fits (room (c .before .before .before .before .before .before .before .before) .0)
+mul-notes-2 c = place-fits (room (c .before .before .before .before .before .before .before .before .before .before .before .before .before) .0)
 
 element-write-notes : tie.Need-element-write-notes Inv-loop μ-loop
-element-write-notes c = room (c .before .before .before .before .before .before .before .before) .0
+element-write-notes c = room (c .before .before .before .before .before .before .before .before .before .before .before .before .before) .0
 
 mul-notes-3 : tie.Need-mul-notes-3 Inv-loop μ-loop
-mul-notes-3 c = place-fits (room (c .before .before .before .before .before .before .before .before) .0)
+mul-notes-3 c = place-fits (room (c .before .before .before .before .before .before .before .before .before .before .before .before .before) .0)
 
 element-write-notes-2 : tie.Need-element-write-notes-2 Inv-loop μ-loop
-element-write-notes-2 c = room (c .before .before .before .before .before .before .before .before) .0
+element-write-notes-2 c = room (c .before .before .before .before .before .before .before .before .before .before .before .before .before) .0
 
 mul-notes-4 : tie.Need-mul-notes-4 Inv-loop μ-loop
-mul-notes-4 c = place-fits (room (c .before .before .before .before .before .before .before .before) .0)
+mul-notes-4 c = place-fits (room (c .before .before .before .before .before .before .before .before .before .before .before .before .before) .0)
 
 element-write-notes-3 : tie.Need-element-write-notes-3 Inv-loop μ-loop
-element-write-notes-3 c = room (c .before .before .before .before .before .before .before .before) .0
+element-write-notes-3 c = room (c .before .before .before .before .before .before .before .before .before .before .before .before .before) .0
 
 mul-notes-5 : tie.Need-mul-notes-5 Inv-loop μ-loop
-mul-notes-5 c = place-fits (room (c .before .before .before .before .before .before .before .before) .0)
+mul-notes-5 c = place-fits (room (c .before .before .before .before .before .before .before .before .before .before .before .before .before) .0)
 
 element-write-notes-4 : tie.Need-element-write-notes-4 Inv-loop μ-loop
-element-write-notes-4 c = room (c .before .before .before .before .before .before .before .before) .0
-
-add-notes : tie.Need-add-notes Inv-loop μ-loop
-add-notes c = next-fits (room (c .before .before .before .before .before .before .before .before) .0)
-
-mul-notes-6 : tie.Need-mul-notes-6 Inv-loop μ-loop
-mul-notes-6 c = next-place-fits (room (c .before .before .before .before .before .before .before .before) .0)
-
-element-write-notes-5 : tie.Need-element-write-notes-5 Inv-loop μ-loop
-element-write-notes-5 c = next-within (room (c .before .before .before .before .before .before .before .before) .0)
+element-write-notes-4 c = room (c .before .before .before .before .before .before .before .before .before .before .before .before .before) .0
 
 add-notes-2 : tie.Need-add-notes-2 Inv-loop μ-loop
-add-notes-2 c = next-fits (room (c .before .before .before .before .before .before .before .before) .0)
+add-notes-2 c = next-fits (room (c .before .before .before .before .before .before .before .before .before .before .before .before .before) .0)
 
-mul-depths : tie.Need-mul-depths Inv-loop μ-loop
-mul-depths c = omega (arith, room (c .before .before .before .before .before .before .before .before) .0, room (c .before .before .before .before .before .before .before .before) .1)
+mul-notes-6 : tie.Need-mul-notes-6 Inv-loop μ-loop
+mul-notes-6 c = next-place-fits (room (c .before .before .before .before .before .before .before .before .before .before .before .before .before) .0)
 
-array-read-depths : tie.Need-array-read-depths Inv-loop μ-loop
-array-read-depths c = omega (arith, room (c .before .before .before .before .before .before .before .before) .0, room (c .before .before .before .before .before .before .before .before) .1, c .before .before .before .before .before .before .before .before .before .before .before .before .before .before .before .before .loop .inv .3 .sized .levels)
+element-write-notes-5 : tie.Need-element-write-notes-5 Inv-loop μ-loop
+element-write-notes-5 c = next-within (room (c .before .before .before .before .before .before .before .before .before .before .before .before .before) .0)
+
+mul-notes-7 : tie.Need-mul-notes-7 Inv-loop μ-loop
+mul-notes-7 c = place-fits (room (c .before .before .before .before .before .before .before .before .before .before .before .before .before) .0)
+
+element-write-notes-6 : tie.Need-element-write-notes-6 Inv-loop μ-loop
+element-write-notes-6 c = room (c .before .before .before .before .before .before .before .before .before .before .before .before .before) .0
+
+add-notes-3 : tie.Need-add-notes-3 Inv-loop μ-loop
+add-notes-3 c = next-fits (room (c .before .before .before .before .before .before .before .before .before .before .before .before .before) .0)
+
+mul-level : tie.Need-mul-level Inv-loop μ-loop
+mul-level c = omega (arith, room (c .before .before .before .before .before .before .before .before .before .before .before .before .before) .0, room (c .before .before .before .before .before .before .before .before .before .before .before .before .before) .1)
+
+array-read-level : tie.Need-array-read-level Inv-loop μ-loop
+array-read-level c = omega (arith, room (c .before .before .before .before .before .before .before .before .before .before .before .before .before) .0, room (c .before .before .before .before .before .before .before .before .before .before .before .before .before) .1, c .before .before .before .before .before .before .before .before .before .before .before .before .before .before .before .before .before .before .before .before .before .loop .inv .3 .sized .levels)
+
+level-requires : tie.Need-level-requires Inv-loop μ-loop
+level-requires c κs = room (c .before .before .before .before .before .before .before .before .before .before .before .before .before) .2
 
 add-depths : tie.Need-add-depths Inv-loop μ-loop
-add-depths c = omega (arith, room (c .before .before .before .before .before .before .before .before) .2)
+add-depths c = next-fits (room (c .before .before .before .before .before .before .before .before .before .before .before .before .before .before) .0)
 
-add-depths-2 : tie.Need-add-depths-2 Inv-loop μ-loop
-add-depths-2 c = next-fits (room (c .before .before .before .before .before .before .before .before) .0)
-
-mul-depths-2 : tie.Need-mul-depths-2 Inv-loop μ-loop
-mul-depths-2 c = next-place-fits (room (c .before .before .before .before .before .before .before .before) .0)
+mul-depths : tie.Need-mul-depths Inv-loop μ-loop
+mul-depths c = next-place-fits (room (c .before .before .before .before .before .before .before .before .before .before .before .before .before .before) .0)
 
 array-write-depths : tie.Need-array-write-depths Inv-loop μ-loop
-array-write-depths c = next-within (room (c .before .before .before .before .before .before .before .before) .0)
+array-write-depths c = next-within (room (c .before .before .before .before .before .before .before .before .before .before .before .before .before .before) .0)
 
 loop-less : tie.Need-loop-less Inv-loop μ-loop
-loop-less c = standing-further (c .before .before .before .before .before .before .before .before .before .before .before .before .before .before .before .before .before .loop .inv .3) (c .before .before .before .before .before .before .before .before .before .before .before .before .before .before .before .taken .given .1) (c .before .before .before .before .before .before .before .before .before .before .before .entry-line .ensures) (c .before .before .before .before .before .before .before .before .before .if2 .left) (c .before .before .before .before .before .before .before .note .ensures) (c .before .before .before .values .ensures) (c .before .if3 .left)
+loop-less c = standing-further (c .before .before .before .before .before .before .before .before .before .before .before .before .before .before .before .before .before .before .before .before .before .before .before .loop .inv .3) (c .before .before .before .before .before .before .before .before .before .before .before .before .before .before .before .before .before .before .before .before .before .taken .given .1) (c .before .before .before .before .before .before .before .before .before .before .before .before .before .before .before .before .before .entry-line .ensures) (c .before .before .before .before .before .before .before .before .before .before .before .before .before .before .before .if2 .left) (c .before .before .before .before .before .before .before .before .before .before .before .before .before .note .ensures) (c .before .before .before .before .before .before .before .before .before .values .ensures) (c .before .before .before .before .before .before .before .if3 .left) (c .before .before .before .before .target .ensures) (c .before .before .if4 .left)
 
 loop-again : tie.Need-loop-again Inv-loop μ-loop
-loop-again c = standing-on (c .before .before .before .before .before .before .before .before .before .before .before .before .before .before .before .before .before .loop .inv .3) (c .before .before .before .before .before .before .before .before .before .before .before .before .before .before .before .taken .given .1) (c .before .before .before .before .before .before .before .before .before .before .before .entry-line .ensures) (c .before .before .before .before .before .before .before .before .before .if2 .left) (c .before .before .before .before .before .before .before .note .ensures) (c .before .before .before .values .ensures) (c .before .if3 .left)
+loop-again c = standing-on (c .before .before .before .before .before .before .before .before .before .before .before .before .before .before .before .before .before .before .before .before .before .before .before .loop .inv .3) (c .before .before .before .before .before .before .before .before .before .before .before .before .before .before .before .before .before .before .before .before .before .taken .given .1) (c .before .before .before .before .before .before .before .before .before .before .before .before .before .before .before .before .before .entry-line .ensures) (c .before .before .before .before .before .before .before .before .before .before .before .before .before .before .before .if2 .left) (c .before .before .before .before .before .before .before .before .before .before .before .before .before .note .ensures) (c .before .before .before .before .before .before .before .before .before .values .ensures) (c .before .before .before .before .before .before .before .if3 .left) (c .before .before .before .before .target .ensures) (c .before .before .if4 .left) (c .before .level .ensures)
 
 pub entries-spec : {M : Type 1} → statement M
 entries-spec =
     tie.close
     (tie.spec Inv-loop μ-loop loop-holds (λ c. search needs) (λ c κs. search needs) (λ c κs. search needs) returns returns-2 entry-line-requires
     (λ c κs. search needs) returns-3 note-requires add-values mul-notes element-copy-out-notes add-values-2 values-requires (λ c κs. search needs)
-    returns-4 mul-notes-2 element-write-notes mul-notes-3 element-write-notes-2 mul-notes-4 element-write-notes-3 mul-notes-5 element-write-notes-4
-    add-notes mul-notes-6 element-write-notes-5 add-notes-2 mul-depths array-read-depths add-depths add-depths-2 mul-depths-2 array-write-depths
-    loop-less loop-again)
+    returns-4 add-notes target-requires (λ c κs. search needs) returns-5 mul-notes-2 element-write-notes mul-notes-3 element-write-notes-2 mul-notes-4
+    element-write-notes-3 mul-notes-5 element-write-notes-4 add-notes-2 mul-notes-6 element-write-notes-5 mul-notes-7 element-write-notes-6 add-notes-3
+    mul-level array-read-level level-requires add-depths mul-depths array-write-depths loop-less loop-again)

@@ -2,7 +2,7 @@
 use Prim.Native.Nat.{ℕ, zero, suc, _+_, _*_, _-_, _≤_, _<_}
 use mathlib.Core.Path.{_≡_, refl, sym, ap, ap₂, _∙_, subst}
 use mathlib.Core.Logic.{inl, inr}
-use mathlib.Core.Bool.{Bool, true, false, _&&_, not}
+use mathlib.Core.Bool.{Bool, true, false, _&&_, not, cond}
 use mathlib.Core.Option.{Option, none, some}
 use mathlib.Core.List.{List, [], _∷_, _++_}
 use native.Mathlib.Omega.{arith}
@@ -11,12 +11,12 @@ use native.Mathlib.Decide.{ℕ-discrete}
 use lib.Dec.{eqb}
 use lib.ListN.{length, getD, take, drop, set, length-append, length-set, List·getD-append, replicate, length-replicate, getD-replicate}
 use lib.Seq.{drop-drop, getD-at, getD-set-same, getD-set-other, length-take-le}
-use borrow.Author.Tests.{le-ltb, lt-ltb}
-use Rattle.rules.specs.Sheet.{Bytes, Usable, frontOf, valueOf, lines}
+use borrow.Author.Tests.{le-ltb, lt-ltb, eqb-true, eqb-false}
+use Rattle.rules.specs.Sheet.{Bytes, bit, Usable, frontOf, valueOf, lines}
 use Rattle.rules.specs.declared.Format.{Format}
-use Rattle.rules.specs.Name.{Part, part, samePart}
+use Rattle.rules.specs.Name.{Part, part, Name, samePart}
 use Rattle.rules.specs.Judge.{accept, refuse, refuseIf, refusalOf, fold}
-use Rattle.rules.specs.Directory.{Stored, blank, Directory, entriesOf, nameAt, newEntry, clashes, lacksNaming, step, finish, nothing, directoryOf, withValues}
+use Rattle.rules.specs.Directory.{Target, Stored, blank, Directory, entriesOf, nameAt, newEntry, marked, isAlias, isUnread, underAlias, clashes, lacksNaming, lacksTarget, step, finish, nothing, directoryOf, withValues, withTarget}
 use Rattle.rules.specs.Places.{linesAt, valuesOf, schemaOf}
 use Rattle.rules.specs.Laws.Judge.{refused-not, accepted-is}
 use Rattle.rules.specs.declared.Front.{Front}
@@ -39,12 +39,15 @@ use Rattle.directory_ruling.specs.Laws.Twins.{any-snoc, named-start, named-entr
 use Rattle.directory_ruling.specs.Rulings.{Ready, Decides, markOf, reading}
 use Rattle.directory_ruling.specs.Laws.Rulings.{line-within, ready-room, ready-more}
 use Rattle.directory_ruling.specs.declared.Ruling.{Ruling}
-use Rattle.directory_entry.specs.EntryLine.{depthCount, entryRuling}
+use Rattle.directory_entry.specs.EntryLine.{depthCount, levelOf, entryRuling}
 use Rattle.directory_entry.specs.Laws.EntryLine.{Elsewhere, EntriesCounted, EntryTaken, EntryOutcome, entry-outcome}
 use Rattle.directory_values.specs.declared.Current.{Current}
 use Rattle.directory_values.specs.declared.ValueLines.{ValueLines}
 use Rattle.directory_values.specs.Values.{Begun, ValuesAsked, ValuesEnded, ValuesJudged, ValuesAnswered}
 use Rattle.directory_values.specs.Laws.Values.{values-all}
+use Rattle.directory_target.specs.declared.Last.{Last}
+use Rattle.directory_target.specs.declared.TargetLines.{TargetLines}
+use Rattle.directory_target.specs.Target.{Owed, TargetAsked, TargetEnded, TargetJudged, TargetAnswered}
 use Rattle.directory_schema.specs.declared.TypeLines.{TypeLines}
 use Rattle.directory_sheet.specs.Judged.{nothingNoted, NothingAfter, EntryNoted, DirectoryNoted, DirectoryJudged}
 use Rattle.directory_sheet.specs.Entries.{Sized, endNumber, Opened}
@@ -55,7 +58,7 @@ use Rattle.directory_sheet.specs.declared.Notes.{Notes}
 -- the entries are noted, each with its values
 abbrev pub AllNoted : ℕ → Bytes → Notes → List Stored → Type 0
 AllNoted w s notes es = (k : ℕ) → k < notes .count
-    → EntryNoted w s (getD es k blank) (getD (notes .at) k 0) (getD (notes .parents) k 0) (getD (notes .naming) k 0) (getD (notes .lengths) k 0)
+    → EntryNoted w s (getD es k blank) (getD (notes .at) k 0) (getD (notes .parents) k 0) (getD (notes .naming) k 0) (getD (notes .lengths) k 0) (getD (notes .targets) k 0)
 
 -- all lines before position `i` have been taken
 pub record EntriesRead (f : Format) (s : Bytes) (ks : List ℕ) (notes : Notes) (depths table held : List ℕ) (n : ℕ) (lacks : Bool) (i : ℕ) (taken : Taken)
@@ -125,9 +128,9 @@ module _ (w : ℕ) (s : Bytes) (i : ℕ) {x : Line} where
 
 -- ---- one entry more
 
--- the entry line `x` at `i` noted, with the row after its last value
-abbrev pub noting : Notes → ℕ → Line → ℕ → Notes
-noting notes i x to = record {
+-- the entry line `x` at `i` noted, with the row after its last value, and its target
+abbrev pub noting : Notes → ℕ → Line → ℕ → ℕ → Notes
+noting notes i x to target = record {
   refusal = notes .refusal;
   types = notes .types;
   schema = notes .schema;
@@ -137,26 +140,70 @@ noting notes i x to = record {
   naming = set (notes .naming) (notes .count) (x .b);
   lengths = set (notes .lengths) (notes .count) (x .length);
   first = set (notes .first) (notes .count + 1) to;
+  targets = set (notes .targets) (notes .count) target;
 }
 
-module _ (ks : List ℕ) (es : List Stored) (d : Stored) (vs : List Part) where
-  -- values do not count among siblings
-  named-filled : {s : Bytes} {ms : List Mark} → Named s ks (es ++ (d ∷ [])) ms → Named s ks (es ++ (withValues d vs ∷ [])) ms
+-- the entry with its values and its target
+abbrev filling : Stored → List Part → Target → Stored
+filling d vs t = withTarget (withValues d vs) t
+
+module _ (ks : List ℕ) (es : List Stored) (d : Stored) (vs : List Part) (t : Target) where
+  abbrev filled : List Stored
+  filled = es ++ (filling d vs t ∷ [])
+
+  -- values and targets do not count among siblings
+  named-filled : {s : Bytes} {ms : List Mark} → Named s ks (es ++ (d ∷ [])) ms → Named s ks filled ms
   unfolding clashes
   named-filled named = record {
-    siblings = λ p t v h a. named .siblings p t v h a ∙ any-snoc (λ x. eqb (x .parent) p && samePart (schemaOf ks) (x .naming) (part t v)) es d
-        ∙ sym (any-snoc (λ x. eqb (x .parent) p && samePart (schemaOf ks) (x .naming) (part t v)) es (withValues d vs));
-    later = λ o t v h a. named .later o t v (omega (arith, length-append es (d ∷ []), length-append es (withValues d vs ∷ []))) a;
+    siblings = λ p k v h a. named .siblings p k v h a ∙ any-snoc (λ x. eqb (x .parent) p && samePart (schemaOf ks) (x .naming) (part k v)) es d
+        ∙ sym (any-snoc (λ x. eqb (x .parent) p && samePart (schemaOf ks) (x .naming) (part k v)) es (filling d vs t));
+    later = λ o k v h a. named .later o k v (omega (arith, length-append es (d ∷ []), length-append es (filling d vs t ∷ []))) a;
   }
 
-  name-before : (k : ℕ) → k ≤ length es → nameAt (es ++ (withValues d vs ∷ [])) k ≡ nameAt es k
+  name-before : (k : ℕ) → k ≤ length es → nameAt filled k ≡ nameAt es k
   unfolding nameAt
   name-before zero h = refl
-  name-before (suc k) h = ap (λ (x : Stored). x .name) (List·getD-append es (withValues d vs ∷ []) blank k h)
+  name-before (suc k) h = ap (λ (x : Stored). x .name) (List·getD-append es (filling d vs t ∷ []) blank k h)
 
-  name-last : nameAt (es ++ (withValues d vs ∷ [])) (length es + 1) ≡ d .name
+  name-last : nameAt filled (length es + 1) ≡ d .name
   unfolding nameAt
-  name-last = rw (add-one) (ap (λ (x : Stored). x .name) (getD-at es (withValues d vs) [] blank (length es) refl))
+  name-last = rw (add-one) (ap (λ (x : Stored). x .name) (getD-at es (filling d vs t) [] blank (length es) refl))
+
+  alias-before : (k : ℕ) → k ≤ length es → underAlias filled k ≡ underAlias es k
+  unfolding underAlias
+  alias-before zero h = refl
+  alias-before (suc k) h = ap (λ (x : Stored). isAlias (x .target)) (List·getD-append es (filling d vs t ∷ []) blank k h)
+
+  alias-last : underAlias filled (length es + 1) ≡ isAlias t
+  unfolding underAlias
+  alias-last = rw (add-one) (ap (λ (x : Stored). isAlias (x .target)) (getD-at es (filling d vs t) [] blank (length es) refl))
+
+  level-before : (k : ℕ) → k ≤ length es → levelOf filled k ≡ levelOf es k
+  level-before k h = ap₂ (λ (u : Bool) (m : Name). cond u 8 (length m)) (alias-before k h) (name-before k h)
+
+  level-last : levelOf filled (length es + 1) ≡ cond (isAlias t) 8 (length (d .name))
+  level-last = ap₂ (λ (u : Bool) (m : Name). cond u 8 (length m)) alias-last name-last
+
+-- an entry that may have children is no alias
+level-plain : (es : List Stored) (k : ℕ) {n : ℕ} → n ≡ levelOf es k → n < 8 → n ≡ length (nameAt es k)
+level-plain es k {n} e h = go (underAlias es k) e
+  where
+    go : (u : Bool) → n ≡ cond u 8 (length (nameAt es k)) → n ≡ length (nameAt es k)
+    go true q = absurd (omega arith)
+    go false q = q
+
+-- an entry line's target is not read with it
+marked-unread : (b : Bool) → isUnread (marked b) ≡ true
+marked-unread true = refl
+marked-unread false = refl
+
+-- its mark is 0 or 1
+mark-bit : (c : ℕ) → c ≤ 1 → c ≡ bit (eqb c 1)
+mark-bit c h = go (eqb c 1) refl
+  where
+    go : (b : Bool) → eqb c 1 ≡ b → c ≡ bit b
+    go true q = eqb-true c 1 q
+    go false q = omega (arith, eqb-false c 1 q)
 
 module _ {f : Format} {s : Bytes} {ks : List ℕ} {notes : Notes} {depths table held : List ℕ} {n : ℕ} {lacks : Bool} {i : ℕ} {taken : Taken}
     {complete : List Stored} {current : Option Stored} {ms : List Mark} (st : EntriesRead f s ks notes depths table held n lacks i taken complete current ms)
@@ -228,6 +275,7 @@ module _ {f : Format} {s : Bytes} {ks : List ℕ} {notes : Notes} {depths table 
           type = refl;
           value = refl;
           fit = t .fit;
+          unread = marked-unread (eqb (x .c) 1);
           bytes = omega (arith, inside .bytes);
           within = fits .within;
           space = omega (arith, st .space, fits .place, fits .next, st .usable .least);
@@ -255,102 +303,153 @@ module _ {f : Format} {s : Bytes} {ks : List ℕ} {notes : Notes} {depths table 
         abbrev vs : List Part
         vs = v .values
 
-        next-levels : (j : ℕ) → j ≤ notes .count + 1 → getD (set depths (notes .count + 1) (getD depths (x .a) 0 + 1)) j 0 ≡ length (nameAt (es ++ (withValues d vs ∷ [])) j)
-        next-levels j h = go (ℕ-discrete j (notes .count + 1))
-          where
-            go : Dec (j ≡ notes .count + 1) → getD (set depths (notes .count + 1) (getD depths (x .a) 0 + 1)) j 0 ≡ length (nameAt (es ++ (withValues d vs ∷ [])) j)
-            go (yes q) =
-                let room : notes .count + 1 < length depths = omega (arith, taking .0 .room, st .sized .levels) in
-                rw (q, getD-set-same depths (notes .count + 1) (getD depths (x .a) 0 + 1) 0 room, st .counted .levels (x .a) (taking .0 .parent))
-                (sym (length-append (nameAt es (x .a)) _) ∙ ap length (sym (name-last ks es d vs)) ∙ ap (λ (y : ℕ). length (nameAt (es ++ (withValues d vs ∷ [])) (y + 1))) (sym (st .counted .number)))
-            go (no q) =
-                getD-set-other depths (notes .count + 1) j (getD depths (x .a) 0 + 1) 0 q
-                ∙ st .counted .levels j (omega arith)
-                ∙ ap length (sym (name-before ks es d vs j (omega (arith, st .counted .number))))
+        -- what is known of the entry where its target may follow
+        abbrev last : Last
+        last = record { number = notes .count + 1; alias = eqb (x .c) 1; lacks = not (run .found); at = run .at; taken = run .taken }
 
-        next-room : notes .count + 1 < length (notes .first)
-        next-room = omega (arith, taking .0 .room, st .sized .first)
+        owed : Owed f s ks last es (withValues d vs)
+        owed = record {
+          usable = st .usable;
+          sheet = st .ready .sheet;
+          rising = st .ready .rising;
+          number = ap (λ (q : ℕ). q + 1) (st .counted .number);
+          lacking = ap not (v .read .holds);
+          within = v .read .within;
+          stands = v .stands;
+          other = v .other;
+        }
 
-        entry-noted : EntryNoted (f .width) s (withValues d vs) i (x .a) (x .b) (x .length)
-        entry-noted =
-            let t = taking .0 in
-            let next : x .next ≡ i + (5 * f .width + 1 + x .length) = omega (arith, fits .place, fits .next) in
-            record {
-              line = taken-front (f .width) s i here ∙ ap₂ (λ (p q : ℕ). Front.Taken p (x .a) (x .b) q (x .length)) (t .kind) (entry-columns (f .top) x (t .form) (t .kind));
-              value = taken-value (f .width) s i fits;
-              within = omega (arith, next, fits .within);
-              values = ap (λ (p : ℕ). valuesOf (linesAt (f .width) s p)) (sym next) ∙ values-all v;
-              above = refl;
-              type = refl;
-            }
+        pub standing-owed : TargetAsked f s ks last
+        standing-owed = record { complete = es; entry = withValues d vs; owed = owed }
 
-        next-noted : AllNoted (f .width) s (noting notes i x (run .to)) (es ++ (withValues d vs ∷ []))
-        next-noted j h = go (ℕ-discrete j (notes .count))
-          where
-            go : Dec (j ≡ notes .count) → EntryNoted (f .width) s (getD (es ++ (withValues d vs ∷ [])) j blank) (getD (set (notes .at) (notes .count) i) j 0)
-                (getD (set (notes .parents) (notes .count) (x .a)) j 0) (getD (set (notes .naming) (notes .count) (x .b)) j 0) (getD (set (notes .lengths) (notes .count) (x .length)) j 0)
-            go (yes q) =
-                let room = taking .0 .room in
-                let size = st .sized in
-                rw (q, getD-set-same (notes .at) (notes .count) i 0 (omega (arith, room, size)), getD-set-same (notes .parents) (notes .count) (x .a) 0 (omega (arith, room, size)), getD-set-same (notes .naming) (notes .count) (x .b) 0 (omega (arith, room, size)), getD-set-same (notes .lengths) (notes .count) (x .length) 0 (omega (arith, room, size)), getD-at es (withValues d vs) [] blank (notes .count) (sym (st .counted .number)))
-                entry-noted
-            go (no q) =
-                rw (getD-set-other (notes .at) (notes .count) j i 0 q, getD-set-other (notes .parents) (notes .count) j (x .a) 0 q, getD-set-other (notes .naming) (notes .count) j (x .b) 0 q, getD-set-other (notes .lengths) (notes .count) j (x .length) 0 q, List·getD-append es (withValues d vs ∷ []) blank j (omega (arith, st .counted .number)))
-                (st .noted j (omega arith))
+        judged-values : fold (step (f .top)) finish 2 nothing (lines (f .width) s) ≡ judgedFrom f s (reading ks es (some (withValues d vs))) (run .at)
+        judged-values = st .judged ∙ judged-on f s i here (reading ks complete current) (reading ks es (some d)) (taking .1) ∙ passes-judged (v .read .passed)
 
-        -- the next line that is no value line
-        pub standing-on : (entries : List Stored) × (newest : Option Stored) × (all : List Mark)
-            × EntriesRead f s ks (noting notes i x (run .to)) (set depths (notes .count + 1) (getD depths (x .a) 0 + 1)) table′ held′ (run .marks) (not (run .found)) (run .at) (run .taken) entries newest all
-        unfolding entriesOf lacksNaming
-        standing-on = (
-          es,
-          some (withValues d vs),
-          v .all,
-          record {
-            ready = v .read .ready;
-            usable = st .usable;
-            sized = record {
-              types = st .sized .types;
-              list = st .sized .list;
-              schema = st .sized .schema;
-              at = simp length-set (st .sized .at);
-              parents = simp length-set (st .sized .parents);
-              naming = simp length-set (st .sized .naming);
-              lengths = simp length-set (st .sized .lengths);
-              first = simp length-set (st .sized .first);
-              levels = simp length-set (st .sized .levels);
-            };
-            accepting = st .accepting;
-            after = record {
-              schema = st .after .schema;
-              at = zeros-more (notes .count) (notes .at) i (st .after .at);
-              parents = zeros-more (notes .count) (notes .parents) (x .a) (st .after .parents);
-              naming = zeros-more (notes .count) (notes .naming) (x .b) (st .after .naming);
-              lengths = zeros-more (notes .count) (notes .lengths) (x .length) (st .after .lengths);
-              first = zeros-more (notes .count + 1) (notes .first) (run .to) (st .after .first);
-            };
-            marked = v .read .count;
-            space = v .read .space;
-            within = v .read .within;
-            stands = v .stands;
-            elsewhere = v .other;
-            counted = record {
-              number = ap (λ (q : ℕ). q + 1) (st .counted .number) ∙ sym (length-append es (withValues d vs ∷ []));
-              most = omega (arith, taking .0 .room);
-              lacking = ap not (v .read .holds);
-              levels = next-levels;
-              named = named-filled ks es d vs (v .read .named);
-            };
-            noted = next-noted;
-            rows = held-more (st .rows) (withValues d vs) (v .read .rows) (st .counted .number) next-room;
-            fewer = rw (getD-set-same (notes .first) (notes .count + 1) (run .to) 0 next-room) (v .read .fewer);
-            judged = st .judged ∙ judged-on f s i here (reading ks complete current) (reading ks es (some d)) (taking .1) ∙ passes-judged (v .read .passed);
-          },
-        )
+        module _ {t : TargetLines} (aimed : TargetAnswered f s ks last t) where
+          target-judged : TargetJudged f s ks last es (withValues d vs) t
+          target-judged = aimed es (withValues d vs) owed
 
-        -- further on in the sheet
-        pub standing-further : length s - run .at < length s - i
-        standing-further = omega (arith, v .read .start, v .read .within, fits .place, fits .next)
+          pub standing-cut : (t .refusal ≡ 0 → ⊥) → fold (step (f .top)) finish 2 nothing (lines (f .width) s) ≡ refuse (t .refusal)
+          standing-cut q = judged-values ∙ target-judged .refused q .sheet
+
+          module _ (entire : t .refusal ≡ 0) where
+            -- the lines of its target were taken
+            u : TargetEnded f s ks last es (withValues d vs) t
+            u = target-judged .ended entire
+
+            abbrev added : Stored
+            added = filling d vs (u .target)
+
+            abbrev level : ℕ
+            level = cond (eqb (x .c) 1) 8 (getD depths (x .a) 0 + 1)
+
+            next-levels : (j : ℕ) → j ≤ notes .count + 1 → getD (set depths (notes .count + 1) level) j 0 ≡ levelOf (es ++ (added ∷ [])) j
+            next-levels j h = go (ℕ-discrete j (notes .count + 1))
+              where
+                above : getD depths (x .a) 0 + 1 ≡ length (d .name)
+                above = ap (λ (q : ℕ). q + 1) (level-plain es (x .a) (st .counted .levels (x .a) (taking .0 .parent)) (taking .0 .level)) ∙ sym (length-append (nameAt es (x .a)) _)
+
+                go : Dec (j ≡ notes .count + 1) → getD (set depths (notes .count + 1) level) j 0 ≡ levelOf (es ++ (added ∷ [])) j
+                go (yes q) =
+                    let room : notes .count + 1 < length depths = omega (arith, taking .0 .room, st .sized .levels) in
+                    ap (λ (y : ℕ). getD (set depths (notes .count + 1) level) y 0) q
+                    ∙ getD-set-same depths (notes .count + 1) level 0 room
+                    ∙ ap₂ (λ (b : Bool) (m : ℕ). cond b 8 m) (sym (u .alias)) above
+                    ∙ sym (level-last ks es d vs (u .target))
+                    ∙ ap (levelOf (es ++ (added ∷ []))) (ap (λ (y : ℕ). y + 1) (sym (st .counted .number)) ∙ sym q)
+                go (no q) =
+                    getD-set-other depths (notes .count + 1) j level 0 q
+                    ∙ st .counted .levels j (omega arith)
+                    ∙ sym (level-before ks es d vs (u .target) j (omega (arith, st .counted .number)))
+
+            next-room : notes .count + 1 < length (notes .first)
+            next-room = omega (arith, taking .0 .room, st .sized .first)
+
+            entry-noted : EntryNoted (f .width) s added i (x .a) (x .b) (x .length) (t .target)
+            entry-noted =
+                let g = taking .0 in
+                let next : x .next ≡ i + (5 * f .width + 1 + x .length) = omega (arith, fits .place, fits .next) in
+                record {
+                  line = taken-front (f .width) s i here ∙ ap₂ (λ (p q : ℕ). Front.Taken p (x .a) (x .b) q (x .length)) (g .kind) (mark-bit (x .c) (entry-columns (f .top) x (g .form) (g .kind)) ∙ ap bit (sym (u .alias)));
+                  value = taken-value (f .width) s i fits;
+                  within = omega (arith, next, fits .within);
+                  values = ap (λ (p : ℕ). valuesOf (linesAt (f .width) s p)) (sym next) ∙ values-all v;
+                  above = refl;
+                  type = refl;
+                  leads = u .noted;
+                }
+
+            next-noted : AllNoted (f .width) s (noting notes i x (run .to) (t .target)) (es ++ (added ∷ []))
+            next-noted j h = go (ℕ-discrete j (notes .count))
+              where
+                go : Dec (j ≡ notes .count) → EntryNoted (f .width) s (getD (es ++ (added ∷ [])) j blank) (getD (set (notes .at) (notes .count) i) j 0)
+                    (getD (set (notes .parents) (notes .count) (x .a)) j 0) (getD (set (notes .naming) (notes .count) (x .b)) j 0) (getD (set (notes .lengths) (notes .count) (x .length)) j 0)
+                    (getD (set (notes .targets) (notes .count) (t .target)) j 0)
+                go (yes q) =
+                    let room = taking .0 .room in
+                    let size = st .sized in
+                    rw (q, getD-set-same (notes .at) (notes .count) i 0 (omega (arith, room, size)), getD-set-same (notes .parents) (notes .count) (x .a) 0 (omega (arith, room, size)), getD-set-same (notes .naming) (notes .count) (x .b) 0 (omega (arith, room, size)), getD-set-same (notes .lengths) (notes .count) (x .length) 0 (omega (arith, room, size)), getD-set-same (notes .targets) (notes .count) (t .target) 0 (omega (arith, room, size)), getD-at es added [] blank (notes .count) (sym (st .counted .number)))
+                    entry-noted
+                go (no q) =
+                    rw (getD-set-other (notes .at) (notes .count) j i 0 q, getD-set-other (notes .parents) (notes .count) j (x .a) 0 q, getD-set-other (notes .naming) (notes .count) j (x .b) 0 q, getD-set-other (notes .lengths) (notes .count) j (x .length) 0 q, getD-set-other (notes .targets) (notes .count) j (t .target) 0 q, List·getD-append es (added ∷ []) blank j (omega (arith, st .counted .number)))
+                    (st .noted j (omega arith))
+
+            -- the next line that is no value line and no target's
+            pub standing-on : {lev : ℕ} → lev ≡ level → (entries : List Stored) × (newest : Option Stored) × (all : List Mark)
+                × EntriesRead f s ks (noting notes i x (run .to) (t .target)) (set depths (notes .count + 1) lev) table′ held′ (run .marks) (not (run .found)) (t .at) (t .taken) entries newest all
+            unfolding entriesOf lacksNaming lacksTarget
+            standing-on lev-is = (
+              es,
+              some added,
+              v .all,
+              record {
+                ready = v .read .ready;
+                usable = st .usable;
+                sized = record {
+                  types = st .sized .types;
+                  list = st .sized .list;
+                  schema = st .sized .schema;
+                  at = simp length-set (st .sized .at);
+                  parents = simp length-set (st .sized .parents);
+                  naming = simp length-set (st .sized .naming);
+                  lengths = simp length-set (st .sized .lengths);
+                  first = simp length-set (st .sized .first);
+                  targets = simp length-set (st .sized .targets);
+                  levels = simp length-set (st .sized .levels);
+                };
+                accepting = st .accepting;
+                after = record {
+                  schema = st .after .schema;
+                  at = zeros-more (notes .count) (notes .at) i (st .after .at);
+                  parents = zeros-more (notes .count) (notes .parents) (x .a) (st .after .parents);
+                  naming = zeros-more (notes .count) (notes .naming) (x .b) (st .after .naming);
+                  lengths = zeros-more (notes .count) (notes .lengths) (x .length) (st .after .lengths);
+                  first = zeros-more (notes .count + 1) (notes .first) (run .to) (st .after .first);
+                  targets = zeros-more (notes .count) (notes .targets) (t .target) (st .after .targets);
+                };
+                marked = v .read .count;
+                space = omega (arith, v .read .space, u .start);
+                within = u .within;
+                stands = u .stands;
+                elsewhere = λ y is w. u .other w y is;
+                counted = record {
+                  number = ap (λ (q : ℕ). q + 1) (st .counted .number) ∙ sym (length-append es (added ∷ []));
+                  most = omega (arith, taking .0 .room);
+                  lacking = ap not (v .read .holds);
+                  whole = ap not (u .whole);
+                  levels = λ j h. ap (λ (l : ℕ). getD (set depths (notes .count + 1) l) j 0) lev-is ∙ next-levels j h;
+                  named = named-filled ks es d vs (u .target) (v .read .named);
+                };
+                noted = next-noted;
+                rows = held-more (st .rows) added (v .read .rows) (st .counted .number) next-room;
+                fewer = rw (getD-set-same (notes .first) (notes .count + 1) (run .to) 0 next-room) (v .read .fewer);
+                judged = judged-values ∙ passes-judged (u .passed);
+              },
+            )
+
+            -- further on in the sheet
+            pub standing-further : length s - t .at < length s - i
+            standing-further = omega (arith, v .read .start, u .start, u .within, fits .place, fits .next)
 
 -- ---- no line stands there
 
@@ -358,7 +457,7 @@ module _ {f : Format} {s : Bytes} {ks : List ℕ} {notes : Notes} {depths table 
     {complete : List Stored} {current : Option Stored} {ms : List Mark} (st : EntriesRead f s ks notes depths table held n lacks i taken complete current ms) where
   ends : taken ≡ Taken.End → fold (step (f .top)) finish 2 nothing (lines (f .width) s) ≡ refuseIf lacks 6 (accept (record { schema = schemaOf ks; entries = entriesOf (reading ks complete current) }))
   unfolding finish
-  ends is = st .judged ∙ judged-end f s i _ (sym (st .stands) ∙ is) ∙ rw (← st .counted .lacking)
+  ends is = st .judged ∙ judged-end f s i _ (sym (st .stands) ∙ is) ∙ rw (← st .counted .lacking, st .counted .whole)
 
   all-noted : DirectoryNoted (f .width) s (record { schema = schemaOf ks; entries = entriesOf (reading ks complete current) }) notes held
   all-noted = record {
@@ -373,6 +472,7 @@ module _ {f : Format} {s : Bytes} {ks : List ℕ} {notes : Notes} {depths table 
     naming-length = st .sized .naming;
     lengths-length = st .sized .lengths;
     first-length = st .sized .first;
+    targets-length = st .sized .targets;
     held-length = st .rows .table;
     entry = st .noted;
     start = st .rows .start;
@@ -404,7 +504,7 @@ module _ {f : Format} {s : Bytes} {ks : List ℕ} {notes : Notes} {depths table 
 
 module _ {f : Format} {s : Bytes} {ks : List ℕ} {notes : Notes} {held : List ℕ} {i : ℕ} {taken : Taken} (o : Opened f s ks notes held i taken) where
   pub standing-start : EntriesRead f s ks notes (replicate depthCount 0) (replicate tableLength 0) held 0 false i taken [] none []
-  unfolding entriesOf lacksNaming tableOf lastIn nameAt
+  unfolding entriesOf lacksNaming lacksTarget tableOf lastIn nameAt underAlias
   standing-start = record {
     ready = record {
       sheet = o .sheet;
@@ -426,6 +526,7 @@ module _ {f : Format} {s : Bytes} {ks : List ℕ} {notes : Notes} {held : List �
       number = o .none-yet;
       most = omega (arith, o .none-yet);
       lacking = refl;
+      whole = refl;
       levels = λ k h. level k (omega (arith, o .none-yet));
       named = named-start s ks;
     };
@@ -435,14 +536,14 @@ module _ {f : Format} {s : Bytes} {ks : List ℕ} {notes : Notes} {held : List �
     judged = o .judged;
   }
     where
-      level : (k : ℕ) → k ≤ 0 → getD (replicate depthCount 0) k 0 ≡ length (nameAt [] k)
+      level : (k : ℕ) → k ≤ 0 → getD (replicate depthCount 0) k 0 ≡ levelOf [] k
       level zero h = getD-replicate depthCount 0 0 0 (omega arith)
       level (suc k) h = absurd (omega arith)
 
 -- after the K 1 lines, with nothing else noted
 pub opened : (f : Format) (s : Bytes) (held : List ℕ) (r : TypeLines) (b : Notes) → length s ≤ 65536 → Usable f × (held ≡ noneHeld) → b ≡ nothingNoted 0 → TypesEnded f s r
     → Opened f s (take (r .count) (r .schema))
-    (record { refusal = b .refusal; types = r .count; schema = r .schema; count = b .count; at = b .at; parents = b .parents; naming = b .naming; lengths = b .lengths; first = b .first }) held (r .at) (r .taken)
+    (record { refusal = b .refusal; types = r .count; schema = r .schema; count = b .count; at = b .at; parents = b .parents; naming = b .naming; lengths = b .lengths; first = b .first; targets = b .targets }) held (r .at) (r .taken)
 opened f s held r b fits asked is t = rw is (record {
   sheet = fits;
   usable = asked .0;
@@ -457,10 +558,11 @@ opened f s held r b fits asked is t = rw is (record {
     naming = length-replicate {A = ℕ} 256 0;
     lengths = length-replicate {A = ℕ} 256 0;
     first = length-replicate {A = ℕ} FIRST-ROWS 0;
+    targets = length-replicate {A = ℕ} 256 0;
     levels = length-replicate {A = ℕ} depthCount 0;
   };
   accepting = refl;
-  after = record { schema = t .read .rest; at = zeros 256 0; parents = zeros 256 0; naming = zeros 256 0; lengths = zeros 256 0; first = zeros FIRST-ROWS 1 };
+  after = record { schema = t .read .rest; at = zeros 256 0; parents = zeros 256 0; naming = zeros 256 0; lengths = zeros 256 0; first = zeros FIRST-ROWS 1; targets = zeros 256 0 };
   none-yet = refl;
   none-held = getD-replicate FIRST-ROWS 0 0 0 (omega arith);
   empty = asked .1;

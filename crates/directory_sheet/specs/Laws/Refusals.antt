@@ -1,5 +1,5 @@
 -- The refusals of a directory are not 0, so that 0 tells an accepted one.
-use Prim.Native.Nat.{ℕ, _<_}
+use Prim.Native.Nat.{ℕ, zero, suc, _<_}
 use mathlib.Core.Path.{_≡_, refl, sym, _∙_}
 use mathlib.Core.Bool.{Bool, true, false, not, _||_, cond}
 use mathlib.Core.List.{List, []}
@@ -13,7 +13,7 @@ use Rattle.rules.specs.Sheet.{Bytes, Line, Sheet, end, broken, row, lines}
 use Rattle.rules.specs.declared.Format.{Format}
 use Rattle.rules.specs.Columns.{inForm, directoryForms}
 use Rattle.rules.specs.Judge.{Verdict, accept, refuse, refusalOf, refuseIf, then, fold}
-use Rattle.rules.specs.Directory.{Stored, Directory, Reading, directoryOf, step, finish, nothing, typeLine, entryLine, valueLine, lacksNaming, entriesOf, lastType, newEntry, clashes}
+use Rattle.rules.specs.Directory.{Target, nowhere, missing, parts, Stored, Directory, Reading, directoryOf, step, finish, nothing, typeLine, entryLine, valueLine, targetLine, partLine, ofLast, isUnread, lacksNaming, lacksTarget, underAlias, entriesOf, lastType, newEntry, clashes}
 use Rattle.directory_sheet.specs.Judged as Directories
 use Rattle.directory_sheet.specs.declared.Notes.{Notes}
 
@@ -36,7 +36,7 @@ told-value : (st : Reading) (o : Option Stored) (x : Line) → Told (valueLine s
 unfolding valueLine
 told-value st none x = λ e. absurd (let z : 3 ≡ 0 = e in omega arith)
 told-value st (some e) x =
-    go (ltb (x .a) ((lastOr (part 0 []) (e .values)) .type)) (not (allowed (st .schema) (x .a) (x .bytes))) (any (samePart (st .schema) (part (x .a) (x .bytes))) (e .values)) _
+    go (ltb (x .a) ((lastOr (part 0 []) (e .values)) .type) || not (isUnread (e .target))) (not (allowed (st .schema) (x .a) (x .bytes))) (any (samePart (st .schema) (part (x .a) (x .bytes))) (e .values)) _
   where
     go : {A : Type 0} (b c d : Bool) (r : A) → Told (refuseIf b 3 (refuseIf c 4 (refuseIf d 5 (accept r))))
     go b c d r = told-if b 3 _ (omega arith) (told-if c 4 _ (omega arith) (told-if d 5 _ (omega arith) (told-accept r)))
@@ -48,25 +48,50 @@ told-type st x = told-if (not (isEmpty (entriesOf st)) || (leb (x .a) (lastType 
 told-entry : (st : Reading) (x : Line) → Told (entryLine st x)
 unfolding entryLine
 told-entry st x =
-    go (ltb (length (entriesOf st)) (x .a)) (lacksNaming (st .schema) (st .current)) (leb 256 (length (entriesOf st)) || ltb 8 (length (newEntry (entriesOf st) x .name)))
+    go (ltb (length (entriesOf st)) (x .a)) (lacksNaming (st .schema) (st .current))
+    (lacksTarget (st .current) || (underAlias (entriesOf st) (x .a) || (leb 256 (length (entriesOf st)) || ltb 8 (length (newEntry (entriesOf st) x .name)))))
     (not (allowed (st .schema) (x .b) (x .bytes))) (clashes (st .schema) (entriesOf st) (newEntry (entriesOf st) x .parent) (newEntry (entriesOf st) x .naming)) _
   where
     go : {A : Type 0} (a b c d e : Bool) (r : A) → Told (refuseIf a 2 (refuseIf b 6 (refuseIf c 3 (refuseIf d 4 (refuseIf e 5 (accept r))))))
     go a b c d e r =
         told-if a 2 _ (omega arith) (told-if b 6 _ (omega arith) (told-if c 3 _ (omega arith) (told-if d 4 _ (omega arith) (told-if e 5 _ (omega arith) (told-accept r)))))
 
+told-target : (st : Reading) (o : Option Stored) (x : Line) → Told (ofLast (targetLine st) o x)
+unfolding targetLine
+told-target st none x = λ e. absurd (let z : 3 ≡ 0 = e in omega arith)
+told-target st (some d) x = go (d .target)
+  where
+    go : (t : Target) → Told (targetLine st d t x)
+    go nowhere = λ e. absurd (let z : 3 ≡ 0 = e in omega arith)
+    go missing = told-accept _
+    go (parts n m) = λ e. absurd (let z : 3 ≡ 0 = e in omega arith)
+
+told-part : (st : Reading) (o : Option Stored) (x : Line) → Told (ofLast (partLine st) o x)
+unfolding partLine
+told-part st none x = λ e. absurd (let z : 3 ≡ 0 = e in omega arith)
+told-part st (some d) x = go (d .target)
+  where
+    go : (t : Target) → Told (partLine st d t x)
+    go nowhere = λ e. absurd (let z : 3 ≡ 0 = e in omega arith)
+    go missing = λ e. absurd (let z : 3 ≡ 0 = e in omega arith)
+    go (parts zero m) = λ e. absurd (let z : 3 ≡ 0 = e in omega arith)
+    go (parts (suc n) m) = told-if (not (allowed (st .schema) (x .a) (x .bytes))) 4 _ (omega arith) (told-accept _)
+
 told-step : (top : ℕ) (st : Reading) (x : Line) → Told (step top st x)
 unfolding step
-told-step top st x = told-if (not (inForm (directoryForms top) x)) 2 _ (omega arith) (go (eqb (x .kind) 1) (eqb (x .kind) 2))
+told-step top st x = told-if (not (inForm (directoryForms top) x)) 2 _ (omega arith) (go (eqb (x .kind) 1) (eqb (x .kind) 2) (eqb (x .kind) 3) (eqb (x .kind) 36))
   where
-    go : (b c : Bool) → Told (cond b (typeLine st x) (cond c (entryLine st x) (valueLine st (st .current) x)))
-    go true c = told-type st x
-    go false true = told-entry st x
-    go false false = told-value st (st .current) x
+    go : (b c v t : Bool)
+        → Told (cond b (typeLine st x) (cond c (entryLine st x) (cond v (valueLine st (st .current) x) (cond t (ofLast (targetLine st) (st .current) x) (ofLast (partLine st) (st .current) x)))))
+    go true c v t = told-type st x
+    go false true v t = told-entry st x
+    go false false true t = told-value st (st .current) x
+    go false false false true = told-target st (st .current) x
+    go false false false false = told-part st (st .current) x
 
 told-fold : (top : ℕ) (s : Sheet) (st : Reading) → Told (fold (step top) finish 2 st s)
 unfolding fold finish
-told-fold top end st = told-if (lacksNaming (st .schema) (st .current)) 6 _ (omega arith) (told-accept _)
+told-fold top end st = told-if (lacksNaming (st .schema) (st .current)) 6 _ (omega arith) (told-if (lacksTarget (st .current)) 3 _ (omega arith) (told-accept _))
 told-fold top broken st = λ e. absurd (let z : 2 ≡ 0 = e in omega arith)
 told-fold top (row x rest) st = told-then (step top st x) (λ next. fold (step top) finish 2 next rest) (told-step top st x) (λ next. told-fold top rest next)
 

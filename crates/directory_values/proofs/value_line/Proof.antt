@@ -11,11 +11,11 @@ use Rattle.directory_values.proofs.value_line.Tie as tie
 
 returns : tie.Need-returns
 unfolding valueRuling
-returns c = λ ms ready. rw (sym (c .before .before .directory-columns .ensures) ∙ not-true _ (c .before .if1 .taken)) (c .refusing .ensures)
+returns c = λ ms ready. rw (sym (c .before .before .value-columns .ensures) ∙ not-true _ (c .before .if1 .taken)) (c .refusing .ensures)
 
 returns-2 : tie.Need-returns-2
 unfolding valueRuling
-returns-2 c = λ ms ready. rw (sym (c .before .before .before .before .directory-columns .ensures) ∙ not-false _ (c .before .before .before .if1 .left), lt-ltb _ _ (c .before .if2 .taken)) (c .refusing2 .ensures)
+returns-2 c = λ ms ready. rw (sym (c .before .before .before .before .value-columns .ensures) ∙ not-false _ (c .before .before .before .if1 .left), lt-ltb _ _ (c .before .if2 .taken)) (c .refusing2 .ensures)
 
 rank-requires : tie.Need-rank-requires
 rank-requires c κs = omega (arith, c .before .before .before .before .before .before .pre .2, rank-rises (now (c .before .before .before .before .before .before .args .schema)) (c .before .before .before .before .before .before .args .last) (c .before .before .before .before .before .before .args .line .a) (c .if2 .left))
@@ -28,7 +28,7 @@ ruled-requires c κs = let g = c .before .before .before .before .before .before
 
 returns-3 : tie.Need-returns-3
 unfolding valueRuling
-returns-3 c = λ ms ready. rw (sym (c .before .before .before .before .before .directory-columns .ensures) ∙ not-false _ (c .before .before .before .before .if1 .left), le-ltb _ _ (c .before .before .if2 .left)) (c .ruled .ensures ms ready)
+returns-3 c = λ ms ready. rw (sym (c .before .before .before .before .before .value-columns .ensures) ∙ not-false _ (c .before .before .before .before .if1 .left), le-ltb _ _ (c .before .before .if2 .left)) (c .ruled .ensures ms ready)
 
 pub value-line-spec : {M : Type 1} → statement M
 value-line-spec =

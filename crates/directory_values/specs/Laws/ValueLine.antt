@@ -2,7 +2,7 @@
 use Prim.Native.Nat.{ℕ, _≤_}
 use mathlib.Core.Path.{_≡_, refl, sym, _∙_}
 use mathlib.Core.Logic.{_⊎_, inl, inr}
-use mathlib.Core.Bool.{Bool, true, false, not, cond}
+use mathlib.Core.Bool.{Bool, true, false, not, cond, or-false}
 use mathlib.Core.Option.{some}
 use mathlib.Core.List.{List, [], _∷_, _++_}
 use native.Mathlib.Omega.{arith}
@@ -13,7 +13,7 @@ use Rattle.rules.specs.Sheet.{Bytes}
 use Rattle.rules.specs.Columns.{directoryForms, inForm}
 use Rattle.rules.specs.Name.{Part, part, allowed, samePart}
 use Rattle.rules.specs.Judge.{accept, refuseIf}
-use Rattle.rules.specs.Directory.{Stored, valueLine, step, withValues}
+use Rattle.rules.specs.Directory.{Stored, isUnread, valueLine, step, withValues}
 use Rattle.rules.specs.Places.{schemaOf}
 use Rattle.sheet_line.specs.declared.Line.{Line}
 use Rattle.sheet_line.specs.Line.{bytesOf, lineOf}
@@ -42,19 +42,19 @@ ValueOutcome top s ks table number last complete d vs x r =
     × (step top (reading ks complete (some (withValues d vs))) (lineOf s x) ≡ accept (reading ks complete (some (withValues d (vs ++ (broughtBy s x ∷ [])))))))
 
 pub value-outcome : (top : ℕ) (s : Bytes) (ks table : List ℕ) (number last : ℕ) (complete : List Stored) (d : Stored) (vs : List Part) (ms : List Mark)
-    → last ≡ (lastOr (part 0 []) vs) .type → Valued s ks (ownerOf number) vs ms
+    → last ≡ (lastOr (part 0 []) vs) .type → isUnread (d .target) ≡ true → Valued s ks (ownerOf number) vs ms
     → (x : Line) → columnsFit top x ≡ inForm (directoryForms top) (lineOf s x) → x .kind ≡ 3
     → ValueOutcome top s ks table number last complete d vs x (valueRuling top number last x s ks table ms)
 unfolding valueRuling ruledOf
-value-outcome top s ks table number last complete d vs ms newest valued x formed kind =
+value-outcome top s ks table number last complete d vs ms newest unread valued x formed kind =
     go (columnsFit top x) (ltb (x .a) last) (allowed (schemaOf ks) (x .a) (bytesOf s x)) (twins s ks (ownerOf number) (x .a) (bytesOf s x) ms) refl refl refl refl
   where
     value-same : columnsFit top x ≡ true → step top (reading ks complete (some (withValues d vs))) (lineOf s x)
         ≡ refuseIf (ltb (x .a) last) 3 (refuseIf (not (allowed (schemaOf ks) (x .a) (bytesOf s x))) 4 (refuseIf (any (samePart (schemaOf ks) (broughtBy s x)) vs) 5
         (accept (reading ks complete (some (withValues d (vs ++ (broughtBy s x ∷ []))))))))
     value-same p =
-        step-value top (reading ks complete (some (withValues d vs))) (lineOf s x) (sym formed ∙ p) (λ q. omega arith) (λ q. omega arith)
-        ∙ (unfold valueLine in (rw newest))
+        step-value top (reading ks complete (some (withValues d vs))) (lineOf s x) (sym formed ∙ p) kind
+        ∙ (unfold valueLine in (rw (newest, unread, or-false (ltb (x .a) ((lastOr (part 0 []) vs) .type)))))
 
     go : (f falls al tw : Bool) → columnsFit top x ≡ f → ltb (x .a) last ≡ falls → allowed (schemaOf ks) (x .a) (bytesOf s x) ≡ al
         → twins s ks (ownerOf number) (x .a) (bytesOf s x) ms ≡ tw

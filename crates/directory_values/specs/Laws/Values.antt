@@ -67,7 +67,7 @@ module _ {f : Format} {s : Bytes} {ks table₀ before table held : List ℕ} {n�
     (b : Begun f s ks table₀ before n₀ e complete d ms₀) (g : ValuesRead f s ks table before held n found last from i to e complete d vs ms)
     {x : Line} (took : takenAt (f .width) s i ≡ Taken.Line x) (kind : x .kind ≡ 3) {r : Ruling} (is : r ≡ valueRuling (f .top) (e .number) last x s ks table ms) where
   outcome : ValueOutcome (f .top) s ks table (e .number) last complete d vs x (valueRuling (f .top) (e .number) last x s ks table ms)
-  outcome = value-outcome (f .top) s ks table (e .number) last complete d vs ms (g .newest) (g .valued) x (formed f s i took) kind
+  outcome = value-outcome (f .top) s ks table (e .number) last complete d vs ms (g .newest) (b .unread) (g .valued) x (formed f s i took) kind
 
   pub going-refused : (r .refusal ≡ 0 → ⊥) → (v : ValueLines) → v ≡ valuesRefused (r .refusal) → ValuesJudged f s ks table before held e complete d v
   going-refused z v only = record {

@@ -7,18 +7,17 @@ use lib.ListN.{length, getD, take, replicate, length-replicate, length-append}
 use lib.Seq.{take-append-seam, take-at, length-take-le}
 use Rattle.rules.specs.Sheet.{Bytes, Usable, print}
 use Rattle.rules.specs.declared.Format.{Format}
-use Rattle.rules.specs.Name.{Schema, Name}
+use Rattle.rules.specs.Name.{Schema}
 use Rattle.rules.specs.Judge.{Grammar, accept}
-use Rattle.rules.specs.Directory.{Stored, Directory, directoryOf, entries, entryOf, nameAt}
+use Rattle.rules.specs.Directory.{Stored, Directory, directoryOf, entries, aliases, entryOf}
 use Rattle.rules.specs.Permission.{Item}
 use Rattle.rules.specs.Decision.{Setting, Requester}
 use Rattle.rules.specs.Request.{Request}
-use Rattle.rules.specs.Answer.{answer, matchedName}
+use Rattle.rules.specs.Answer.{answerTo}
 use Rattle.rules.specs.Serve.{Ground, settingOf, fitting, respond}
-use Rattle.rules.specs.Places.{linesAt, partsOf, schemaOf}
+use Rattle.rules.specs.Places.{schemaOf}
 use Rattle.rules.specs.Laws.First.{Ranked}
-use Rattle.rules.specs.Numbers.{walk, reachOf}
-use Rattle.rules.specs.declared.Found.{Found}
+use Rattle.rules.specs.Numbers.{reachOf}
 use Rattle.request_sheet.specs.Noted as Requests
 use Rattle.request_sheet.specs.declared.Asked.{Asked}
 use Rattle.permission_sheet.specs.Noted.{Table}
@@ -42,23 +41,8 @@ use Rattle.access_items.specs.Laws.Rank.{length-orderOf, ranked-order}
 use Rattle.access_covers.specs.Noted.{rightsNoted}
 use Rattle.access_covers.specs.Sources.{Sources}
 use Rattle.access_covers.specs.Laws.Covers.{rights-size, rights-noted}
-use Rattle.answer_plan.specs.Sound.{Base}
+use Rattle.answer_plan.specs.Plan.{aliasesOf}
 use Rattle.engine.specs.Judges.{DirectoryAt}
-
--- ---- the name asked for
-
-module _ (σ : Setting) (es : List Stored) (w : ℕ) (q : Bytes) (n : Name) (place parts : ℕ) (noted : Requests.NotedName w q n place parts) where
-  -- all parts of the name stand there
-  pub name-whole : length (partsOf parts (linesAt w q place)) ≡ parts
-  name-whole = ap length (noted .parts) ∙ noted .count
-
-  pub base-of : (base : Found) (missing : ℕ) → base ≡ walk (σ .schema) es 0 (partsOf parts (linesAt w q place))
-      → nameAt es missing ≡ matchedName σ (map entryOf es) (partsOf parts (linesAt w q place)) (parts - 1) → missing ≤ length es → Base σ es n base missing
-  base-of base missing e m l = record {
-    walked = ap (λ (k : Name). walk (σ .schema) es 0 k) (sym (noted .parts)) ∙ sym e;
-    matched = m ∙ ap₂ (λ (k : Name) (j : ℕ). matchedName σ (map entryOf es) k (j - 1)) (noted .parts) (sym (noted .count));
-    within = l;
-  }
 
 -- ---- the schema
 
@@ -104,8 +88,8 @@ pub cut-count : (n : ℕ) (l : List ℕ) → n ≤ length l → length (take (n 
 cut-count n l h = let z : n - 0 ≡ n = omega arith in rw z (length-take-le n l h)
 
 pub respond-is : (f : Format) (w : ℕ) (g : Ground) (y : Request) (room : ℕ) → w ≡ f .width
-    → fitting room (print w (answer (settingOf (g .directory) (g .items) (y .requester)) (map entryOf (g .directory .entries)) (y .base) (y .operation))) ≡ respond f g y room
-unfolding respond entries
+    → fitting room (print w (answerTo (settingOf (g .directory) (g .items) (y .requester)) (map entryOf (g .directory .entries)) (aliasesOf (settingOf (g .directory) (g .items) (y .requester)) (g .directory .entries)) (y .base) (y .operation))) ≡ respond f g y room
+unfolding respond entries aliases
 respond-is f w g y room e = rw e
 
 -- ---- the tables

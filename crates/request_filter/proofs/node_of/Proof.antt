@@ -18,7 +18,7 @@ use Rattle.request_filter.proofs.node_of.Statement.{statement}
 use Rattle.request_filter.proofs.node_of.Tie as tie
 
 abbrev others : List ℕ
-others = 0 ∷ 1 ∷ 2 ∷ 3 ∷ 4 ∷ 5 ∷ 6 ∷ 7 ∷ 8 ∷ 9 ∷ 10 ∷ 11 ∷ 12 ∷ 13 ∷ 14 ∷ 15 ∷ 24 ∷ 25 ∷ 26 ∷ 27 ∷ 28 ∷ 29 ∷ 30 ∷ 31 ∷ []
+others = 0 ∷ 1 ∷ 2 ∷ 3 ∷ 4 ∷ 5 ∷ 6 ∷ 7 ∷ 8 ∷ 9 ∷ 10 ∷ 11 ∷ 12 ∷ 13 ∷ 14 ∷ 15 ∷ 24 ∷ 25 ∷ 26 ∷ 27 ∷ 28 ∷ 29 ∷ 30 ∷ 31 ∷ 32 ∷ []
 
 other : (c : tie.At-match-keys9) (n : ℕ) → T (not (hasKey others (tagOf the-type (kindOf n)))) → eqb (c .before .before .before .args .line .kind) n ≡ false
 other c n t = ne-eqb _ n (λ e. miss others (tagOf the-type (kindOf n)) t (subst (λ (x : Kind). OneOf others (tagOf the-type x)) (c .before .kind-of .ensures ∙ ap kindOf e) (c .match .keys9)))

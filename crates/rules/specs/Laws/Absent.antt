@@ -11,16 +11,17 @@ use lib.Dec.{eqb}
 use Rattle.rules.specs.Lists.{any, keep}
 use Rattle.rules.specs.Sheet.{Line}
 use Rattle.rules.specs.Name.{Schema, Name, sameName, covers, childOf}
-use Rattle.rules.specs.Directory.{Stored, blank, nameAt, Directory, Entry, entryOf, entries}
+use Rattle.rules.specs.Directory.{Stored, blank, nameAt, Directory, Entry, entryOf, entries, Alias}
 use Rattle.rules.specs.Decision.{Setting}
 use Rattle.rules.specs.Request.{Search, list, search}
 use Rattle.rules.specs.Arrange.{arranged}
 use Rattle.rules.specs.Answer.{listed, candidate, found, inSubset, disclosed, noSuchObject, returned, listHit, searchHit, listHits, searchHits, answer}
 use Rattle.rules.specs.Laws.Tests.{and-left}
 use Rattle.rules.specs.Laws.Lists.{any-at, any-none, any-weaken, keep-none}
-use Rattle.rules.specs.Laws.Name.{covers-snoc, same-covers}
+use Rattle.rules.specs.Laws.Name.{covers-snoc, same-covers, same-length}
 use Rattle.rules.specs.Laws.Arrange.{nothing-arranged}
-use Rattle.rules.specs.Laws.Directory.{Accepted}
+use Rattle.rules.specs.Laws.Each.{Each}
+use Rattle.rules.specs.Laws.Directory.{Shallow, Accepted}
 
 -- an entry has the name
 abbrev pub present′ : Schema → List Stored → Name → Bool
@@ -79,6 +80,16 @@ module _ (S : Schema) (es : List Stored) (ok : Accepted S es) where
           go (inl h) = root h
           go (inr h) = true≢false (sym h ∙ absent)
 
+-- nobody has a longer name than the deepest
+pub none-longer : (S : Schema) (es : List Stored) → Each Shallow es → (n : Name) → 8 < length n → present′ S es n ≡ false
+unfolding entryOf
+none-longer S [] k n l = refl
+none-longer S (x ∷ xs) k n l = go (sameName S n (x .name)) refl (none-longer S xs (k .1) n l)
+  where
+    go : (b : Bool) → sameName S n (x .name) ≡ b → present′ S xs n ≡ false → (b || present′ S xs n) ≡ false
+    go true e ih = absurd (omega (arith, same-length S n (x .name) e, k .0, l))
+    go false e ih = ih
+
 module _ (σ : Setting) (d : Directory) (e : σ .schema ≡ d .schema) (ok : Accepted (d .schema) (d .entries))
     (n : Name) (root : n ≡ [] → ⊥) (absent : present′ (σ .schema) (d .entries) n ≡ false) where
   below-none : any (λ x. covers (σ .schema) n (x .name)) (entries d) ≡ false
@@ -94,15 +105,15 @@ module _ (σ : Setting) (d : Directory) (e : σ .schema ≡ d .schema) (ok : Acc
   none-kept : (p : Entry → Bool) → ((x : Entry) → p x ≡ true → covers (σ .schema) n (x .name) ≡ true) → keep p (entries d) ≡ []
   none-kept p h = keep-none p (entries d) (any-weaken p (λ x. covers (σ .schema) n (x .name)) h (entries d) below-none)
 
-  pub list-absent : (limit : ℕ) → answer σ (entries d) n (list limit) ≡ noSuchObject σ (entries d) 3 n
+  pub list-absent : (as′ : List Alias) (limit : ℕ) → answer σ (entries d) as′ n (list limit) ≡ noSuchObject σ (entries d) 3 n
   unfolding answer listHits listed childOf
-  list-absent limit =
-      nothing-returned 3 limit _ (ap (map (listHit σ n))
+  list-absent as′ limit =
+      nothing-returned 3 limit _ (ap (map (listHit σ as′ n))
       (none-kept (listed σ n) (λ x r. and-left (covers (σ .schema) n (x .name)) _ (and-left (childOf (σ .schema) n (x .name)) _ r))))
 
-  pub search-absent : (r : Search) → answer σ (entries d) n (search r) ≡ noSuchObject σ (entries d) 4 n
+  pub search-absent : (as′ : List Alias) (r : Search) → answer σ (entries d) as′ n (search r) ≡ noSuchObject σ (entries d) 4 n
   unfolding answer searchHits found candidate
-  search-absent r =
+  search-absent as′ r =
       nothing-returned 4 (r .limit) _ (ap (λ (xs : List Entry). map (searchHit σ r) (arranged σ (r .ordering) xs))
       (none-kept (found σ n r) (λ x q. subset-covers σ (r .subset) n (x .name) (and-left (inSubset σ (r .subset) n (x .name)) _ (and-left (candidate σ n (r .subset) x) _ q))))
       ∙ ap (map (searchHit σ r)) (nothing-arranged σ (r .ordering)))

@@ -7,17 +7,19 @@ use mathlib.Core.List.{List, [], _∷_, _++_, map}
 use lib.Dec.{ltb, eqb}
 use lib.ListN.{length, take, drop}
 use Rattle.rules.specs.Lists.{given, gather, any, first, keep, isEmpty}
-use Rattle.rules.specs.Sheet.{Bytes, Line, line}
+use Rattle.rules.specs.Sheet.{Bytes, Line, line, bit}
 use Rattle.rules.specs.Name.{Name, allowed, equal, sameName}
-use Rattle.rules.specs.Directory.{Held, Entry}
+use Rattle.rules.specs.Judge.{nameLines}
+use Rattle.rules.specs.Directory.{Held, Entry, Alias}
 use Rattle.rules.specs.Permission.{Read, ReturnDN, DiscloseOnError, Compare}
 use Rattle.rules.specs.Decision.{Setting, granted, entry, ofType, ofValue}
 use Rattle.rules.specs.FilterItem.{holds, someValue}
 use Rattle.rules.specs.declared.Outcome.{Outcome}
-use Rattle.rules.specs.declared.Outcome.the-variants.{Result, NoSuchObject, InsufficientAccessRights, NoSuchAttributeOrValue, InvalidAttributeSyntax}
+use Rattle.rules.specs.declared.Outcome.the-variants.{Result, NoSuchObject, InsufficientAccessRights, NoSuchAttributeOrValue, InvalidAttributeSyntax, AliasProblem}
 use Rattle.rules.specs.Request.{Selection, Search, Operation, read, compare, list, search}
+use Rattle.rules.specs.Aliases.{resolved, aliased}
 use Rattle.rules.specs.Arrange.{arranged}
-use Rattle.rules.specs.Answer.{bit, outcomeNumber, outcome, nameLines, entryLines, valueLines, limited, selected, orName, typeLines, information, readEntry, compareEntry, listed, listHit, found, searchHit, disclosed, matchedName, noSuchObject, named, opened, returned, listHits, searchHits, answer}
+use Rattle.rules.specs.Answer.{operationNumber, outcomeNumber, outcome, entryLines, valueLines, limited, selected, orName, typeLines, information, readEntry, compareEntry, listed, listHit, found, searchHit, disclosed, matchedName, noSuchObject, named, opened, returned, listHits, searchHits, answer, answerResolved, answerTo}
 use Rattle.rules.specs.Laws.Each.{Each, IfFound, each-map, each-append, each-given, each-cond, each-take, each-drop, each-keep, each-first, each-mapped, each-gathered}
 use Rattle.rules.specs.Laws.Low.{Low}
 use Rattle.rules.specs.Laws.EntriesLow.{Short, PartLow, NameLow, HeldLow, EntryLow}
@@ -54,6 +56,7 @@ outcome-low op o p = (low 30 op (outcomeNumber o) 0 [] (omega arith) (omega arit
     number InsufficientAccessRights = omega arith
     number NoSuchAttributeOrValue = omega arith
     number InvalidAttributeSyntax = omega arith
+    number AliasProblem = omega arith
 
 name-low : (n : Name) → Each PartLow n → F (nameLines n)
 unfolding nameLines
@@ -125,12 +128,13 @@ module _ (σ : Setting) where
           each-append (Low 65536) (outcome 2 Result) (line 31 (bit same) 0 0 [] ∷ []) (outcome-low 2 Result (omega arith))
           (low 31 (bit same) 0 0 [] (omega arith) (bit-low same) (omega arith) (omega arith) (omega arith), tt)
 
-  list-hit-low : (n : Name) (e : Entry) → EntryLow e → F (listHit σ n e)
+  list-hit-low : (as′ : List Alias) (n : Name) (e : Entry) → EntryLow e → F (listHit σ as′ n e)
   unfolding listHit
-  list-hit-low n e k =
-      each-mapped (Low 65536) (λ p. line 32 (p .type) 0 0 (p .value)) (drop (length n) (e .name))
-      (each-map PartLow (λ p. Low 65536 (line 32 (p .type) 0 0 (p .value))) (λ p q. low 32 (p .type) 0 0 (p .value) (omega arith) (q .0) (omega arith) (omega arith) (q .1)) (drop (length n) (e .name))
-      (each-drop PartLow (length n) (e .name) (k .0 .1)))
+  list-hit-low as′ n e k =
+      let mark : Bool = aliased (σ .schema) as′ (e .name) in
+      each-mapped (Low 65536) (λ p. line 32 (p .type) 0 (bit mark) (p .value)) (drop (length n) (e .name))
+      (each-map PartLow (λ p. Low 65536 (line 32 (p .type) 0 (bit mark) (p .value))) (λ p q. low 32 (p .type) 0 (bit mark) (p .value) (omega arith) (q .0) (omega arith) (bit-low mark) (q .1))
+      (drop (length n) (e .name)) (each-drop PartLow (length n) (e .name) (k .0 .1)))
 
   search-hit-low : (r : Search) (e : Entry) → EntryLow e → F (searchHit σ r e)
   unfolding searchHit
@@ -168,11 +172,25 @@ module _ (σ : Setting) where
     hits-low : (hit : Entry → List Line) → ((e : Entry) → EntryLow e → F (hit e)) → (xs : List Entry) → Each EntryLow xs → Each F (map hit xs)
     hits-low hit h xs k = each-mapped F hit xs (each-map EntryLow (λ e. F (hit e)) h xs k)
 
-    pub answer-low : (n : Name) (o : Operation) → F (answer σ es n o)
+    answer-low : (as′ : List Alias) (n : Name) (o : Operation) → F (answer σ es as′ n o)
     unfolding answer named listHits searchHits
-    answer-low n (read r) = opened-low 1 Read n (readEntry σ r) (omega arith) (read-low r) (named σ es n) (each-first EntryLow (λ e. sameName (σ .schema) n (e .name)) es all)
-    answer-low n (compare t v) = opened-low 2 Read n (compareEntry σ t v) (omega arith) (λ e k. compare-low t v e) (named σ es n) (each-first EntryLow (λ e. sameName (σ .schema) n (e .name)) es all)
-    answer-low n (list limit) = returned-low 3 n limit (listHits σ es n) (omega arith) (hits-low (listHit σ n) (list-hit-low n) (keep (listed σ n) es) (each-keep EntryLow (listed σ n) es all))
-    answer-low n (search r) =
+    answer-low as′ n (read r) = opened-low 1 Read n (readEntry σ r) (omega arith) (read-low r) (named σ es n) (each-first EntryLow (λ e. sameName (σ .schema) n (e .name)) es all)
+    answer-low as′ n (compare t v) = opened-low 2 Read n (compareEntry σ t v) (omega arith) (λ e k. compare-low t v e) (named σ es n) (each-first EntryLow (λ e. sameName (σ .schema) n (e .name)) es all)
+    answer-low as′ n (list limit) = returned-low 3 n limit (listHits σ es as′ n) (omega arith) (hits-low (listHit σ as′ n) (list-hit-low as′ n) (keep (listed σ n) es) (each-keep EntryLow (listed σ n) es all))
+    answer-low as′ n (search r) =
         returned-low 4 n (r .limit) (searchHits σ es n r) (omega arith)
         (hits-low (searchHit σ r) (search-hit-low r) (arranged σ (r .ordering) (keep (found σ n r) es)) (each-arranged σ EntryLow (r .ordering) (keep (found σ n r) es) (each-keep EntryLow (found σ n r) es all)))
+
+    number-low : (o : Operation) → operationNumber o ≤ 4
+    number-low (read r) = omega arith
+    number-low (compare t v) = omega arith
+    number-low (list limit) = omega arith
+    number-low (search r) = omega arith
+
+    pub answer-to-low : (as′ : List Alias) (n : Name) (o : Operation) → F (answerTo σ es as′ n o)
+    unfolding answerTo
+    answer-to-low as′ n o = go (resolved (σ .schema) as′ n)
+      where
+        go : (m : Option Name) → F (answerResolved σ es as′ o m)
+        go none = outcome-low (operationNumber o) AliasProblem (number-low o)
+        go (some m) = answer-low as′ m o

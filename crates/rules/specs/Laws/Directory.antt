@@ -1,5 +1,5 @@
--- Laws of `Directory`: in an accepted directory parents stand before their children, siblings differ, and so a name names at most one entry; its
--- values are of their types' syntaxes.
+-- Laws of `Directory`: in an accepted directory parents stand before their children and are no aliases, siblings differ, and so a name names at most
+-- one entry; its values are of their types' syntaxes.
 use mathlib.Core.Path.{_≡_, refl, sym, ap, _∙_, subst}
 use Prim.Native.Nat.{ℕ, zero, suc, _+_, _≤_, _<_}
 use native.Mathlib.Nat.{not-suc-le-zero}
@@ -15,16 +15,23 @@ use borrow.Author.Tests.{eq-eqb}
 use Rattle.rules.specs.Lists.{isEmpty, optional}
 use Rattle.rules.specs.Sheet.{Bytes, Line, Sheet, end, broken, row, lines}
 use Rattle.rules.specs.declared.Format.{Format}
-use Rattle.rules.specs.Name.{Schema, part, Name, allowed, samePart, sameName}
+use Rattle.rules.specs.Name.{Schema, Part, part, Name, allowed, samePart, sameName}
 use Rattle.rules.specs.Judge.{accept}
 use Rattle.rules.specs.Directory
-use Rattle.rules.specs.Directory.{Stored, blank, nameAt, Reading, entriesOf, lacksNaming, clashes, step, finish, nothing, directoryOf, Entry, entryOf, entries}
+use Rattle.rules.specs.Directory.{Target, Stored, withValues, withTarget, blank, nameAt, Reading, entriesOf, clashes, isAlias, underAlias, withLast, step, finish, nothing, directoryOf, Entry, entryOf, entries}
 use Rattle.rules.specs.Laws.Tests.{both}
 use Rattle.rules.specs.Laws.Lists.{Once, none-at, once-by-index}
 use Rattle.rules.specs.Laws.Name.{samePart-sym, sameName-join, nil-snoc, snoc-nil, snoc-snoc}
-use Rattle.rules.specs.Laws.Judge.{accepted-is, not-refused, Run}
+use Rattle.rules.specs.Laws.Judge.{Run}
 use Rattle.rules.specs.Laws.Each.{Each, each-append}
-use Rattle.rules.specs.Laws.Step.{Taken, ofType, ofEntry, ofValue, step-taken, accepted-run}
+use Rattle.rules.specs.Laws.Step.{Taken, ofType, ofEntry, ofValue, ofTarget, ofPart, step-taken, finished, accepted-run}
+
+abbrev pub Shallow : Stored → Type 0
+Shallow e = length (e .name) ≤ 8
+
+-- the naming value is one that its type's syntax allows
+abbrev pub NamingAllowed : Schema → Stored → Type 0
+NamingAllowed S e = allowed S (e .naming .type) (e .naming .value) ≡ true
 
 -- each value is one that its type's syntax allows
 abbrev pub ValuesAllowed : Schema → Stored → Type 0
@@ -36,6 +43,9 @@ pub record Accepted (S : Schema) (es : List Stored) : Type 0 where
   pub names : (k : ℕ) → k < length es → getD es k blank .name ≡ nameAt es (getD es k blank .parent) ++ (getD es k blank .naming ∷ [])
   pub siblings : (i j : ℕ) → i < j → j < length es → getD es i blank .parent ≡ getD es j blank .parent
       → samePart S (getD es i blank .naming) (getD es j blank .naming) ≡ true → ⊥
+  pub childless : (k : ℕ) → k < length es → underAlias es (getD es k blank .parent) ≡ false
+  pub depths : Each Shallow es
+  pub namings : Each (NamingAllowed S) es
   pub values : Each (ValuesAllowed S) es
 
 -- ---- one entry more
@@ -45,6 +55,9 @@ record Fresh (S : Schema) (es : List Stored) (e : Stored) : Type 0 where
   parent : e .parent ≤ length es
   name : e .name ≡ nameAt es (e .parent) ++ (e .naming ∷ [])
   alone : clashes S es (e .parent) (e .naming) ≡ false
+  childless : underAlias es (e .parent) ≡ false
+  depth : Shallow e
+  naming : NamingAllowed S e
   values : ValuesAllowed S e
 
 none-accepted : (S : Schema) → Accepted S []
@@ -52,6 +65,9 @@ none-accepted S = record {
   parents = λ k l. absurd (not-suc-le-zero l);
   names = λ k l. absurd (not-suc-le-zero l);
   siblings = λ i j l b e s. not-suc-le-zero b;
+  childless = λ k l. absurd (not-suc-le-zero l);
+  depths = tt;
+  namings = tt;
   values = tt;
 }
 
@@ -59,6 +75,11 @@ nameAt-front : (es fs : List Stored) (k : ℕ) → k ≤ length es → nameAt (e
 unfolding nameAt
 nameAt-front es fs zero l = refl
 nameAt-front es fs (suc k) l = ap (λ (e : Stored). e .name) (List·getD-append es fs blank k l)
+
+underAlias-front : (es fs : List Stored) (k : ℕ) → k ≤ length es → underAlias (es ++ fs) k ≡ underAlias es k
+unfolding underAlias
+underAlias-front es fs zero l = refl
+underAlias-front es fs (suc k) l = ap (λ (e : Stored). isAlias (e .target)) (List·getD-append es fs blank k l)
 
 module _ (S : Schema) (es : List Stored) (e : Stored) (ok : Accepted S es) (fresh : Fresh S es e) where
   all′ : List Stored
@@ -103,8 +124,23 @@ module _ (S : Schema) (es : List Stored) (e : Stored) (ok : Accepted S es) (fres
           none-at (λ r. eqb (r .parent) (e .parent) && samePart S (r .naming) (e .naming)) blank es (fresh .alone) i k
           (both _ _ (eq-eqb (getD es i blank .parent) (e .parent) p′) s′)
 
+  childless′ : (k : ℕ) → k < length (es ++ (e ∷ [])) → underAlias (es ++ (e ∷ [])) (getD (es ++ (e ∷ [])) k blank .parent) ≡ false
+  childless′ k l = go (decLt k (length es))
+    where
+      go : Dec (k < length es) → underAlias (es ++ (e ∷ [])) (getD (es ++ (e ∷ [])) k blank .parent) ≡ false
+      go (yes h) = let b : getD es k blank .parent ≤ k = ok .parents k h in rw (early k h, underAlias-front es (e ∷ []) (getD es k blank .parent) (omega arith)) (ok .childless k h)
+      go (no h) = rw (late k (place k l (no h) h), underAlias-front es (e ∷ []) (e .parent) (fresh .parent)) (fresh .childless)
+
   accepted-more : Accepted S (es ++ (e ∷ []))
-  accepted-more = record { parents = parents′; names = names′; siblings = siblings′; values = each-append (ValuesAllowed S) es (e ∷ []) (ok .values) (fresh .values, tt) }
+  accepted-more = record {
+    parents = parents′;
+    names = names′;
+    siblings = siblings′;
+    childless = childless′;
+    depths = each-append Shallow es (e ∷ []) (ok .depths) (fresh .depth, tt);
+    namings = each-append (NamingAllowed S) es (e ∷ []) (ok .namings) (fresh .naming, tt);
+    values = each-append (ValuesAllowed S) es (e ∷ []) (ok .values) (fresh .values, tt);
+  }
 
 -- ---- the state of the judge
 
@@ -124,6 +160,16 @@ sound-all st ok = go (st .current) (ok .last)
     go none f = subst (λ (es : List Stored). Accepted (st .schema) es) (sym (append-nil (st .complete))) (ok .before)
     go (some e) f = accepted-more (st .schema) (st .complete) e (ok .before) f
 
+-- the last entry `e` with the values `vs`, and a target
+with-last : (st : Reading) → SoundReading st → (e : Stored) → st .current ≡ some e → (vs : List Part) (t : Target)
+    → (ValuesAllowed (st .schema) e → Each (λ p. allowed (st .schema) (p .type) (p .value) ≡ true) vs) → SoundReading (withLast st (withTarget (withValues e vs) t))
+with-last st ok e is vs t h =
+    let l : FreshLast (st .schema) (st .complete) (some e) = subst (FreshLast (st .schema) (st .complete)) is (ok .last) in
+    record {
+      before = ok .before;
+      last = record { parent = l .parent; name = l .name; alone = l .alone; childless = l .childless; depth = l .depth; naming = l .naming; values = h (l .values) };
+    }
+
 step-sound : (st : Reading) (x : Line) (next : Reading) (top : ℕ) → SoundReading st → Taken st x next top → SoundReading next
 unfolding entriesOf
 step-sound st x next top ok (ofType f t) = subst SoundReading (t .is) (go (st .complete) (st .current) (t .first))
@@ -134,23 +180,16 @@ step-sound st x next top ok (ofType f t) = subst SoundReading (t .is) (go (st .c
     go [] (some c) h = absurd (true≢false h)
     go (c ∷ cs) o h = absurd (true≢false h)
 step-sound st x next top ok (ofEntry f t) =
-    subst SoundReading (t .is) (record { before = sound-all st ok; last = record { parent = t .parent; name = refl; alone = t .alone; values = tt } })
+    subst SoundReading (t .is)
+    (record { before = sound-all st ok; last = record { parent = t .parent; name = refl; alone = t .alone; childless = t .childless; depth = t .depth; naming = t .allowed; values = tt } })
 step-sound st x next top ok (ofValue f t) =
-    let l : FreshLast (st .schema) (st .complete) (some (t .last)) = subst (FreshLast (st .schema) (st .complete)) (t .current) (ok .last) in
-    subst SoundReading (t .is) (record {
-      before = ok .before;
-      last = record {
-        parent = l .parent;
-        name = l .name;
-        alone = l .alone;
-        values = each-append (λ p. allowed (st .schema) (p .type) (p .value) ≡ true) (t .last .values) (part (x .a) (x .bytes) ∷ []) (l .values) (t .allowed, tt);
-      };
-    })
+    let P : Part → Type 0 = λ p. allowed (st .schema) (p .type) (p .value) ≡ true in
+    subst SoundReading (t .is) (with-last st ok (t .last) (t .current) _ _ (λ k. each-append P (t .last .values) (part (x .a) (x .bytes) ∷ []) k (t .allowed, tt)))
+step-sound st x next top ok (ofTarget f t) = subst SoundReading (t .is) (with-last st ok (t .last) (t .current) (t .last .values) _ (λ k. k))
+step-sound st x next top ok (ofPart f t) = subst SoundReading (t .is) (with-last st ok (t .last) (t .current) (t .last .values) _ (λ k. k))
 
 run-sound : (top : ℕ) (s : Sheet) (st : Reading) (d : Directory.Directory) → SoundReading st → Run (step top) finish st s d → Accepted (d .schema) (d .entries)
-unfolding finish
-run-sound top end st d ok r =
-    subst (λ (x : Directory.Directory). Accepted (x .schema) (x .entries)) (accepted-is ((not-refused (lacksNaming (st .schema) (st .current)) 6 _ d r) .1)) (sound-all st ok)
+run-sound top end st d ok r = subst (λ (x : Directory.Directory). Accepted (x .schema) (x .entries)) (finished st d r .1) (sound-all st ok)
 run-sound top broken st d ok r = absurd r
 run-sound top (row x rest) st d ok (next, e, r) = run-sound top rest next d (step-sound st x next top ok (step-taken st x next top e)) r
 

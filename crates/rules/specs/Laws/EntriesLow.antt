@@ -11,10 +11,10 @@ use Rattle.rules.specs.Sheet.{Bytes, Line, line, lineBytes, print}
 use Rattle.rules.specs.declared.Format.{Format}
 use Rattle.rules.specs.Name.{Part, Name}
 use Rattle.rules.specs.Judge.{accept}
-use Rattle.rules.specs.Directory.{Stored, blank, nameAt, Directory, directoryOf, schemaLines, storedLines, directoryLines, Held, hold, heldOf, Entry, entryOf, entries}
+use Rattle.rules.specs.Directory.{Stored, blank, nameAt, Directory, directoryOf, schemaLines, targetLines, storedLines, directoryLines, Held, hold, heldOf, Entry, entryOf, entries}
 use Rattle.rules.specs.Laws.Judge.{not-refused}
 use Rattle.rules.specs.Laws.Sheet.{line-length}
-use Rattle.rules.specs.Laws.Each.{Each, each-map, each-append, each-after, each-cond, each-at, each-by-index, mapped-each, gathered-each}
+use Rattle.rules.specs.Laws.Each.{Each, each-map, each-append, each-before, each-after, each-cond, each-at, each-by-index, mapped-each, gathered-each}
 use Rattle.rules.specs.Laws.Directory.{accepted-means}
 use Rattle.rules.specs.Laws.DirectoryLines.{accepted-back}
 use Rattle.rules.specs.Laws.Low.{Low, low-more, accepted-types, accepted-low}
@@ -64,12 +64,16 @@ stored-low : (e : Stored) → Each (Low 65536) (storedLines e) → PartsLow e
 unfolding storedLines
 stored-low e k = (
   (k .0 .b, k .0 .short),
-  each-map (λ v. Low 65536 (line 3 (v .type) 0 0 (v .value))) PartLow (λ v l. (l .a, l .short)) (e .values) (mapped-each (Low 65536) (λ v. line 3 (v .type) 0 0 (v .value)) (e .values) (k .1)),
+  each-map (λ v. Low 65536 (line 3 (v .type) 0 0 (v .value))) PartLow (λ v l. (l .a, l .short)) (e .values)
+      (mapped-each (Low 65536) (λ v. line 3 (v .type) 0 0 (v .value)) (e .values) (each-before (Low 65536) (map (λ v. line 3 (v .type) 0 0 (v .value)) (e .values)) (targetLines (e .target)) (k .1))),
 )
 
 stored-count : (e : Stored) → length (e .values) < length (storedLines e)
 unfolding storedLines
-stored-count e = let q : length (map (λ v. line 3 (v .type) 0 0 (v .value)) (e .values)) ≡ length (e .values) = length-map (e .values) (λ v. line 3 (v .type) 0 0 (v .value)) in omega (arith, q)
+stored-count e =
+    let values : List Line = map (λ v. line 3 (v .type) 0 0 (v .value)) (e .values) in
+    let q : length values ≡ length (e .values) = length-map (e .values) (λ v. line 3 (v .type) 0 0 (v .value)) in
+    omega (arith, q, length-append values (targetLines (e .target)))
 
 gathered-count : (e : Stored) (es : List Stored) → length (gather storedLines (e ∷ es)) ≡ length (storedLines e) + length (gather storedLines es)
 gathered-count e es = length-append (storedLines e) (gather storedLines es)

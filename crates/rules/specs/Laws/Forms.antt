@@ -39,7 +39,7 @@ module _ (x : Line) (top high : ℕ) (p : typeOf x ≤ top) (q : typeOf x ≤ hi
 
   pub directory-forms : inForm (directoryForms top) x ≡ inForm (directoryForms high) x
   unfolding inForm directoryForms
-  directory-forms = rw (in-a 1 (between 0 2) unnamed unnamed refl, in-b 2 free unnamed bytes refl, in-a 3 unnamed unnamed bytes refl)
+  directory-forms = rw (in-a 1 (between 0 2) unnamed unnamed refl, in-b 2 free (between 0 1) bytes refl, in-a 3 unnamed unnamed bytes refl, in-a 9 unnamed unnamed bytes refl)
 
   pub permission-forms : inForm (permissionForms top) x ≡ inForm (permissionForms high) x
   unfolding inForm permissionForms

@@ -1,32 +1,26 @@
 -- List and search by entry numbers: which entries are returned, and what is returned of a child.
-use mathlib.Core.Path.{_≡_, refl, sym, ap, _∙_}
-use Prim.Native.Nat.{ℕ, zero, suc, _≤_, _<_}
+use mathlib.Core.Path.{_≡_, sym, ap, _∙_}
+use Prim.Native.Nat.{ℕ, suc, _≤_, _<_}
 use native.Mathlib.Omega.{arith}
-use mathlib.Core.Bool.{Bool, true, false, _&&_, _||_, cond, false≢true}
+use mathlib.Core.Bool.{Bool, true, _&&_, _||_, cond}
 use mathlib.Core.List.{List, [], _∷_, map}
 use lib.ListN.{length, getD, drop}
 use lib.Seq.{drop-at}
 use lib.Dec.{eqb}
 use borrow.Author.Tests.{eqb-true}
-use Rattle.rules.specs.Sheet.{line}
-use Rattle.rules.specs.Name.{Schema, Name, samePart, sameName, covers, childOf}
-use Rattle.rules.specs.Directory.{Stored, blank, nameAt, entryOf}
+use Rattle.rules.specs.Sheet.{line, bit}
+use Rattle.rules.specs.Name.{Name, sameName, covers, childOf}
+use Rattle.rules.specs.Directory.{Stored, blank, nameAt, entryOf, Alias}
 use Rattle.rules.specs.Permission.{Read, Browse, ReturnDN}
 use Rattle.rules.specs.Decision.{Setting, entry, granted}
+use Rattle.rules.specs.Aliases.{aliased}
 use Rattle.rules.specs.Answer.{listed, listHit, inSubset, candidate}
 use Rattle.rules.specs.Numbers.{walk, climbs, withinNumber}
-use Rattle.rules.specs.Laws.Tests.{and-right}
+use Rattle.rules.specs.Laws.Name.{same-length}
 use Rattle.rules.specs.Laws.Directory.{Accepted}
 use Rattle.rules.specs.Laws.Resolve.{base-found}
 use Rattle.rules.specs.declared.Found.the-variants.{At}
 use Rattle.rules.specs.Laws.ByNumber.{named-is, child-by-number, below-by-number}
-
-same-length : (S : Schema) (a b : Name) → sameName S a b ≡ true → length a ≡ length b
-unfolding sameName
-same-length S [] [] e = refl
-same-length S [] (y ∷ ys) e = absurd (false≢true e)
-same-length S (x ∷ xs) [] e = absurd (false≢true e)
-same-length S (x ∷ xs) (y ∷ ys) e = ap suc (same-length S xs ys (and-right (samePart S x y) _ e))
 
 module _ (σ : Setting) (es : List Stored) (ok : Accepted (σ .schema) es) (n : Name) (b : ℕ) (walked : walk (σ .schema) es 0 n ≡ At b) (k : ℕ) (l : k < length es) where
   base : (b ≤ length es) × (sameName (σ .schema) n (nameAt es b) ≡ true)
@@ -60,11 +54,12 @@ module _ (σ : Setting) (es : List Stored) (ok : Accepted (σ .schema) es) (n : 
       λ i. within-number s i && ((granted σ (getD es k blank .name) entry Browse || same-number i && granted σ (getD es k blank .name) entry Read) && granted σ (getD es k blank .name) entry ReturnDN)
 
   -- what is returned of a child: its naming part
-  pub child-hit : eqb (getD es k blank .parent) b ≡ true
-      → listHit σ n (entryOf (getD es k blank)) ≡ line 32 (getD es k blank .naming .type) 0 0 (getD es k blank .naming .value) ∷ []
+  pub child-hit : (as′ : List Alias) → eqb (getD es k blank .parent) b ≡ true
+      → listHit σ as′ n (entryOf (getD es k blank))
+      ≡ line 32 (getD es k blank .naming .type) 0 (bit (aliased (σ .schema) as′ (getD es k blank .name))) (getD es k blank .naming .value) ∷ []
   unfolding listHit entryOf
-  child-hit e =
-      ap (λ (m : Name). map (λ p. line 32 (p .type) 0 0 (p .value)) m)
+  child-hit as′ e =
+      ap (λ (m : Name). map (λ p. line 32 (p .type) 0 (bit (aliased (σ .schema) as′ (getD es k blank .name))) (p .value)) m)
       (ap (drop (length n)) (ok .names k l)
       ∙ drop-at (nameAt es (getD es k blank .parent)) (getD es k blank .naming ∷ []) (length n)
       (ap (λ (j : ℕ). length (nameAt es j)) (eqb-true (getD es k blank .parent) b e) ∙ sym (same-length (σ .schema) n (nameAt es b) (base .1))))

@@ -14,14 +14,15 @@ use Rattle.rules.specs.Value.{fits}
 use Rattle.rules.specs.Name.{AttributeType, Schema, bySyntax, ofSyntax, allowed}
 use Rattle.rules.specs.Judge.{accept}
 use Rattle.rules.specs.Directory
-use Rattle.rules.specs.Directory.{Reading, lacksNaming, step, finish, nothing, directoryOf, directoryLines}
+use Rattle.rules.specs.Directory.{Reading, step, finish, nothing, directoryOf, directoryLines}
 use Rattle.rules.specs.Move.{beyond}
 use Rattle.rules.specs.Theorems.{typeOf}
 use Rattle.rules.specs.Laws.Tests.{or-none}
 use Rattle.rules.specs.Laws.Each.{Each, each-map}
-use Rattle.rules.specs.Laws.Judge.{accepted-is, not-refused, Run}
+use Rattle.rules.specs.Laws.Judge.{Run}
 use Rattle.rules.specs.Laws.Sheet.{FitsColumns, AllFit, AllRows, rows-each}
-use Rattle.rules.specs.Laws.Step.{Taken, ofType, ofEntry, ofValue, step-taken, accepted-run}
+use Rattle.rules.specs.Laws.Columns.{PairLine}
+use Rattle.rules.specs.Laws.Step.{Taken, ofType, ofEntry, ofValue, ofTarget, ofPart, step-taken, finished, accepted-run}
 use Rattle.rules.specs.Laws.DirectoryLines.{accepted-lines}
 
 -- each number is at most `m`, and there are at most 64 bytes
@@ -85,8 +86,7 @@ allowed-low m (k ∷ S) t v h e =
 module _ (top : ℕ) (d : Directory.Directory) where
   -- no type is above the form's highest
   run-types : (s : Sheet) (st : Reading) → Run (step top) finish st s d → beyond top (st .schema) ≡ false → beyond top (d .schema) ≡ false
-  unfolding finish
-  run-types end st r h = subst (λ (c : Directory.Directory). beyond top (c .schema) ≡ false) (accepted-is (not-refused (lacksNaming (st .schema) (st .current)) 6 _ d r .1)) h
+  run-types end st r h = subst (λ (c : Directory.Directory). beyond top (c .schema) ≡ false) (finished st d r .1) h
   run-types broken st r h = absurd r
   run-types (row x rest) st (next, e, r) h = run-types rest next r (go (step-taken st x next top e))
     where
@@ -95,10 +95,16 @@ module _ (top : ℕ) (d : Directory.Directory) where
           subst (λ (n : Reading). beyond top (n .schema) ≡ false) (t .is) (beyond-more top (st .schema) (record { number = x .a; syntax = x .b }) ∙ rw (h, le-ltb top (x .a) (f .type)))
       go (ofEntry f t) = subst (λ (n : Reading). beyond top (n .schema) ≡ false) (t .is) h
       go (ofValue f t) = subst (λ (n : Reading). beyond top (n .schema) ≡ false) (t .is) h
+      go (ofTarget f t) = subst (λ (n : Reading). beyond top (n .schema) ≡ false) (t .is) h
+      go (ofPart f t) = subst (λ (n : Reading). beyond top (n .schema) ≡ false) (t .is) h
 
   module _ (m : ℕ) (some : 256 ≤ m) where
     abbrev Below : Reading → Type 0
     Below st = beyond m (st .schema) ≡ false
+
+    pair-low : (st : Reading) (x : Line) (k : ℕ) → PairLine k x → k ≤ m → Below st → allowed (st .schema) (x .a) (x .bytes) ≡ true → Low m x
+    pair-low st x k f l b a =
+        record { kind = omega (arith, f .kind, l); a = allowed-low m (st .schema) (x .a) (x .bytes) b a; b = omega (arith, f .b); c = omega (arith, f .c); short = f .short }
 
     step-low : (st : Reading) (x : Line) (next : Reading) → Taken st x next top → Below next → Low m x × Below st
     step-low st x next (ofType f t) h =
@@ -106,14 +112,18 @@ module _ (top : ℕ) (d : Directory.Directory) where
         (record { kind = omega (arith, f .kind); a = ltb-false m (x .a) (b .1); b = omega (arith, f .syntax); c = omega (arith, f .c); short = omega (arith, f .none) }, b .0)
     step-low st x next (ofEntry f t) h =
         let b : Below st = subst Below (sym (t .is)) h in
-        (record { kind = omega (arith, f .kind); a = omega (arith, t .parent, t .room); b = allowed-low m (st .schema) (x .b) (x .bytes) b (t .allowed); c = omega (arith, f .c); short = f .short }, b)
+        (record { kind = omega (arith, f .kind); a = omega (arith, t .parent, t .room); b = allowed-low m (st .schema) (x .b) (x .bytes) b (t .allowed); c = omega (arith, f .mark); short = f .short }, b)
     step-low st x next (ofValue f t) h =
         let b : Below st = subst Below (sym (t .is)) h in
-        (record { kind = omega (arith, f .kind); a = allowed-low m (st .schema) (x .a) (x .bytes) b (t .allowed); b = omega (arith, f .b); c = omega (arith, f .c); short = f .short }, b)
+        (pair-low st x 3 f (omega arith) b (t .allowed), b)
+    step-low st x next (ofTarget f t) h =
+        (record { kind = omega (arith, f .kind); a = omega (arith, f .a); b = omega (arith, f .few); c = omega (arith, f .c); short = omega (arith, f .none) }, subst Below (sym (t .is)) h)
+    step-low st x next (ofPart f t) h =
+        let b : Below st = subst Below (sym (t .is)) h in
+        (pair-low st x 9 f (omega arith) b (t .allowed), b)
 
     run-low : (s : Sheet) (st : Reading) → Run (step top) finish st s d → beyond m (d .schema) ≡ false → AllRows (Low m) s × Below st
-    unfolding finish
-    run-low end st r h = (tt, subst (λ (c : Directory.Directory). beyond m (c .schema) ≡ false) (sym (accepted-is (not-refused (lacksNaming (st .schema) (st .current)) 6 _ d r .1))) h)
+    run-low end st r h = (tt, subst (λ (c : Directory.Directory). beyond m (c .schema) ≡ false) (sym (finished st d r .1)) h)
     run-low broken st r h = absurd r
     run-low (row x rest) st (next, e, r) h =
         let k = run-low rest next r h in

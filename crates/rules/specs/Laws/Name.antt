@@ -10,7 +10,7 @@ use borrow.Author.Tests.{eqb-true}
 use Rattle.rules.specs.Lists.{first}
 use Rattle.rules.specs.Sheet.{Bytes}
 use Rattle.rules.specs.Value.{fits, same}
-use Rattle.rules.specs.Name.{AttributeType, Schema, bySyntax, ofSyntax, equal, Part, Name, samePart, sameName, covers, childOf}
+use Rattle.rules.specs.Name.{AttributeType, Schema, bySyntax, ofSyntax, allowed, equal, Part, Name, samePart, sameName, covers, childOf}
 use Rattle.rules.specs.Laws.Tests.{and-left, and-right, both, eqb-same}
 use Rattle.rules.specs.Laws.Value.{same-self, same-sym, same-trans}
 
@@ -50,7 +50,7 @@ module _ (S : Schema) where
 
   -- ---- parts and names
 
-  samePart-join : (c a b : Part) → samePart S c a ≡ true → samePart S c b ≡ true → samePart S a b ≡ true
+  pub samePart-join : (c a b : Part) → samePart S c a ≡ true → samePart S c b ≡ true → samePart S a b ≡ true
   unfolding samePart
   samePart-join c a b e h =
       let t : c .type ≡ a .type = eqb-true _ _ (and-left _ _ e) in
@@ -63,6 +63,15 @@ module _ (S : Schema) where
   samePart-self : (a b : Part) → samePart S a b ≡ true → samePart S a a ≡ true
   unfolding samePart
   samePart-self a b e = both (eqb (a .type) (a .type)) _ (eqb-same (a .type)) (equal-self (a .type) (a .value) (b .value) (and-right (eqb (a .type) (b .type)) _ e))
+
+  -- what the schema allows is equal to itself
+  pub part-self : (p : Part) → allowed S (p .type) (p .value) ≡ true → samePart S p p ≡ true
+  unfolding samePart equal allowed ofSyntax
+  part-self p e = both (eqb (p .type) (p .type)) _ (eqb-same (p .type)) (self (first (λ k. eqb (k .number) (p .type)) S) e)
+    where
+      self : (o : Option AttributeType) → bySyntax (λ s. fits s (p .value)) o ≡ true → bySyntax (λ s. fits s (p .value) && (fits s (p .value) && same s (p .value) (p .value))) o ≡ true
+      self none e = e
+      self (some k) e = both (fits (k .syntax) (p .value)) _ e (both (fits (k .syntax) (p .value)) _ e (same-self (k .syntax) (p .value)))
 
   pub samePart-sym : (a b : Part) → samePart S a b ≡ true → samePart S b a ≡ true
   samePart-sym a b e = samePart-join a b a e (samePart-self a b e)
@@ -155,3 +164,10 @@ module _ (S : Schema) where
   same-covers [] m e = refl
   same-covers (c ∷ cs) [] e = e
   same-covers (c ∷ cs) (x ∷ xs) e = both (samePart S c x) _ (and-left (samePart S c x) _ e) (same-covers cs xs (and-right (samePart S c x) _ e))
+
+  pub same-length : (a b : Name) → sameName S a b ≡ true → length a ≡ length b
+  unfolding sameName
+  same-length [] [] e = refl
+  same-length [] (y ∷ ys) e = absurd (false≢true e)
+  same-length (x ∷ xs) [] e = absurd (false≢true e)
+  same-length (x ∷ xs) (y ∷ ys) e = ap suc (same-length xs ys (and-right (samePart S x y) _ e))

@@ -10,7 +10,7 @@ use Rattle.rules.specs.Columns.{Form, inForm, directoryForms, permission
 use Rattle.rules.specs.Value.{Piece}
 use Rattle.rules.specs.Name.{Schema}
 use Rattle.rules.specs.Judge.{Verdict, refuse, refuseIf, then, fold, Grammar, misplaced, atEnd, due, dueLines, follows}
-use Rattle.rules.specs.Directory.{Reading, typeLine, entryLine, valueLine, step, finish}
+use Rattle.rules.specs.Directory.{Reading, typeLine, entryLine, valueLine, targetLine, partLine, ofLast, step, finish}
 use Rattle.rules.specs.Permission.{Item, soundItem, item, items}
 use Rattle.rules.specs.declared.Edition.{Edition}
 use Rattle.rules.specs.Filter.{Filter, and, or, not′, Filters, none, more}
@@ -37,7 +37,13 @@ module _ (top high : ℕ) where
   step-same : (st : Reading) (x : Line) → Same (directoryForms top) (directoryForms high) x → step top st x ≡ step high st x
   unfolding step
   step-same st x same =
-      ap (λ (b : Bool). refuseIf (not b) 2 (cond (eqb (x .kind) 1) (typeLine st x) (cond (eqb (x .kind) 2) (entryLine st x) (valueLine st (st .current) x)))) same
+      ap (λ (b : Bool).
+      refuseIf (not b) 2
+      (cond (eqb (x .kind) 1) (typeLine st x)
+      (cond (eqb (x .kind) 2) (entryLine st x)
+      (cond (eqb (x .kind) 3) (valueLine st (st .current) x)
+      (cond (eqb (x .kind) 36) (ofLast (targetLine st) (st .current) x)
+      (ofLast (partLine st) (st .current) x)))))) same
 
   pub fold-same : (s : Sheet) (st : Reading) → AllRows (Same (directoryForms top) (directoryForms high)) s → fold (step top) finish 2 st s ≡ fold (step high) finish 2 st s
   unfolding fold

@@ -11,12 +11,14 @@ use Rattle.rules.specs.Lists.{keep}
 use Rattle.rules.specs.Directory.{Directory, directoryOf, directoryLines, blank, entryOf, entries}
 use Rattle.rules.specs.Move.{beyond, spills, moved}
 use Rattle.rules.specs.Serve.{settingOf}
-use Rattle.rules.specs.Theorems.{PrintedBack, RoundTrip, MovedAccepted, BackAgain, FormsAlike, Permuted, InOrder, Stable, SmallestKey}
+use Rattle.rules.specs.Theorems.{PrintedBack, RoundTrip, MovedAccepted, BackAgain, FormsAlike, ResolvedAlike, LongAbsent, Permuted, InOrder, Stable, SmallestKey}
 use Rattle.rules.specs.Laws.DirectoryLines.{accepted-back}
 use Rattle.rules.specs.Laws.Move.{move-accepted, there-and-back, moved-back}
 use Rattle.rules.specs.Laws.FormsAlike.{served-alike}
 use Rattle.rules.specs.Laws.Each.{each-keep, each-at, mapped-each}
 use Rattle.rules.specs.Laws.Directory.{accepted-means}
+use Rattle.rules.specs.Laws.Absent.{none-longer}
+use Rattle.rules.specs.Laws.Aliases.{replaced-alike}
 use Rattle.rules.specs.Laws.Allowed.{EntryAllowed, entries-allowed}
 use Rattle.rules.specs.Laws.Arrange.{arranged-permuted, key-stable, key-ordered, key-least}
 
@@ -34,6 +36,13 @@ back-again = (moved-back narrow (omega arith) 8 9999999 (omega arith) (omega ari
 
 pub forms-alike : FormsAlike
 forms-alike = served-alike
+
+pub resolved-alike : ResolvedAlike
+resolved-alike = replaced-alike
+
+pub long-absent : LongAbsent
+unfolding entries
+long-absent f s d e n l = none-longer (d .schema) (d .entries) (accepted-means f s d e .depths) n l
 
 pub permuted : Permuted
 permuted = arranged-permuted

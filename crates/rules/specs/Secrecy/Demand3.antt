@@ -1,27 +1,31 @@
--- Demand 3, entire, over sheets of bytes: two accepted directories of one schema that are alike in all that a requester is shown under one
--- permission sheet give that requester, for every request and buffer length, the same outcome, bytes, incompleteness mark and refusal.
+-- Demand 3, entire, over sheets of bytes: two accepted directories of one schema, with the same aliases, that are alike in all that a requester is
+-- shown under one permission sheet give that requester, for every request and buffer length, the same outcome, bytes, incompleteness mark and refusal.
 use mathlib.Core.Path.{_≡_, refl, sym, ap, _∙_, subst}
 use Prim.Native.Nat.{ℕ}
 use mathlib.Core.Bool.{Bool, true, false, _||_}
-use mathlib.Core.List.{List, [], _∷_}
+use mathlib.Core.Option.{Option, none, some}
+use mathlib.Core.List.{List, [], _∷_, map}
+use lib.ListN.{length, drop}
 use lib.Dec.{eqb}
 use borrow.Author.Tests.{eqb-true}
-use Rattle.rules.specs.Lists.{any}
-use Rattle.rules.specs.Sheet.{Bytes, Line, print}
+use Rattle.rules.specs.Lists.{any, keep}
+use Rattle.rules.specs.Sheet.{Bytes, Line, line, bit, print}
 use Rattle.rules.specs.declared.Format.{Format}
 use Rattle.rules.specs.Name.{Schema, Name}
 use Rattle.rules.specs.Judge.{Verdict, accept, refuse, refuseIf, then}
-use Rattle.rules.specs.Directory.{Directory, entries}
+use Rattle.rules.specs.Directory.{Directory, directoryOf, Entry, entries, Alias, aliases}
 use Rattle.rules.specs.Permission.{Item, permissionsOf, Read, ReturnDN, DiscloseOnError, Compare, FilterMatch}
 use Rattle.rules.specs.Decision.{Setting, Requester, entry, ofType, ofValue, granted}
 use Rattle.rules.specs.Request.{Operation, read, compare, list, search, Request, requestOf}
-use Rattle.rules.specs.Answer.{answer}
+use Rattle.rules.specs.Aliases.{resolved, aliased}
+use Rattle.rules.specs.Answer.{listed, listHit, returned, listHits, answer, answerResolved, answerTo}
 use Rattle.rules.specs.Serve.{settingOf, Ground, ground, exchange, above, tighter, capped, within, fitting, respond, judgedAt, serveAt}
 use Rattle.rules.specs.declared.Limits.{Limits}
-use Rattle.rules.specs.Shown.{ofEntries, ofTypes, ofValues, sight, shown, Alike}
+use Rattle.rules.specs.Shown.{ofEntries, ofTypes, ofValues, sight, shown, SameAliases, Alike}
 use Rattle.rules.specs.Laws.Tests.{or-right}
 use Rattle.rules.specs.Laws.Judge.{then-cong}
 use Rattle.rules.specs.Laws.Directory.{Accepted, accepted-means, once-named}
+use Rattle.rules.specs.Laws.Aliases.{aliased-alike, replaced-alike}
 use Rattle.rules.specs.Secrecy.FromShown.{Enough, answer-shown}
 
 -- one of the permissions is granted
@@ -50,20 +54,40 @@ sight-enough σ = record {
 }
 
 -- an accepted directory's answer, from what is shown of it
-answer-from-shown : (σ : Setting) (d : Directory) → σ .schema ≡ d .schema → Accepted (d .schema) (d .entries) → (n : Name) (o : Operation)
-    → answer σ (entries d) n o ≡ answer σ (shown σ d) n o
+answer-from-shown : (σ : Setting) (d : Directory) → σ .schema ≡ d .schema → Accepted (d .schema) (d .entries) → (as′ : List Alias) (n : Name) (o : Operation)
+    → answer σ (entries d) as′ n o ≡ answer σ (shown σ d) as′ n o
 unfolding shown entries
-answer-from-shown σ d e ok n o =
-    sym (answer-shown σ (sight σ) (sight-enough σ) (entries d) n (once-named (σ .schema) (d .entries) (subst (λ (S : Schema). Accepted S (d .entries)) (sym e) ok) n) o)
+answer-from-shown σ d e ok as′ n o =
+    sym (answer-shown σ (sight σ) (sight-enough σ) (entries d) as′ n (once-named (σ .schema) (d .entries) (subst (λ (S : Schema). Accepted S (d .entries)) (sym e) ok) n) o)
 
--- directories of one schema that show the requester the same answer alike
-pub answers-alike : (d₁ d₂ : Directory) (is : List Item) (u : Requester) → Accepted (d₁ .schema) (d₁ .entries) → Accepted (d₂ .schema) (d₂ .entries) → d₁ .schema ≡ d₂ .schema
-    → shown (settingOf d₁ is u) d₁ ≡ shown (settingOf d₂ is u) d₂ → (n : Name) (o : Operation)
-    → answer (settingOf d₁ is u) (entries d₁) n o ≡ answer (settingOf d₂ is u) (entries d₂) n o
-answers-alike d₁ d₂ is u ok₁ ok₂ e same n o =
-    answer-from-shown (settingOf d₁ is u) d₁ refl ok₁ n o
-    ∙ (λ i. answer (record { schema = e i; items = is; requester = u }) (same i) n o)
-    ∙ sym (answer-from-shown (settingOf d₂ is u) d₂ refl ok₂ n o)
+-- an answer asks aliases for list's mark alone
+marks-alike : (σ : Setting) (es : List Entry) (as₁ as₂ : List Alias) → ((n : Name) → aliased (σ .schema) as₁ n ≡ aliased (σ .schema) as₂ n) → (n : Name) (o : Operation)
+    → answer σ es as₁ n o ≡ answer σ es as₂ n o
+unfolding answer listHits listHit
+marks-alike σ es as₁ as₂ same n (read s) = refl
+marks-alike σ es as₁ as₂ same n (compare t v) = refl
+marks-alike σ es as₁ as₂ same n (list limit) =
+    λ i. returned σ es 3 n limit (map (λ e. map (λ p. line 32 (p .type) 0 (bit (same (e .name) i)) (p .value)) (drop (length n) (e .name))) (keep (listed σ n) es))
+marks-alike σ es as₁ as₂ same n (search r) = refl
+
+-- accepted directories of one schema, with the same aliases, that show the requester the same answer alike
+module _ (f : Format) (s₁ s₂ : Bytes) (d₁ d₂ : Directory) (e₁ : directoryOf f s₁ ≡ accept d₁) (e₂ : directoryOf f s₂ ≡ accept d₂) (e : d₁ .schema ≡ d₂ .schema)
+    (aliases-same : SameAliases d₁ d₂) (is : List Item) (u : Requester) (same : shown (settingOf d₁ is u) d₁ ≡ shown (settingOf d₂ is u) d₂) where
+  answer-alike : (n : Name) (o : Operation) → answer (settingOf d₁ is u) (entries d₁) (aliases d₁) n o ≡ answer (settingOf d₂ is u) (entries d₂) (aliases d₂) n o
+  answer-alike n o =
+      answer-from-shown (settingOf d₁ is u) d₁ refl (accepted-means f s₁ d₁ e₁) (aliases d₁) n o
+      ∙ (λ i. answer (record { schema = e i; items = is; requester = u }) (same i) (aliases d₁) n o)
+      ∙ sym (answer-from-shown (settingOf d₂ is u) d₂ refl (accepted-means f s₂ d₂ e₂) (aliases d₁) n o)
+      ∙ marks-alike (settingOf d₂ is u) (entries d₂) (aliases d₁) (aliases d₂) (aliased-alike (d₂ .schema) (aliases d₁) (aliases d₂) aliases-same) n o
+
+  answers-alike : (n : Name) (o : Operation) → answerTo (settingOf d₁ is u) (entries d₁) (aliases d₁) n o ≡ answerTo (settingOf d₂ is u) (entries d₂) (aliases d₂) n o
+  unfolding answerTo
+  answers-alike n o =
+      ap (answerResolved (settingOf d₁ is u) (entries d₁) (aliases d₁) o) (replaced-alike f s₁ s₂ d₁ d₂ e₁ e₂ e aliases-same n) ∙ go (resolved (d₂ .schema) (aliases d₂) n)
+    where
+      go : (m : Option Name) → answerResolved (settingOf d₁ is u) (entries d₁) (aliases d₁) o m ≡ answerResolved (settingOf d₂ is u) (entries d₂) (aliases d₂) o m
+      go none = refl
+      go (some m) = answer-alike m o
 
 judged-alike : (f : Format) (k : Limits) (d₁ d₂ p q : Bytes) (room : ℕ) → Alike f p q d₁ d₂ → judgedAt f k d₁ p q room ≡ judgedAt f k d₂ p q room
 unfolding judgedAt ground
@@ -85,8 +109,8 @@ judged-alike f k d₁ d₂ p q room alike = rw (alike .accepted₁, alike .accep
         → respond f (record { directory = D₁; items = is }) (within k r) room ≡ respond f (record { directory = D₂; items = is }) (within k r) room
     same is e r h = unfold respond within in
         ap (λ (ls : List Line). fitting room (print (f .width) ls))
-        (answers-alike D₁ D₂ is (r .requester) (accepted-means f d₁ D₁ (alike .accepted₁)) (accepted-means f d₂ D₂ (alike .accepted₂)) (alike .schema)
-        (alike .same is r e h) (r .base) (capped (k .entries) (r .operation)))
+        (let (named, seen) = alike .same is r e h in
+        answers-alike f d₁ d₂ D₁ D₂ (alike .accepted₁) (alike .accepted₂) (alike .schema) named is (r .requester) seen (r .base) (capped (k .entries) (r .operation)))
 
     by : (v : Verdict (List Item)) → permissionsOf f (D₁ .schema) p ≡ v
         → then (then v (λ is. accept (record { directory = D₁; items = is }))) onGround ≡ then (then v (λ is. accept (record { directory = D₂; items = is }))) onGround

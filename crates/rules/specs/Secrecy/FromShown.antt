@@ -9,16 +9,17 @@ use lib.ListN.{length, take}
 use lib.Dec.{eqb}
 use borrow.Author.Tests.{eqb-true}
 use Rattle.rules.specs.Lists.{given, any, first, keep, isEmpty}
-use Rattle.rules.specs.Sheet.{Bytes, Line, line}
+use Rattle.rules.specs.Sheet.{Bytes, Line, line, bit}
 use Rattle.rules.specs.Name.{Name, allowed, equal, sameName, childOf}
-use Rattle.rules.specs.Directory.{Held, Entry}
+use Rattle.rules.specs.Judge.{nameLines}
+use Rattle.rules.specs.Directory.{Held, Entry, Alias}
 use Rattle.rules.specs.Permission.{Read, Browse, ReturnDN, DiscloseOnError, Compare, FilterMatch}
 use Rattle.rules.specs.Decision.{Setting, entry, ofType, ofValue, granted}
 use Rattle.rules.specs.Filter.{Assertion, equality, atLeast, atMost, present, substrings, Filter, truth, isTrue, evaluate}
 use Rattle.rules.specs.FilterItem.{assertedType, holds, someValue, defined, satisfied, decidable, itemTruth}
 use Rattle.rules.specs.Request.{Selection, Ordering, Search, Operation, read, compare, list, search}
 use Rattle.rules.specs.declared.Outcome.the-variants.{Result, NoSuchObject, InsufficientAccessRights, NoSuchAttributeOrValue, InvalidAttributeSyntax}
-use Rattle.rules.specs.Answer.{bit, outcome, nameLines, entryLines, valueLines, limited, selected, orName, typeLines, information, readEntry, compareEntry, listed, candidate, found, inSubset, disclosed, listHit, searchHit, matchedName, noSuchObject, named, opened, returned, listHits, searchHits, answer}
+use Rattle.rules.specs.Answer.{outcome, entryLines, valueLines, limited, selected, orName, typeLines, information, readEntry, compareEntry, listed, candidate, found, inSubset, disclosed, listHit, searchHit, matchedName, noSuchObject, named, opened, returned, listHits, searchHits, answer}
 use Rattle.rules.specs.Arrange.{smallest, precedes, readable, key, before, arranged}
 use Rattle.rules.specs.Shown.{Sight, shownHeld, shownEntry, shownBy}
 use Rattle.rules.specs.Laws.Tests.{contra, and-left, and-right, and-cong, and-cong-left, cond-cong}
@@ -205,10 +206,10 @@ module _ (σ : Setting) (g : Sight) where
           any-sift (λ h. g .types n (h .type)) (shownHeld g n) (λ h. selected s (h .type) && granted σ n (ofType (h .type)) DiscloseOnError)
           (λ h r. k .typeDisclosed n (h .type) m (and-right (selected s (h .type)) _ r)) (λ h r. refl) (e .held)
 
-  pub read-shown : EnoughToRead → (es : List Entry) (n : Name) (s : Selection) → Once (λ e. sameName (σ .schema) n (e .name)) es
-      → answer σ (shownBy g es) n (read s) ≡ answer σ es n (read s)
+  pub read-shown : EnoughToRead → (es : List Entry) (as′ : List Alias) (n : Name) (s : Selection) → Once (λ e. sameName (σ .schema) n (e .name)) es
+      → answer σ (shownBy g es) as′ n (read s) ≡ answer σ es as′ n (read s)
   unfolding answer
-  read-shown k es n s once = opened-shown (k .entryDisclosed) es 1 Read n (readEntry σ s) (k .entryRead) (λ e m. readEntry-shown k s e m) once
+  read-shown k es as′ n s once = opened-shown (k .entryDisclosed) es 1 Read n (readEntry σ s) (k .entryRead) (λ e m. readEntry-shown k s e m) once
 
   -- ---- compare, list and search
 
@@ -255,14 +256,14 @@ module _ (σ : Setting) (g : Sight) where
         refused : (holds (shownEntry g e) t && granted σ n (ofType t) DiscloseOnError) ≡ (holds e t && granted σ n (ofType t) DiscloseOnError)
         refused = and-cong-left _ (granted σ n (ofType t) DiscloseOnError) _ (λ m. holds-shown g e t (k .typeDisclosed n t m))
 
-    listHits-shown : (es : List Entry) (n : Name) → listHits σ (shownBy g es) n ≡ listHits σ es n
+    listHits-shown : (es : List Entry) (as′ : List Alias) (n : Name) → listHits σ (shownBy g es) as′ n ≡ listHits σ es as′ n
     unfolding listHits listed listHit shownBy shownEntry
-    listHits-shown es n =
-        ap (map (listHit σ n))
+    listHits-shown es as′ n =
+        ap (map (listHit σ as′ n))
         (keep-sift (λ e. g .entries (e .name)) (shownEntry g) (listed σ n)
         (λ e r. k .entryReturned (e .name) (and-right (granted σ (e .name) entry Browse) _ (and-right (childOf (σ .schema) n (e .name)) _ r)))
         (λ e r. refl) es)
-        ∙ map-reduced (λ e. true) (shownEntry g) (listHit σ n) (λ e. refl) (keep (listed σ n) es)
+        ∙ map-reduced (λ e. true) (shownEntry g) (listHit σ as′ n) (λ e. refl) (keep (listed σ n) es)
 
     -- the key of an entry
     key-shown : (t : ℕ) (e : Entry) → key σ t (shownEntry g e) ≡ key σ t e
@@ -311,11 +312,11 @@ module _ (σ : Setting) (g : Sight) where
         ∙ map-reduced (λ e. true) (shownEntry g) (searchHit σ r) (hit-shown r) (arranged σ (r .ordering) (keep (found σ n r) es))
 
     -- the answer comes from what is shown
-    pub answer-shown : (es : List Entry) (n : Name) → Once (λ e. sameName (σ .schema) n (e .name)) es → (o : Operation)
-        → answer σ (shownBy g es) n o ≡ answer σ es n o
+    pub answer-shown : (es : List Entry) (as′ : List Alias) (n : Name) → Once (λ e. sameName (σ .schema) n (e .name)) es → (o : Operation)
+        → answer σ (shownBy g es) as′ n o ≡ answer σ es as′ n o
     unfolding answer
-    answer-shown es n once (read s) = read-shown toRead es n s once
-    answer-shown es n once (compare t v) =
+    answer-shown es as′ n once (read s) = read-shown toRead es as′ n s once
+    answer-shown es as′ n once (compare t v) =
         opened-shown (k .entryDisclosed) es 2 Read n (compareEntry σ t v) (k .entryRead) (λ e m. compareEntry-shown t v e) once
-    answer-shown es n once (list limit) = returned-shown (k .entryDisclosed) es 3 n limit (listHits-shown es n)
-    answer-shown es n once (search r) = returned-shown (k .entryDisclosed) es 4 n (r .limit) (searchHits-shown es n r)
+    answer-shown es as′ n once (list limit) = returned-shown (k .entryDisclosed) es 3 n limit (listHits-shown es as′ n)
+    answer-shown es as′ n once (search r) = returned-shown (k .entryDisclosed) es 4 n (r .limit) (searchHits-shown es n r)

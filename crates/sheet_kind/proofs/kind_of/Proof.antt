@@ -13,7 +13,7 @@ past-singles : (c : tie.At-match-rest) → kindOf (c .before .args .k) ≡ kindI
 unfolding kindOf
 past-singles c =
     let r = c .match .rest in
-    simp (ne-eqb _ _ (r .0 .0 .0 .0 .0 .0 .0 .0 .0 .0 .0 .0 .0 .0 .0 .1), ne-eqb _ _ (r .0 .0 .0 .0 .0 .0 .0 .0 .0 .0 .0 .0 .0 .0 .1), ne-eqb _ _ (r .0 .0 .0 .0 .0 .0 .0 .0 .0 .0 .0 .0 .0 .1), ne-eqb _ _ (r .0 .0 .0 .0 .0 .0 .0 .0 .0 .0 .0 .0 .1), ne-eqb _ _ (r .0 .0 .0 .0 .0 .0 .0 .0 .0 .0 .0 .1), ne-eqb _ _ (r .0 .0 .0 .0 .0 .0 .0 .0 .0 .0 .1), ne-eqb _ _ (r .0 .0 .0 .0 .0 .0 .0 .0 .0 .1), ne-eqb _ _ (r .0 .0 .0 .0 .0 .0 .0 .0 .1), ne-eqb _ _ (r .0 .0 .0 .0 .0 .0 .0 .1), ne-eqb _ _ (r .0 .0 .0 .0 .0 .0 .1), ne-eqb _ _ (r .0 .0 .0 .0 .0 .1), ne-eqb _ _ (r .0 .0 .0 .0 .1), ne-eqb _ _ (r .0 .0 .0 .1), ne-eqb _ _ (r .0 .0 .1), ne-eqb _ _ (r .0 .1), ne-eqb _ _ (r .1))
+    simp (ne-eqb _ _ (r .0 .0 .0 .0 .0 .0 .0 .0 .0 .0 .0 .0 .0 .0 .0 .0 .1), ne-eqb _ _ (r .0 .0 .0 .0 .0 .0 .0 .0 .0 .0 .0 .0 .0 .0 .0 .1), ne-eqb _ _ (r .0 .0 .0 .0 .0 .0 .0 .0 .0 .0 .0 .0 .0 .0 .1), ne-eqb _ _ (r .0 .0 .0 .0 .0 .0 .0 .0 .0 .0 .0 .0 .0 .1), ne-eqb _ _ (r .0 .0 .0 .0 .0 .0 .0 .0 .0 .0 .0 .0 .1), ne-eqb _ _ (r .0 .0 .0 .0 .0 .0 .0 .0 .0 .0 .0 .1), ne-eqb _ _ (r .0 .0 .0 .0 .0 .0 .0 .0 .0 .0 .1), ne-eqb _ _ (r .0 .0 .0 .0 .0 .0 .0 .0 .0 .1), ne-eqb _ _ (r .0 .0 .0 .0 .0 .0 .0 .0 .1), ne-eqb _ _ (r .0 .0 .0 .0 .0 .0 .0 .1), ne-eqb _ _ (r .0 .0 .0 .0 .0 .0 .1), ne-eqb _ _ (r .0 .0 .0 .0 .0 .1), ne-eqb _ _ (r .0 .0 .0 .0 .1), ne-eqb _ _ (r .0 .0 .0 .1), ne-eqb _ _ (r .0 .0 .1), ne-eqb _ _ (r .0 .1), ne-eqb _ _ (r .1))
 
 returns : tie.Need-returns
 unfolding kindOf
@@ -79,17 +79,21 @@ returns-16 : tie.Need-returns-16
 unfolding kindOf
 returns-16 c = rw (c .match .keys16)
 
-returns-19 : tie.Need-returns-19
-returns-19 c = sym (past-singles (c .before) ∙ no-range (c .before .before .args .k) (λ n p q e. omega (arith, c .if1 .taken)))
+returns-17 : tie.Need-returns-17
+unfolding kindOf
+returns-17 c = rw (c .match .keys17)
 
 returns-20 : tie.Need-returns-20
-returns-20 c = sym (past-singles (c .before .before .before) ∙ no-range (c .before .before .before .before .args .k) (λ n p q e. omega (arith, c .before .if2 .left, c .if3 .taken)))
+returns-20 c = sym (past-singles (c .before) ∙ no-range (c .before .before .args .k) (λ n p q e. omega (arith, c .if1 .taken)))
 
 returns-21 : tie.Need-returns-21
-returns-21 c = sym (past-singles (c .before .before .before .before) ∙ no-range (c .before .before .before .before .before .args .k) (λ n p q e. omega (arith, c .if4 .left)))
+returns-21 c = sym (past-singles (c .before .before .before) ∙ no-range (c .before .before .before .before .args .k) (λ n p q e. omega (arith, c .before .if2 .left, c .if3 .taken)))
+
+returns-22 : tie.Need-returns-22
+returns-22 c = sym (past-singles (c .before .before .before .before) ∙ no-range (c .before .before .before .before .before .args .k) (λ n p q e. omega (arith, c .if4 .left)))
 
 pub kind-of-spec : {M : Type 1} → statement M
 kind-of-spec =
     tie.close
     (tie.spec (λ c κs. search needs) (λ c κs. search needs) returns returns-2 returns-3 returns-4 returns-5 returns-6 returns-7 returns-8 returns-9
-    returns-10 returns-11 returns-12 returns-13 returns-14 returns-15 returns-16 (λ c. search needs) (λ c. search needs) returns-19 returns-20 returns-21)
+    returns-10 returns-11 returns-12 returns-13 returns-14 returns-15 returns-16 returns-17 (λ c. search needs) (λ c. search needs) returns-20 returns-21 returns-22)

@@ -6,7 +6,7 @@ use Rattle.sheet_kind.proofs.number_of.Tie as tie
 pub number-of-spec : {M : Type 1} → statement M
 number-of-spec =
     tie.close
-    (tie.spec (λ c. search needs) (λ c. search needs) (λ c. search needs) (λ c. search needs) (λ c. search needs) (λ c. search needs) (λ c. search needs)
+    (tie.spec (λ c. search needs) (λ c. search needs) (λ c. search needs) (λ c. search needs) (λ c. search needs) (λ c. search needs) (λ c. search needs) (λ c. search needs)
     (λ c. search needs) (λ c. search needs) (λ c. search needs) (λ c. search needs) (λ c. search needs) (λ c. search needs) (λ c. search needs)
     (λ c. search needs) (λ c. search needs) (λ c. search needs) (λ c. search needs) (λ c. search needs) (λ c. search needs) (λ c. search needs)
     (λ c. search needs) (λ c. search needs) (λ c. search needs) (λ c. search needs) (λ c. search needs) (λ c. search needs) (λ c. search needs)
@@ -20,4 +20,5 @@ number-of-spec =
     (λ c. rw (c .enum-told22 .given .1)) (λ c. rw (c .enum-told23 .given .1)) (λ c. rw (c .enum-told24 .given .1))
     (λ c. rw (c .enum-told25 .given .1)) (λ c. rw (c .enum-told26 .given .1)) (λ c. rw (c .enum-told27 .given .1))
     (λ c. rw (c .enum-told28 .given .1)) (λ c. rw (c .enum-told29 .given .1)) (λ c. rw (c .enum-told30 .given .1))
-    (λ c. rw (c .enum-told31 .given .1)) (λ c. rw (c .enum-told32 .given .1)))
+    (λ c. rw (c .enum-told31 .given .1)) (λ c. rw (c .enum-told32 .given .1))
+    (λ c. rw (c .enum-told33 .given .1)))

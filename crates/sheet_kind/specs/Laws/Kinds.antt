@@ -8,7 +8,7 @@ use lib.Dec.{eqb}
 use borrow.Author.Tests.{eqb-true, eqb-false, ne-eqb}
 use Rattle.sheet_kind.specs.Kinds.{numberOf, ranges, known, kindIn, kindOf}
 use Rattle.sheet_kind.specs.declared.Kind.{Kind}
-use Rattle.sheet_kind.specs.declared.Kind.the-variants.{AttributeType, Entry, Value, Item, Base, UserClass, ProtectedItem, Permissions, NamePart, Requester, Operation, Selection, SelectedType, Assertion, Subset, Ordering, And, Or, Not, Equality, AtLeast, AtMost, Present, Substrings, Piece, Outcome, Comparison, Child, ReturnedEntry, ReturnedType, ReturnedValue, Unknown}
+use Rattle.sheet_kind.specs.declared.Kind.the-variants.{AttributeType, Entry, Value, Item, Base, UserClass, ProtectedItem, Permissions, NamePart, Requester, Operation, Selection, SelectedType, Assertion, Subset, Ordering, And, Or, Not, Equality, AtLeast, AtMost, Present, Substrings, Piece, Outcome, Comparison, Child, ReturnedEntry, ReturnedType, ReturnedValue, Target, Unknown}
 
 pub kind-number : (x : Kind) → kindOf (numberOf x) ≡ x
 unfolding kindOf
@@ -43,6 +43,7 @@ kind-number Child = refl
 kind-number ReturnedEntry = refl
 kind-number ReturnedType = refl
 kind-number ReturnedValue = refl
+kind-number Target = refl
 kind-number Unknown = refl
 
 number-by : (x : Kind) (xs : List Kind) (k : ℕ) (t : Bool) → eqb k (numberOf x) ≡ t

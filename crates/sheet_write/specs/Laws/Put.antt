@@ -4,7 +4,7 @@ use mathlib.Core.Path.{_≡_, refl, sym, _∙_}
 use mathlib.Core.List.{[], _∷_, _++_, append-assoc, append-nil}
 use native.Mathlib.Omega.{arith}
 use borrow.Author.Tests.{ne-eqb}
-use lib.ListN.{length, take, drop, set, length-append, length-set, take-append-drop}
+use lib.ListN.{length, take, drop, set, length-append, length-drop, length-set, take-append-drop}
 use lib.Seq.{paste, take-length, take-append-seam, drop-append-add, drop-drop, drop-at, length-take-le, take-set-le, set-split, append-snoc}
 use Rattle.rules.specs.Sheet.{Bytes, Line, leading, column, numbers, lineBytes}
 use Rattle.rules.specs.Laws.Sheet.{leading-length, column-length, numbers-length}
@@ -13,6 +13,12 @@ use Rattle.sheet_write.specs.Put.{putAt, leadingByte}
 pub put-none : (d : Bytes) (at : ℕ) → putAt d at [] ≡ d
 unfolding putAt
 put-none d at = let e : at + 0 ≡ at = omega arith in rw (append-nil (take at d), e) (take-append-drop at d)
+
+pub put-length : (d : Bytes) (at : ℕ) (s : Bytes) → at + length s ≤ length d → length (putAt d at s) ≡ length d
+unfolding putAt
+put-length d at s h =
+    let t : length (take at d) ≡ at = length-take-le at d (omega arith) in
+    length-append (take at d ++ s) (drop (at + length s) d) ∙ rw (length-append (take at d) s, t, length-drop (at + length s) d) (omega arith)
 
 -- a whole part, as the copying loop leaves it
 pub put-done : (d : Bytes) (at : ℕ) (s : Bytes) (n : ℕ) → n ≡ length s → paste d at s n ≡ putAt d at s

@@ -20,6 +20,8 @@ use std::process::ExitCode;
 
 /// Each refusal must be met as often.
 const MET_AT_LEAST: u64 = 300;
+/// The outcomes of each operation, which must be met too.
+const OUTCOMES: [(char, &str); 4] = [('1', "01235"), ('2', "012345"), ('3', "015"), ('4', "015")];
 
 fn main() -> ExitCode {
     let total = number_from_environment("CASES", 100_000);
@@ -80,6 +82,14 @@ fn main() -> ExitCode {
     };
     often(met, &REFUSALS, MET_AT_LEAST);
     often(met_by_moves, &MOVE_REFUSALS, MET_AT_LEAST / 5);
+    for (operation, possible) in OUTCOMES {
+        for outcome in possible.chars() {
+            let with = |cut| outcomes.get(&(operation, outcome, cut)).copied().unwrap_or_default();
+            let enough = with('0') + with('1') >= (MET_AT_LEAST / 5).min(total / 2_000);
+            let what = format!("outcome {outcome} of operation {operation} was met too seldom");
+            trial.report.check(enough, &what);
+        }
+    }
     trial.finish()
 }
 

@@ -6,12 +6,12 @@
 
 use harness::damage::{damage, Which};
 use harness::lent::ask;
-use harness::pairs::{pair, Change, Pair};
+use harness::pairs::{pair, pair_under, Change, Notion, Pair};
 use harness::random::{number_from_environment, Random};
 use harness::report::Report;
 use harness::requests::{order, request_of};
 use harness::server::{subject, Peer, Server};
-use harness::shown::{shown, Requester};
+use harness::shown::{aliases, shown, Requester};
 use harness::values::unfit;
 use harness::written::digit;
 use peer::builder::{FilterLines, OperationLines, Selected};
@@ -31,7 +31,7 @@ fn main() -> ExitCode {
     let mut report = Report::new("two_directories");
     let mut hidden: Vec<Fault> = Fault::ALL.iter().copied().filter(|fault| fault.leaks()).collect();
     let leaks = hidden.clone();
-    let (mut pairs, mut showing) = (0, 0);
+    let (mut pairs, mut showing, mut with_aliases) = (0, 0, 0);
     let mut replies: BTreeMap<(u64, char), u64> = BTreeMap::new();
     let mut changes: BTreeMap<Change, u64> = BTreeMap::new();
     let mut forms: BTreeMap<Form, u64> = BTreeMap::new();
@@ -89,23 +89,50 @@ fn main() -> ExitCode {
         }
         let seen = shown(&pair.one, &pair.permissions, &pair.requester);
         showing += u64::from(!seen.is_empty());
-        let alike = seen == shown(&pair.other, &pair.permissions, &pair.requester);
+        let alike = seen == shown(&pair.other, &pair.permissions, &pair.requester)
+            && aliases(&pair.one) == aliases(&pair.other);
         assert!(alike && pair.one.types == pair.other.types, "the pair is not alike");
+        with_aliases += u64::from(!aliases(&pair.one).is_empty());
     }
 
-    println!("{pairs} pairs, {showing} of them showing something; hidden changes: {changes:?}");
+    println!("{pairs} pairs, {showing} of them showing something, {with_aliases} with aliases");
+    println!("hidden changes: {changes:?}");
     println!("pairs by form: {forms:?}; replies by refusal and outcome: {replies:?}");
     report.check(showing > total / 2, "too few pairs show something");
+    report.check(with_aliases > total / 4, "too few pairs have aliases");
     let equal = report.failed() == 0;
     report.check(equal, "alike directories gave different answers");
-    for change in Change::ALL {
+    let kept = |change: &Change| *change != Change::Target;
+    for change in Change::ALL.into_iter().filter(kept) {
         let enough = changes.get(&change).is_some_and(|&count| count >= total / 40);
         report.check(enough, &format!("hidden change {change:?} was made too seldom"));
     }
     for fault in leaks {
         report.check(!hidden.contains(&fault), &format!("planted leak {fault:?} was not found"));
     }
+    for (notion, what) in [(Notion::WithoutAliases, "aliases"), (Notion::WithoutTargets, "targets")]
+    {
+        let needed = tells_apart(&mut random, notion, total / 4);
+        report.check(needed, &format!("a notion of alike without {what} would do"));
+    }
     report.finish()
+}
+
+/// Whether the peer answers otherwise in some pair that is alike only under a lesser notion.
+fn tells_apart(random: &mut Random, notion: Notion, total: u64) -> bool {
+    (0..total).any(|_| {
+        pair_under(notion, random).is_some_and(|pair| {
+            let [one, other] = [&pair.one, &pair.other].map(|dir| dir.to_bytes(pair.form));
+            let perm = pair.permissions.to_bytes(pair.form);
+            (0..REQUESTS).any(|_| {
+                let req = ask_about(random, &pair);
+                let call = Call::new(Caller::Exchange, pair.form);
+                let [first, second] =
+                    [&one, &other].map(|dir| ask(&Peer::default(), call, dir, &perm, &req, ROOM));
+                first != second
+            })
+        })
+    })
 }
 
 /// A request of the pair's requester, about names and values of either directory.
@@ -133,6 +160,12 @@ fn ask_about(random: &mut Random, pair: &Pair) -> Vec<u8> {
             subset: random.between(1, 2) as u32,
             filter: FilterLines::And(Vec::new()),
         };
+    }
+    let listed = aliases(directory).into_iter().next().filter(|_| random.once_in(12));
+    if let Some((mut name, _)) = listed {
+        name.pop();
+        request.name = name;
+        request.operation = OperationLines::List { limit: 0 };
     }
     request.to_bytes(pair.form)
 }

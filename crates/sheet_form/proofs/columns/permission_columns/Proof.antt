@@ -21,7 +21,7 @@ use Rattle.sheet_form.proofs.columns.permission_columns.Statement.{stat
 use Rattle.sheet_form.proofs.columns.permission_columns.Tie as tie
 
 abbrev others : List ℕ
-others = 0 ∷ 1 ∷ 2 ∷ 9 ∷ 10 ∷ 11 ∷ 12 ∷ 13 ∷ 14 ∷ 15 ∷ 16 ∷ 17 ∷ 18 ∷ 19 ∷ 20 ∷ 21 ∷ 22 ∷ 23 ∷ 24 ∷ 25 ∷ 26 ∷ 27 ∷ 28 ∷ 29 ∷ 30 ∷ 31 ∷ []
+others = 0 ∷ 1 ∷ 2 ∷ 9 ∷ 10 ∷ 11 ∷ 12 ∷ 13 ∷ 14 ∷ 15 ∷ 16 ∷ 17 ∷ 18 ∷ 19 ∷ 20 ∷ 21 ∷ 22 ∷ 23 ∷ 24 ∷ 25 ∷ 26 ∷ 27 ∷ 28 ∷ 29 ∷ 30 ∷ 31 ∷ 32 ∷ []
 
 other : (c : tie.At-match-keys7) (n : ℕ) → T (not (hasKey others (tagOf the-type (kindOf n)))) → eqb (c .before .before .args .line .kind) n ≡ false
 other c n t = ne-eqb _ n (λ e. miss others (tagOf the-type (kindOf n)) t (subst (λ (x : Kind). OneOf others (tagOf the-type x)) (c .before .kind-of .ensures ∙ ap kindOf e) (c .match .keys7)))

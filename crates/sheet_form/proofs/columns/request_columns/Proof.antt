@@ -21,7 +21,7 @@ use Rattle.sheet_form.proofs.columns.request_columns.Statement.{stateme
 use Rattle.sheet_form.proofs.columns.request_columns.Tie as tie
 
 abbrev others : List ℕ
-others = 0 ∷ 1 ∷ 2 ∷ 3 ∷ 4 ∷ 5 ∷ 6 ∷ 7 ∷ 25 ∷ 26 ∷ 27 ∷ 28 ∷ 29 ∷ 30 ∷ 31 ∷ []
+others = 0 ∷ 1 ∷ 2 ∷ 3 ∷ 4 ∷ 5 ∷ 6 ∷ 7 ∷ 25 ∷ 26 ∷ 27 ∷ 28 ∷ 29 ∷ 30 ∷ 31 ∷ 32 ∷ []
 
 other : (c : tie.At-match-keys18) (n : ℕ) → T (not (hasKey others (tagOf the-type (kindOf n)))) → eqb (c .before .before .args .line .kind) n ≡ false
 other c n t = ne-eqb _ n (λ e. miss others (tagOf the-type (kindOf n)) t (subst (λ (x : Kind). OneOf others (tagOf the-type x)) (c .before .kind-of .ensures ∙ ap kindOf e) (c .match .keys18)))

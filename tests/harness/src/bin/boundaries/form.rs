@@ -61,7 +61,7 @@ pub fn run(test: &mut Explicit) {
     }
     numbers(test);
     let alone = |kind: u32| [(kind, 1, 0, 0, &b""[..])];
-    for kind in [0, 4, 8, 9, 10, 15, 16, 20, 28, 29, 30, 35, 36, 38, 39, 99, 999_999] {
+    for kind in [0, 4, 8, 10, 15, 16, 20, 28, 29, 30, 35, 36, 38, 39, 99, 999_999] {
         test.expect(&format!("directory, kind {kind}"), 2, &alone(kind), b"", b"");
     }
     for kind in [0, 1, 2, 3, 10, 15, 16, 20, 28, 29, 30, 36, 38, 999_999] {

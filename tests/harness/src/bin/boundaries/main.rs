@@ -1,5 +1,6 @@
 //! Each limit and each refusal at its place: what is just allowed and what is not.
 
+mod aliases;
 mod buffer;
 mod directory;
 mod form;
@@ -29,6 +30,7 @@ fn main() -> ExitCode {
         test.call = call;
         form::run(&mut test);
         directory::run(&mut test);
+        aliases::run(&mut test);
         permissions::run(&mut test);
         request::run(&mut test);
         order::run(&mut test);

@@ -18,7 +18,7 @@ pub fn run(test: &mut Explicit) {
     other_form(test);
 }
 
-/// Ann, above a second entry with octets of all sorts.
+/// Ann, with octets of all sorts, above a second entry and an alias.
 fn people() -> Vec<L> {
     typed(&[
         (2, 0, 2, 0, b"Ann"),
@@ -30,6 +30,11 @@ fn people() -> Vec<L> {
         (2, 1, 3, 0, b"999999"),
         (3, 2, 0, 0, b"a   b"),
         (3, 3, 0, 0, b"999999"),
+        (2, 1, 2, 1, b"Nan"),
+        (3, 2, 0, 0, b"nan"),
+        (36, 0, 2, 0, b""),
+        (9, 2, 0, 0, b" ANN"),
+        (9, 1, 0, 0, b"\n\n"),
     ])
 }
 
@@ -144,8 +149,8 @@ fn high_types(test: &mut Explicit) {
 
 /// Whatever a directory may be refused for, before 35 and 36.
 fn faulty(test: &mut Explicit) {
-    let wrong: [(&str, u64, &[L]); 14] = [
-        ("a kind not allowed", 2, &[(9, 1, 0, 0, b"x")]),
+    let wrong: [(&str, u64, &[L]); 16] = [
+        ("a kind not allowed", 2, &[(4, 1, 0, 0, b"")]),
         ("a parent that is not above", 2, &[(2, 1, 2, 0, b"Ann")]),
         ("a syntax not allowed", 2, &[(1, 900, 3, 0, b"")]),
         ("a type line out of order", 3, &[(1, 3, 0, 0, b"")]),
@@ -159,6 +164,12 @@ fn faulty(test: &mut Explicit) {
             &[(2, 0, 2, 0, b"Ann"), (3, 2, 0, 0, b"Ann"), (2, 0, 2, 0, b"ann ")],
         ),
         ("a value twice", 5, &[(2, 0, 2, 0, b"Ann"), (3, 2, 0, 0, b"Ann"), (3, 2, 0, 0, b" Ann")]),
+        ("an alias without a target", 3, &[(2, 0, 2, 1, b"Nan"), (3, 2, 0, 0, b"Nan")]),
+        (
+            "a target outside its syntax",
+            4,
+            &[(2, 0, 2, 1, b"Nan"), (3, 2, 0, 0, b"Nan"), (36, 0, 1, 0, b""), (9, 3, 0, 0, b"-0")],
+        ),
         ("no naming value", 6, &[(2, 0, 2, 0, b"Ann")]),
         ("another naming value", 6, &[(2, 0, 2, 0, b"Ann"), (3, 2, 0, 0, b"Bob")]),
         ("a naming value of another type", 6, &[(2, 0, 2, 0, b"Ann"), (3, 1, 0, 0, b"Ann")]),

@@ -1,5 +1,6 @@
 //! Outcomes, decisions and truth values of documents 01 and 02, one named situation each.
 
+mod aliases;
 mod blanks;
 mod decisions;
 mod editions;
@@ -24,6 +25,7 @@ fn main() -> ExitCode {
         blanks::run(&mut test);
         high_types::run(&mut test);
         editions::run(&mut test);
+        aliases::run(&mut test);
         order::run(&mut test);
     }
     panels::run(&mut test);

@@ -1,7 +1,7 @@
 //! The guest's order: keys, ties, entries without a key, limits.
 
-use super::operations::{head, line, search};
-use harness::explicit::{deny, Explicit, Situation};
+use super::operations::{head, line, on, search};
+use harness::explicit::{deny, named, Explicit, Situation};
 use harness::limits::open;
 use peer::builder::{
     EntryLines, FilterLines, ItemLines, OperationLines, RequestSheet, Selected, Thing,
@@ -341,12 +341,22 @@ fn others(test: &mut Explicit) {
     let request = in_order(search(&["Staff", "x"], 2, 0, nothing()), INTEGER, RISING);
     let absent = head(4, 1, 0) + &super::operations::name_lines(&["Staff"]);
     test.answers("an absent base", &world, &request, &absent);
+    // An alias that is met has a key of its own.
+    let mut aliased = world.clone();
+    let mut nan = harness::explicit::person(1, "Nan", &[(3, "4")]);
+    nan.target = Some(named(&["Staff", "Bob"]));
+    aliased.directory.entries.push(nan);
     let entry = super::operations::entry;
-    let [ann, bob] = [&["Staff", "Ann"][..], &["Staff", "Bob"]].map(entry);
+    let [ann, bob, nan] = [&["Staff", "Ann"][..], &["Staff", "Bob"], &["Staff", "Nan"]].map(entry);
     let all = || FilterLines::And(vec![]);
     let request = in_order(search(&["Staff"], 1, 0, all()), INTEGER, RISING);
+    let printed = head(4, 0, 0) + &bob + &nan + &ann;
+    test.answers("an alias among them", &aliased, &request, &printed);
+    let hidden = and(&aliased, vec![on(&["Staff", "Bob"], true, deny(9, Thing::Entry, 15))]);
+    let printed = head(4, 0, 0) + &nan + &ann;
+    test.answers("an alias to a hidden entry", &hidden, &request, &printed);
     // The edition concerns the filter alone.
     let first = RequestSheet { edition: 1, ..request };
-    let printed = head(4, 0, 0) + &bob + &ann;
-    test.answers("the first edition", &world, &first, &printed);
+    let printed = head(4, 0, 0) + &bob + &nan + &ann;
+    test.answers("the first edition", &aliased, &first, &printed);
 }

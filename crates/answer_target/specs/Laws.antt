@@ -1,0 +1,4 @@
+pub mod Matched
+pub mod Way
+pub mod Replace
+pub mod Resolved
