@@ -6,10 +6,11 @@ use mathlib.Core.Path.{_≡_}
 use mathlib.Core.Bool.{Bool, true, false, cond}
 use mathlib.Core.List.{List, []}
 use lib.ListN.{length, getD, take, drop, replicate}
-use Rattle.rules.specs.Sheet.{Bytes}
+use Rattle.rules.specs.Sheet.{Bytes, lines}
 use Rattle.rules.specs.declared.Format.{Format}
+use Rattle.rules.specs.Name.{Schema}
 use Rattle.rules.specs.Judge.{accept, refuse, refusalOf}
-use Rattle.rules.specs.Permission.{Item, permissionsOf}
+use Rattle.rules.specs.Permission.{Item, items, permissionsOf}
 use Rattle.rules.specs.Places.{linesAt, partsOf, schemaOf}
 use Rattle.rules.specs.Laws.Decision.{weight}
 use Rattle.value_syntax.specs.Digest.{digest}
@@ -138,9 +139,16 @@ pub record PermissionsNoted (f : Format) (p : Bytes) (is : List Item) (r : Noted
 abbrev pub refused : ℕ → NotedItems
 refused n = record { refusal = n; count = 0 }
 
+-- the rows of the first items of a sheet, as far as it was read
+pub record Begun (f : Format) (p : Bytes) (S : Schema) (rights scopes : List ℕ) : Type 0 where
+  pub first : List Item
+  pub at : ℕ
+  pub from : items (f .top) S (256 - length first) first (linesAt (f .width) p at) ≡ items (f .top) S 256 [] (lines (f .width) p)
+  pub table : Table (f .width) p first rights scopes
+
 -- what the sheet `p` in the format `f` gives, judged against the schema
 pub record PermissionsJudged (f : Format) (p : Bytes) (schema : List ℕ) (r : NotedItems) (rights scopes : List ℕ) : Type 0 where
   pub refusal : r .refusal ≡ refusalOf (permissionsOf f (schemaOf schema) p)
   pub accepted : r .refusal ≡ 0 → (is : List Item) × (permissionsOf f (schemaOf schema) p ≡ accept is)
   pub noted : (is : List Item) → permissionsOf f (schemaOf schema) p ≡ accept is → PermissionsNoted f p is r rights scopes
-  pub nothing : (n : ℕ) → permissionsOf f (schemaOf schema) p ≡ refuse n → r ≡ refused n
+  pub nothing : (n : ℕ) → permissionsOf f (schemaOf schema) p ≡ refuse n → (r ≡ refused n) × Begun f p (schemaOf schema) rights scopes

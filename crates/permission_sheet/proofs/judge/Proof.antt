@@ -22,7 +22,7 @@ ahead : (c : tie.After-item-at Inv-loop μ-loop) → let A = c .before .before .
 ahead c = record { inside = c .before .before .loop-test .taken; room = c .before .if2 .left; is = c .item-at .ensures }
 
 returns : tie.Need-returns Inv-loop μ-loop
-returns c = let A = c .before .before .before .before .args in rw (c .refused .ensures) (judged-long (A .f) (now (A .p)) (now (A .schema)) (c .before .if1 .taken))
+returns c = let A = c .before .before .before .before .args in let P = c .before .before .before .before .pre in rw (c .refused .ensures, P .1, P .2) (judged-long (A .f) (now (A .p)) (now (A .schema)) (c .before .if1 .taken))
 
 loop-holds : tie.Need-loop-holds Inv-loop μ-loop
 loop-holds c = let A = c .before .before .before .args in let P = c .before .before .before .pre in rw (P .1, P .2) (reading-start (A .f) (now (A .p)) (schemaOf (now (A .schema))))

@@ -15,7 +15,7 @@ use Rattle.rules.specs.Judge.{Verdict, accept, refuse, refusalOf}
 use Rattle.rules.specs.Permission.{Item, permissionGrammar, item, items, permissionsOf}
 use Rattle.rules.specs.Places.{linesAt, partsOf, schemaOf}
 use Rattle.rules.specs.Laws.Judge.{refused-not, accepted-is}
-use Rattle.permission_sheet.specs.Noted.{PermissionsJudged, PermissionsNoted, ItemRow, blank, refused}
+use Rattle.permission_sheet.specs.Noted.{PermissionsJudged, PermissionsNoted, Table, Begun, ItemRow, blank, refused}
 use Rattle.rules.specs.Columns.{permissionForms}
 use Rattle.sheet_due.specs.Lines.{seenAt, misplacedBy, noLine}
 use Rattle.sheet_due.specs.Laws.Lines.{after, misplaced-at, misplaced-some}
@@ -163,32 +163,35 @@ module _ {f : Format} {p : Bytes} {S : Schema} {count at : ℕ} {rights scopes :
   unfolding itemOf
   reading-types k l = s .took k l .type
 
+  reading-table : Table w p (map (itemOf w p) (s .its)) rights scopes
+  reading-table =
+      let n : length (map (itemOf w p) (s .its)) ≡ length (s .its) = length-map (s .its) (itemOf w p) in
+      record {
+        few = rw n (s .few);
+        rows = λ k l. rw (item-at k) (reading-rows k (rw n at l));
+        rights-length = reading-lengths .0;
+        scopes-length = reading-lengths .1;
+        rights-rest = rw (n, s .rights-are) (filled-rest (rightsRow p) 8 (rights-long p) 256 (s .its));
+        scopes-rest = rw (n, s .scopes-are) (filled-rest scopesRow 7 scopes-long 256 (s .its));
+      }
+
   reading-noted : PermissionsNoted f p (map (itemOf w p) (s .its)) (record { refusal = 0; count = count }) rights scopes
   reading-noted =
       let n : length (map (itemOf w p) (s .its)) ≡ length (s .its) = length-map (s .its) (itemOf w p) in
-      record {
-        refusal = refl;
-        count = s .counted ∙ sym n;
-        table = record {
-          few = rw n (s .few);
-          rows = λ k l. rw (item-at k) (reading-rows k (rw n at l));
-          rights-length = reading-lengths .0;
-          scopes-length = reading-lengths .1;
-          rights-rest = rw (n, s .rights-are) (filled-rest (rightsRow p) 8 (rights-long p) 256 (s .its));
-          scopes-rest = rw (n, s .scopes-are) (filled-rest scopesRow 7 scopes-long 256 (s .its));
-        };
-        types = λ k l. rw (item-at k) (reading-types k (rw n at l));
-      }
+      record { refusal = refl; count = s .counted ∙ sym n; table = reading-table; types = λ k l. rw (item-at k) (reading-types k (rw n at l)) }
+
+  reading-begun : Begun f p S rights scopes
+  reading-begun = record { first = map (itemOf w p) (s .its); at = at; from = let n : length (map (itemOf w p) (s .its)) ≡ length (s .its) = length-map (s .its) (itemOf w p) in rw n (s .from); table = reading-table }
 
 -- ---- what is given
 
 module _ (f : Format) (p : Bytes) (schema : List ℕ) where
-  judged-refused : {n : ℕ} {rights scopes : List ℕ} → permissionsOf f (schemaOf schema) p ≡ refuse n → (n ≡ 0 → ⊥) → PermissionsJudged f p schema (refused n) rights scopes
-  judged-refused {n} e z = record {
+  judged-refused : {n : ℕ} {rights scopes : List ℕ} → Begun f p (schemaOf schema) rights scopes → permissionsOf f (schemaOf schema) p ≡ refuse n → (n ≡ 0 → ⊥) → PermissionsJudged f p schema (refused n) rights scopes
+  judged-refused {n} b e z = record {
     refusal = sym (ap refusalOf e);
     accepted = λ q. absurd (z q);
     noted = λ is q. absurd (refused-not n is (sym e ∙ q));
-    nothing = λ m q. let h : n ≡ m = cc in ap refused h;
+    nothing = λ m q. let h : n ≡ m = cc in (ap refused h, b);
   }
 
   judged-accepted : {r : NotedItems} {rights scopes : List ℕ} {is : List Item} → permissionsOf f (schemaOf schema) p ≡ accept is → PermissionsNoted f p is r rights scopes → PermissionsJudged f p schema r rights scopes
@@ -200,9 +203,9 @@ module _ (f : Format) (p : Bytes) (schema : List ℕ) where
   }
 
   -- too long
-  pub judged-long : {rights scopes : List ℕ} → 65536 < length p → PermissionsJudged f p schema (refused 11) rights scopes
+  pub judged-long : 65536 < length p → PermissionsJudged f p schema (refused 11) (replicate 2048 0) (replicate 1792 0)
   unfolding permissionsOf
-  judged-long h = judged-refused (rw (lt-ltb 65536 (length p) h)) (λ e. omega arith)
+  judged-long h = judged-refused (reading-begun (reading-start f p (schemaOf schema))) (rw (lt-ltb 65536 (length p) h)) (λ e. omega arith)
 
   module _ (h : length p ≤ 65536) where
     by-items : {v : Verdict (List Item)} → items (f .top) (schemaOf schema) 256 [] (lines (f .width) p) ≡ v → permissionsOf f (schemaOf schema) p ≡ v
@@ -216,8 +219,8 @@ module _ (f : Format) (p : Bytes) (schema : List ℕ) where
 
       -- over the count
       pub judged-over : at < length p → 256 ≤ count → {n : ℕ} → n ≡ misplacedBy 10 (seenAt (permissionForms (f .top)) (f .width) p at) → PermissionsJudged f p schema (refused n) rights scopes
-      judged-over g l e = rw e (judged-refused (by-items (items-over s g l)) (misplaced-some 10 (seenAt (permissionForms (f .top)) (f .width) p at)))
+      judged-over g l e = rw e (judged-refused (reading-begun s) (by-items (items-over s g l)) (misplaced-some 10 (seenAt (permissionForms (f .top)) (f .width) p at)))
 
       -- at an item that is refused
       pub judged-item : {i : ItemLines} → Ahead f p (schemaOf schema) count at i → (i .refusal ≡ 0 → ⊥) → PermissionsJudged f p schema (refused (i .refusal)) rights scopes
-      judged-item n z = judged-refused (by-items (item-refused s n z)) z
+      judged-item n z = judged-refused (reading-begun s) (by-items (item-refused s n z)) z
