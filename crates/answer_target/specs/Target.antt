@@ -67,7 +67,7 @@ unfoldable pub partBytes : ℕ → Bytes → ℕ → ℕ → Bytes
 partBytes w s i n = print w (nameLines (partsOf n (linesAt w s i)))
 
 -- the name of the first `n` lines of the sheet `s`
-pub record Holds (w : ℕ) (s : Bytes) (n : ℕ) (name : Name) : Type 0 where
+pub record HoldsName (w : ℕ) (s : Bytes) (n : ℕ) (name : Name) : Type 0 where
   pub parts : partsOf n (linesAt w s 0) ≡ name
   pub count : length name ≡ n
 

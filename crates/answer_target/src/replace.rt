@@ -17,7 +17,7 @@ ghost use Rattle.rules.specs.Places.{linesAt, partsOf};
 ghost use Rattle.sheet_write.specs.Put.{putAt};
 ghost use Rattle.tables.specs.Book.{entries, width};
 ghost use Rattle.tables.specs.World.{Entries, Listed};
-ghost use Rattle.answer_target.specs.Target.{Full, partBytes, targetOf, Holds};
+ghost use Rattle.answer_target.specs.Target.{Full, partBytes, targetOf, HoldsName};
 
 // The room for 15 K 9 lines, each of five columns of at most 18 bytes, 64 bytes and byte 10.
 pub(crate) const NAME: usize = 2325;
@@ -56,7 +56,7 @@ pub(crate) fn replaced(
     name: &mut [u8; NAME],
 ) -> usize
     requires { ⌜ Listed (now d) (now book) × (1 ≤ e) × (e ≤ entries (now book)) × (left ≤ 7) × Full (width (now book)) (now s) next left × (length (now name) ≡ 2325) ⌝ }
-    ensures { λ r. ⌜ (length (now (name .exit)) ≡ 2325) × ((σ : Setting) (es : List Stored) (held : List ℕ) → Entries σ es (now (d .entry)) (now (book .entry)) held → Holds (width (now (book .entry))) (now (name .exit)) r (targetOf es e ++ partsOf left (linesAt (width (now (book .entry))) (now (s .entry)) next))) ⌝ }
+    ensures { λ r. ⌜ (length (now (name .exit)) ≡ 2325) × ((σ : Setting) (es : List Stored) (held : List ℕ) → Entries σ es (now (d .entry)) (now (book .entry)) held → HoldsName (width (now (book .entry))) (now (name .exit)) r (targetOf es e ++ partsOf left (linesAt (width (now (book .entry))) (now (s .entry)) next))) ⌝ }
 {
     let w = book[WIDTH] as usize;
     let target = book[TARGET + (e - 1)] as usize;

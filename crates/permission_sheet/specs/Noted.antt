@@ -140,7 +140,7 @@ abbrev pub refused : ℕ → NotedItems
 refused n = record { refusal = n; count = 0 }
 
 -- the rows of the first items of a sheet, as far as it was read
-pub record Begun (f : Format) (p : Bytes) (S : Schema) (rights scopes : List ℕ) : Type 0 where
+pub record FirstItems (f : Format) (p : Bytes) (S : Schema) (rights scopes : List ℕ) : Type 0 where
   pub first : List Item
   pub at : ℕ
   pub from : items (f .top) S (256 - length first) first (linesAt (f .width) p at) ≡ items (f .top) S 256 [] (lines (f .width) p)
@@ -151,4 +151,4 @@ pub record PermissionsJudged (f : Format) (p : Bytes) (schema : List ℕ) (r : N
   pub refusal : r .refusal ≡ refusalOf (permissionsOf f (schemaOf schema) p)
   pub accepted : r .refusal ≡ 0 → (is : List Item) × (permissionsOf f (schemaOf schema) p ≡ accept is)
   pub noted : (is : List Item) → permissionsOf f (schemaOf schema) p ≡ accept is → PermissionsNoted f p is r rights scopes
-  pub nothing : (n : ℕ) → permissionsOf f (schemaOf schema) p ≡ refuse n → (r ≡ refused n) × Begun f p (schemaOf schema) rights scopes
+  pub nothing : (n : ℕ) → permissionsOf f (schemaOf schema) p ≡ refuse n → (r ≡ refused n) × FirstItems f p (schemaOf schema) rights scopes

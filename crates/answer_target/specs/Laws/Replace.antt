@@ -33,7 +33,7 @@ use Rattle.tables.specs.Book.{width, entries, targetAt}
 use Rattle.tables.specs.World.{Entries}
 use Rattle.tables.specs.Laws.World.{entry-at}
 use Rattle.directory_lookup.specs.Laws.Names.{partsBy, parts-by}
-use Rattle.answer_target.specs.Target.{Full, partBytes, targetOf, Holds}
+use Rattle.answer_target.specs.Target.{Full, partBytes, targetOf, HoldsName}
 
 -- ---- what was read fits the columns again
 
@@ -156,20 +156,20 @@ module _ (w : ℕ) (s : Bytes) (j : ℕ) where
 -- ---- written part by part
 
 -- the parts before position `j` stand in the buffer, up to `to`; `left` parts are due
-pub record Written (w : ℕ) (s : Bytes) (i n : ℕ) (before : Bytes) (at : ℕ) (out : Bytes) (to j left : ℕ) : Type 0 where
+pub record PartsWritten (w : ℕ) (s : Bytes) (i n : ℕ) (before : Bytes) (at : ℕ) (out : Bytes) (to j left : ℕ) : Type 0 where
   pub so-far : putAt out to (partBytes w s j left) ≡ putAt before at (partBytes w s i n)
   pub next : to + length (partBytes w s j left) ≡ at + length (partBytes w s i n)
   pub room : to + 155 * left ≤ length out
 
-pub written-start : (w : ℕ) (s : Bytes) (i n : ℕ) (before : Bytes) (at : ℕ) → at + 155 * n ≤ length before → Written w s i n before at before at i n
+pub written-start : (w : ℕ) (s : Bytes) (i n : ℕ) (before : Bytes) (at : ℕ) → at + 155 * n ≤ length before → PartsWritten w s i n before at before at i n
 written-start w s i n before at h = record { so-far = refl; next = refl; room = h }
 
-module _ {w : ℕ} {s : Bytes} {i n : ℕ} {before : Bytes} {at : ℕ} {out : Bytes} {to j left : ℕ} (m : Written w s i n before at out to j left) where
+module _ {w : ℕ} {s : Bytes} {i n : ℕ} {before : Bytes} {at : ℕ} {out : Bytes} {to j left : ℕ} (m : PartsWritten w s i n before at out to j left) where
   pub written-room : w ≤ 18 → 0 < left → {x : Line} → takenAt w s j ≡ Taken.Line x → to + (5 * w + 1 + length (bytesOf s x)) ≤ length out
   written-room h l e = let f = taken-fits-line w s j e in omega (arith, h, l, m .room, f .short, bytes-length w s j f)
 
   pub written-on : w ≤ 18 → 0 < left → {x : Line} → takenAt w s j ≡ Taken.Line x → {to₁ : ℕ} {out₁ : Bytes} → to₁ ≡ to + (5 * w + 1 + length (bytesOf s x))
-      → out₁ ≡ putAt out to (lineBytes w (line 9 (x .a) 0 0 (bytesOf s x))) → length out₁ ≡ length out → Written w s i n before at out₁ to₁ (x .next) (left - 1)
+      → out₁ ≡ putAt out to (lineBytes w (line 9 (x .a) 0 0 (bytesOf s x))) → length out₁ ≡ length out → PartsWritten w s i n before at out₁ to₁ (x .next) (left - 1)
   written-on h l {x} e {to₁} {out₁} p q k =
       let f = taken-fits-line w s j e in
       let b = bytes-length w s j f in
@@ -212,7 +212,7 @@ module _ (w : ℕ) (least : 6 ≤ w) (most : w ≤ 18) (d s : Bytes) (place part
       ap length o ∙ put-length after to (partBytes w s next left) (omega (arith, room, t, f, g, k)) ∙ k
 
   pub replaced-holds : to ≡ 0 + length (partBytes w d place parts) → after ≡ putAt before 0 (partBytes w d place parts) → out ≡ putAt after to (partBytes w s next left)
-      → Full w d place parts → Full w s next left → {target : Name} → partsOf parts (linesAt w d place) ≡ target → Holds w out (parts + left) (target ++ partsOf left (linesAt w s next))
+      → Full w d place parts → Full w s next left → {target : Name} → partsOf parts (linesAt w d place) ≡ target → HoldsName w out (parts + left) (target ++ partsOf left (linesAt w s next))
   unfolding partBytes putAt
   replaced-holds t a o l m is =
       let A = partsOf parts (linesAt w d place) in
@@ -227,7 +227,7 @@ module _ (w : ℕ) (least : 6 ≤ w) (most : w ≤ 18) (d s : Bytes) (place part
       ∙ ap (λ (x : Bytes). x ++ rest) (sym (print-append w A B)) in
       let fits : AllFit w (nameLines (A ++ B))
       = subst (AllFit w) (sym (lines-append A B)) (each-append (FitsColumns w) (nameLines A) (nameLines B) (parts-fit w (omega (arith, least)) parts (drop place d)) (parts-fit w (omega (arith, least)) left (drop next s))) in
-      subst (λ (m : Name). Holds w out (parts + left) (m ++ B)) is
+      subst (λ (m : Name). HoldsName w out (parts + left) (m ++ B)) is
       (record {
         parts = ap₂ (λ (n : ℕ) (x : Bytes). partsOf n (lines w x)) (sym count) bytes ∙ read-back w (omega (arith, least)) (A ++ B) rest fits;
         count = count;

@@ -24,7 +24,7 @@ use Rattle.tables.specs.Book.{entries, width}
 use Rattle.tables.specs.World.{Entries, World, Known}
 use Rattle.answer_plan.specs.Plan.{aliasesOf}
 use Rattle.answer_entry.specs.declared.Target.{Target}
-use Rattle.answer_target.specs.Target.{alias, whole, wayDown, endingOf, Full, targetOf, Holds, Resolves}
+use Rattle.answer_target.specs.Target.{alias, whole, wayDown, endingOf, Full, targetOf, HoldsName, Resolves}
 use Rattle.answer_target.specs.Laws.Way.{way-unled, way-led, way-unstopped, way-base}
 use Rattle.answer_target.specs.declared.way.Way.{Way}
 use Rattle.answer_target.specs.declared.way.Way.the-variants as Way
@@ -102,8 +102,8 @@ module _ (σ : Setting) (es : List Stored) (ok : Accepted (σ .schema) es) where
 
 module _ (book sets : List ℕ) (d : Bytes) where
   -- the way down the name of `parts` lines at position `i` of the sheet `s`, as it is told
-  abbrev pub Told : Bytes → ℕ → ℕ → Way → Type 0
-  Told s i parts r = (σ : Setting) (es : List Stored) (p : Bytes) (held : List ℕ) → World σ es d p book held sets
+  abbrev pub WayTold : Bytes → ℕ → ℕ → Way → Type 0
+  WayTold s i parts r = (σ : Setting) (es : List Stored) (p : Bytes) (held : List ℕ) → World σ es d p book held sets
       → endingOf (width book) s r ≡ wayDown σ es (ltb parts 9) 0 0 (partsOf parts (linesAt (width book) s i))
 
   -- some world is known
@@ -111,13 +111,13 @@ module _ (book sets : List ℕ) (d : Bytes) where
   Some = (p : Bytes) × (held : List ℕ) × Known d p book held sets
 
   -- an alias at the beginning of a name of `parts` parts: at most 7 are behind it
-  pub told-few : Some → (s : Bytes) (i parts : ℕ) {r : Way} → Told s i parts r → Full (width book) s i parts → {number left next : ℕ} → r ≡ Way.Alias number left next → left < parts → left ≤ 7
+  pub told-few : Some → (s : Bytes) (i parts : ℕ) {r : Way} → WayTold s i parts r → Full (width book) s i parts → {number left next : ℕ} → r ≡ Way.Alias number left next → left < parts → left ≤ 7
   told-few (p, held, (σ, es, W)) s i parts t f {number} {left} {next} e l =
       let q = ap (endingOf (width book) s) (sym e) ∙ t σ es p held W in
       omega (arith, l, met-few σ es (W .entries .accepted) 0 (partsOf parts (linesAt (width book) s i)) parts f number (partsOf left (linesAt (width book) s next)) (sym q))
 
   -- the target of a name whose way down ends with it, `k` more replacements being allowed
-  pub told-end : (s : Bytes) (i parts : ℕ) {r : Way} → Told s i parts r → Full (width book) s i parts → {t : Target} → r ≡ Way.End t → t .missing ≤ entries book → (k : ℕ)
+  pub told-end : (s : Bytes) (i parts : ℕ) {r : Way} → WayTold s i parts r → Full (width book) s i parts → {t : Target} → r ≡ Way.End t → t .missing ≤ entries book → (k : ℕ)
       → (σ : Setting) (es : List Stored) (p : Bytes) (held : List ℕ) → World σ es d p book held sets
       → Resolves σ es (followed (σ .schema) (aliasesOf σ es) (suc k) (partsOf parts (linesAt (width book) s i))) (Resolved.Target t)
   told-end s i parts told f {t} e l k σ es p held W =
@@ -125,7 +125,7 @@ module _ (book sets : List ℕ) (d : Bytes) where
       (sym (ap (endingOf (width book) s) (sym e) ∙ told σ es p held W))
 
   -- one replacement more
-  pub told-on : (s : Bytes) (i parts : ℕ) {r : Way} → Told s i parts r → Full (width book) s i parts → {number left next : ℕ} → r ≡ Way.Alias number left next → 1 ≤ number → (k : ℕ)
+  pub told-on : (s : Bytes) (i parts : ℕ) {r : Way} → WayTold s i parts r → Full (width book) s i parts → {number left next : ℕ} → r ≡ Way.Alias number left next → 1 ≤ number → (k : ℕ)
       → (σ : Setting) (es : List Stored) (p : Bytes) (held : List ℕ) → World σ es d p book held sets
       → followed (σ .schema) (aliasesOf σ es) (suc k) (partsOf parts (linesAt (width book) s i))
       ≡ followed (σ .schema) (aliasesOf σ es) k (targetOf es number ++ partsOf left (linesAt (width book) s next))
@@ -143,7 +143,7 @@ module _ (book sets : List ℕ) (d : Bytes) where
   -- a name that was replaced stands in the buffer
   abbrev pub Replaced : Bytes → ℕ → ℕ → ℕ → Bytes → ℕ → Type 0
   Replaced s number left next name parts = (σ : Setting) (es : List Stored) (held : List ℕ) → Entries σ es d book held
-      → Holds (width book) name parts (targetOf es number ++ partsOf left (linesAt (width book) s next))
+      → HoldsName (width book) name parts (targetOf es number ++ partsOf left (linesAt (width book) s next))
 
   replaced-full : Some → (s : Bytes) (number left next : ℕ) (name : Bytes) (parts : ℕ) → Replaced s number left next name parts → Full (width book) name 0 parts
   replaced-full (p, held, (σ, es, W)) s number left next name parts h = let g = h σ es held (W .entries) in ap length (g .parts) ∙ g .count
@@ -154,7 +154,7 @@ module _ (book sets : List ℕ) (d : Bytes) where
     leads = λ σ es p held W. ap (followed (σ .schema) (aliasesOf σ es) 8) (h σ es held (W .entries) .parts);
   }
 
-  module _ {s : Bytes} {number left next : ℕ} {name : Bytes} {parts more : ℕ} (g : Following s number left next name parts more) {r : Way} (told : Told name 0 parts r) where
+  module _ {s : Bytes} {number left next : ℕ} {name : Bytes} {parts more : ℕ} (g : Following s number left next name parts more) {r : Way} (told : WayTold name 0 parts r) where
     pub following-end : {t : Target} → r ≡ Way.End t → t .missing ≤ entries book → (σ : Setting) (es : List Stored) (p : Bytes) (held : List ℕ) → World σ es d p book held sets
         → Resolves σ es (followed (σ .schema) (aliasesOf σ es) 8 (targetOf es number ++ partsOf left (linesAt (width book) s next))) (Resolved.Target t)
     following-end {t} e l σ es p held W = subst (λ (o : Option Name). Resolves σ es o (Resolved.Target t)) (g .leads σ es p held W) (told-end name 0 parts told (g .full) e l more σ es p held W)

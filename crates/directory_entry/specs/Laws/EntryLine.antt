@@ -57,7 +57,7 @@ pub record EntriesCounted (s : Bytes) (ks depths : List ℕ) (count : ℕ) (lack
   pub named : Named s ks es ms
 
 -- an entry line that was taken
-pub record EntryTaken (top : ℕ) (s : Bytes) (ks depths table : List ℕ) (count : ℕ) (x : Line) (r : Ruling) : Type 0 where
+pub record EntryMarked (top : ℕ) (s : Bytes) (ks depths table : List ℕ) (count : ℕ) (x : Line) (r : Ruling) : Type 0 where
   pub kind : x .kind ≡ 2
   pub form : columnsFit top x ≡ true
   pub parent : x .a ≤ count
@@ -71,7 +71,7 @@ abbrev pub EntryOutcome : ℕ → Bytes → List ℕ → List ℕ → List ℕ �
 EntryOutcome top s ks depths table count complete current x r =
     let es = entriesOf (reading ks complete current) in
     Refused top (reading ks complete current) (lineOf s x) r
-    ⊎ (EntryTaken top s ks depths table count x r × (step top (reading ks complete current) (lineOf s x) ≡ accept (reading ks es (some (newEntry es (lineOf s x))))))
+    ⊎ (EntryMarked top s ks depths table count x r × (step top (reading ks complete current) (lineOf s x) ≡ accept (reading ks es (some (newEntry es (lineOf s x))))))
 
 -- the line, where its form is known
 module _ (top : ℕ) (s : Bytes) (ks : List ℕ) (complete : List Stored) (current : Option Stored) (x : Line) (formed : columnsFit top x ≡ inForm (directoryForms top) (lineOf s x)) (form : columnsFit top x ≡ true) where

@@ -70,21 +70,21 @@ module _ {w v : ℕ} {s : Bytes} {n at : ℕ} (m : Measured w v s n at) where
 -- ---- written line by line
 
 -- what was `before` in the buffer has the lines before `at` in its front
-pub record Written (w v : ℕ) (s before out : Bytes) (to at : ℕ) : Type 0 where
+pub record LinesWritten (w v : ℕ) (s before out : Bytes) (to at : ℕ) : Type 0 where
   pub so-far : putAt out to (rewrittenFrom w v s at) ≡ putAt before 0 (rewrittenFrom w v s 0)
   pub room : to + length (rewrittenFrom w v s at) ≤ length out
   pub same : length out ≡ length before
   pub within : at ≤ length s
 
-pub written-start : (w v : ℕ) (s out : Bytes) → length (rewrittenFrom w v s 0) ≤ length out → Written w v s out out 0 0
+pub written-start : (w v : ℕ) (s out : Bytes) → length (rewrittenFrom w v s 0) ≤ length out → LinesWritten w v s out out 0 0
 written-start w v s out h = record { so-far = refl; room = omega (arith, h); same = refl; within = omega arith }
 
-module _ {w v : ℕ} {s before out : Bytes} {to at : ℕ} (m : Written w v s before out to at) where
+module _ {w v : ℕ} {s before out : Bytes} {to at : ℕ} (m : LinesWritten w v s before out to at) where
   pub written-room : {x : Line} → takenAt w s at ≡ Taken.Line x → to + (5 * v + 1 + length (bytesOf s x)) ≤ length out
   written-room e = let b = bytes-length w s at (taken-fits-line w s at e) in omega (arith, m .room, rewritten-length w v s at e, b)
 
   pub written-on : {x : Line} {next : ℕ} {after : Bytes} → takenAt w s at ≡ Taken.Line x → next ≡ to + (5 * v + 1 + length (bytesOf s x))
-      → after ≡ putAt out to (lineBytes v (lineOf s x)) → length after ≡ length out → Written w v s before after next (x .next)
+      → after ≡ putAt out to (lineBytes v (lineOf s x)) → length after ≡ length out → LinesWritten w v s before after next (x .next)
   written-on {x} {next} e n p l =
       let f = taken-fits-line w s at e in
       let b = bytes-length w s at f in

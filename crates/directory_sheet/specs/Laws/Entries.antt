@@ -40,7 +40,7 @@ use Rattle.directory_ruling.specs.Rulings.{Ready, Decides, markOf, reading}
 use Rattle.directory_ruling.specs.Laws.Rulings.{line-within, ready-room, ready-more}
 use Rattle.directory_ruling.specs.declared.Ruling.{Ruling}
 use Rattle.directory_entry.specs.EntryLine.{depthCount, levelOf, entryRuling}
-use Rattle.directory_entry.specs.Laws.EntryLine.{Elsewhere, EntriesCounted, EntryTaken, EntryOutcome, entry-outcome}
+use Rattle.directory_entry.specs.Laws.EntryLine.{Elsewhere, EntriesCounted, EntryMarked, EntryOutcome, entry-outcome}
 use Rattle.directory_values.specs.declared.Current.{Current}
 use Rattle.directory_values.specs.declared.ValueLines.{ValueLines}
 use Rattle.directory_values.specs.Values.{Begun, ValuesAsked, ValuesEnded, ValuesJudged, ValuesAnswered}
@@ -239,11 +239,11 @@ module _ {f : Format} {s : Bytes} {ks : List ℕ} {notes : Notes} {depths table 
     abbrev e : Current
     e = record { number = notes .count + 1; line = x; first = getD (notes .first) (notes .count) 0 }
 
-    taking : EntryTaken (f .top) s ks depths table (notes .count) x r × (step (f .top) (reading ks complete current) (lineOf s x) ≡ accept (reading ks es (some d)))
+    taking : EntryMarked (f .top) s ks depths table (notes .count) x r × (step (f .top) (reading ks complete current) (lineOf s x) ≡ accept (reading ks es (some d)))
     taking = go outcome
       where
         go : EntryOutcome (f .top) s ks depths table (notes .count) complete current x r
-            → EntryTaken (f .top) s ks depths table (notes .count) x r × (step (f .top) (reading ks complete current) (lineOf s x) ≡ accept (reading ks es (some d)))
+            → EntryMarked (f .top) s ks depths table (notes .count) x r × (step (f .top) (reading ks complete current) (lineOf s x) ≡ accept (reading ks es (some d)))
         go (inl q) = absurd (q .not z)
         go (inr q) = q
 

@@ -29,7 +29,7 @@ use Rattle.directory_values.specs.ValueLine.{valueRuling, broughtBy}
 -- ---- what the rules decide
 
 -- a value line that was taken
-pub record ValueTaken (s : Bytes) (ks table : List ℕ) (number last : ℕ) (x : Line) (r : Ruling) : Type 0 where
+pub record ValueMarked (s : Bytes) (ks table : List ℕ) (number last : ℕ) (x : Line) (r : Ruling) : Type 0 where
   pub rises : last ≤ x .a
   pub fit : allowed (schemaOf ks) (x .a) (bytesOf s x) ≡ true
   pub ruling : r ≡ marking s ks table (ownerOf number) (x .a) (x .place) (x .length)
@@ -38,7 +38,7 @@ pub record ValueTaken (s : Bytes) (ks table : List ℕ) (number last : ℕ) (x :
 abbrev pub ValueOutcome : ℕ → Bytes → List ℕ → List ℕ → ℕ → ℕ → List Stored → Stored → List Part → Line → Ruling → Type 0
 ValueOutcome top s ks table number last complete d vs x r =
     Refused top (reading ks complete (some (withValues d vs))) (lineOf s x) r
-    ⊎ (ValueTaken s ks table number last x r
+    ⊎ (ValueMarked s ks table number last x r
     × (step top (reading ks complete (some (withValues d vs))) (lineOf s x) ≡ accept (reading ks complete (some (withValues d (vs ++ (broughtBy s x ∷ [])))))))
 
 pub value-outcome : (top : ℕ) (s : Bytes) (ks table : List ℕ) (number last : ℕ) (complete : List Stored) (d : Stored) (vs : List Part) (ms : List Mark)

@@ -31,7 +31,7 @@ use Rattle.directory_ruling.specs.Rulings.{markOf, reading}
 use Rattle.directory_ruling.specs.Laws.Rulings.{line-within, ready-room, ready-more}
 use Rattle.directory_ruling.specs.declared.Ruling.{Ruling}
 use Rattle.directory_values.specs.ValueLine.{broughtBy, valueRuling}
-use Rattle.directory_values.specs.Laws.ValueLine.{ValueTaken, ValueOutcome, value-outcome}
+use Rattle.directory_values.specs.Laws.ValueLine.{ValueMarked, ValueOutcome, value-outcome}
 use Rattle.directory_values.specs.Rows.{written}
 use Rattle.directory_values.specs.Laws.Rows.{rows-start, rows-more}
 use Rattle.directory_values.specs.declared.Current.{Current}
@@ -84,12 +84,12 @@ module _ {f : Format} {s : Bytes} {ks table₀ before table held : List ℕ} {n�
       go (inr q) = absurd (z (ap (λ (y : Ruling). y .refusal) (is ∙ q .0 .ruling)))
 
   -- a line that was taken
-  taking : r .refusal ≡ 0 → ValueTaken s ks table (e .number) last x r
+  taking : r .refusal ≡ 0 → ValueMarked s ks table (e .number) last x r
       × (step (f .top) (reading ks complete (some (withValues d vs))) (lineOf s x) ≡ accept (reading ks complete (some (withValues d (vs ++ (broughtBy s x ∷ []))))))
   taking z = go outcome
     where
       go : ValueOutcome (f .top) s ks table (e .number) last complete d vs x (valueRuling (f .top) (e .number) last x s ks table ms)
-          → ValueTaken s ks table (e .number) last x r
+          → ValueMarked s ks table (e .number) last x r
           × (step (f .top) (reading ks complete (some (withValues d vs))) (lineOf s x) ≡ accept (reading ks complete (some (withValues d (vs ++ (broughtBy s x ∷ []))))))
       go (inl q) = absurd (q .not (ap (λ (y : Ruling). y .refusal) (sym is) ∙ z))
       go (inr q) = (record { rises = q .0 .rises; fit = q .0 .fit; ruling = is ∙ q .0 .ruling }, q .1)

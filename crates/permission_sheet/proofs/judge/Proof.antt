@@ -5,7 +5,7 @@ use lib.ListN.{length}
 use denote.Ref.{now}
 use Rattle.rules.specs.Places.{schemaOf}
 use Rattle.sheet_due.specs.Lines.{misplacedBy}
-use Rattle.permission_sheet.specs.Laws.ItemsRead.{ItemsRead, Ahead, reading-start, reading-lengths, reading-on, item-small, item-value, item-less, judged-long, judged-over, judged-item, judged-end}
+use Rattle.permission_sheet.specs.Laws.ItemsRead.{ItemsRead, ItemAhead, reading-start, reading-lengths, reading-on, item-small, item-value, item-less, judged-long, judged-over, judged-item, judged-end}
 use borrow.Author.Needs.{needs}
 use Rattle.permission_sheet.proofs.judge.Statement.{statement}
 use Rattle.permission_sheet.proofs.judge.Tie as tie
@@ -18,7 +18,7 @@ abbrev μ-loop : tie.MeasureT-loop
 
 -- the item that was read
 ahead : (c : tie.After-item-at Inv-loop μ-loop) → let A = c .before .before .before .before .before .before .before .args in let L = c .before .before .before .loop in
-    Ahead (A .f) (now (A .p)) (schemaOf (now (A .schema))) (L .count) (L .at) (c .item-at .result)
+    ItemAhead (A .f) (now (A .p)) (schemaOf (now (A .schema))) (L .count) (L .at) (c .item-at .result)
 ahead c = record { inside = c .before .before .loop-test .taken; room = c .before .if2 .left; is = c .item-at .ensures }
 
 returns : tie.Need-returns Inv-loop μ-loop

@@ -15,7 +15,7 @@ use Rattle.rules.specs.Judge.{Verdict, accept, refuse, refusalOf}
 use Rattle.rules.specs.Permission.{Item, permissionGrammar, item, items, permissionsOf}
 use Rattle.rules.specs.Places.{linesAt, partsOf, schemaOf}
 use Rattle.rules.specs.Laws.Judge.{refused-not, accepted-is}
-use Rattle.permission_sheet.specs.Noted.{PermissionsJudged, PermissionsNoted, Table, Begun, ItemRow, blank, refused}
+use Rattle.permission_sheet.specs.Noted.{PermissionsJudged, PermissionsNoted, Table, FirstItems, ItemRow, blank, refused}
 use Rattle.rules.specs.Columns.{permissionForms}
 use Rattle.sheet_due.specs.Lines.{seenAt, misplacedBy, noLine}
 use Rattle.sheet_due.specs.Laws.Lines.{after, misplaced-at, misplaced-some}
@@ -71,7 +71,7 @@ reading-start f p S = record {
 }
 
 -- one item more was read, `i`: there are bytes for it, and room
-pub record Ahead (f : Format) (p : Bytes) (S : Schema) (count at : ℕ) (i : ItemLines) : Type 0 where
+pub record ItemAhead (f : Format) (p : Bytes) (S : Schema) (count at : ℕ) (i : ItemLines) : Type 0 where
   pub inside : at < length p
   pub room : count < 256
   pub is : i ≡ itemLines f p S at
@@ -86,7 +86,7 @@ module _ {f : Format} {p : Bytes} {S : Schema} {count at : ℕ} {rights scopes :
     ap length (s .scopes-are) ∙ filled-length scopesRow 7 scopes-long 256 (s .its) (s .few),
   )
 
-  module _ {i : ItemLines} (n : Ahead f p S count at i) where
+  module _ {i : ItemLines} (n : ItemAhead f p S count at i) where
     -- the items from here, where one more may follow
     items-on : items (f .top) S (256 - length (s .its)) (map (itemOf w p) (s .its)) (linesAt w p at)
         ≡ item (f .top) S (linesAt w p at) (λ i rest. items (f .top) S (256 - (length (s .its) + 1)) (map (itemOf w p) (s .its) ++ (i ∷ [])) rest)
@@ -180,13 +180,13 @@ module _ {f : Format} {p : Bytes} {S : Schema} {count at : ℕ} {rights scopes :
       let n : length (map (itemOf w p) (s .its)) ≡ length (s .its) = length-map (s .its) (itemOf w p) in
       record { refusal = refl; count = s .counted ∙ sym n; table = reading-table; types = λ k l. rw (item-at k) (reading-types k (rw n at l)) }
 
-  reading-begun : Begun f p S rights scopes
+  reading-begun : FirstItems f p S rights scopes
   reading-begun = record { first = map (itemOf w p) (s .its); at = at; from = let n : length (map (itemOf w p) (s .its)) ≡ length (s .its) = length-map (s .its) (itemOf w p) in rw n (s .from); table = reading-table }
 
 -- ---- what is given
 
 module _ (f : Format) (p : Bytes) (schema : List ℕ) where
-  judged-refused : {n : ℕ} {rights scopes : List ℕ} → Begun f p (schemaOf schema) rights scopes → permissionsOf f (schemaOf schema) p ≡ refuse n → (n ≡ 0 → ⊥) → PermissionsJudged f p schema (refused n) rights scopes
+  judged-refused : {n : ℕ} {rights scopes : List ℕ} → FirstItems f p (schemaOf schema) rights scopes → permissionsOf f (schemaOf schema) p ≡ refuse n → (n ≡ 0 → ⊥) → PermissionsJudged f p schema (refused n) rights scopes
   judged-refused {n} b e z = record {
     refusal = sym (ap refusalOf e);
     accepted = λ q. absurd (z q);
@@ -222,5 +222,5 @@ module _ (f : Format) (p : Bytes) (schema : List ℕ) where
       judged-over g l e = rw e (judged-refused (reading-begun s) (by-items (items-over s g l)) (misplaced-some 10 (seenAt (permissionForms (f .top)) (f .width) p at)))
 
       -- at an item that is refused
-      pub judged-item : {i : ItemLines} → Ahead f p (schemaOf schema) count at i → (i .refusal ≡ 0 → ⊥) → PermissionsJudged f p schema (refused (i .refusal)) rights scopes
+      pub judged-item : {i : ItemLines} → ItemAhead f p (schemaOf schema) count at i → (i .refusal ≡ 0 → ⊥) → PermissionsJudged f p schema (refused (i .refusal)) rights scopes
       judged-item n z = judged-refused (reading-begun s) (by-items (item-refused s n z)) z

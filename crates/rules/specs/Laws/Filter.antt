@@ -192,11 +192,11 @@ module _ {A : Type 0} (g : Grammar) (a : A) where
       (r .0, subst (λ (z : Sheet). next (piecesOf (suc n) z) (r .0) (afterLines (suc n) z) ≡ accept a) (sym (t .3)) (r .1))
 
   -- `one` reads a filter whose truth is told by `tell`
-  abbrev Tells : (ℕ → Sheet → (Filter → ℕ → Sheet → Verdict A) → Verdict A) → Edition → (Assertion → Truth) → (Sheet → Evaluated) → Type 0
-  Tells one ed m tell = (left : ℕ) (s : Sheet) (next : Filter → ℕ → Sheet → Verdict A) → one left s next ≡ accept a
+  abbrev ReadsTruth : (ℕ → Sheet → (Filter → ℕ → Sheet → Verdict A) → Verdict A) → Edition → (Assertion → Truth) → (Sheet → Evaluated) → Type 0
+  ReadsTruth one ed m tell = (left : ℕ) (s : Sheet) (next : Filter → ℕ → Sheet → Verdict A) → one left s next ≡ accept a
       → (f : Filter) × (l : ℕ) × (next f l (tell s .rest) ≡ accept a) × (tell s .truth ≡ evaluate ed m f)
 
-  module _ (ed : Edition) (m : Assertion → Truth) (one : ℕ → Sheet → (Filter → ℕ → Sheet → Verdict A) → Verdict A) (tell : Sheet → Evaluated) (tells : Tells one ed m tell) where
+  module _ (ed : Edition) (m : Assertion → Truth) (one : ℕ → Sheet → (Filter → ℕ → Sheet → Verdict A) → Verdict A) (tell : Sheet → Evaluated) (tells : ReadsTruth one ed m tell) where
     -- parts read one after the other, by any joining
     module _ (join : Truth → Truth → Truth) (joined : List Truth → Truth) (unit : (t : Truth) → t ≡ join t (joined []))
         (step : (t : Truth) (ts : List Truth) → joined (t ∷ ts) ≡ join t (joined ts)) (assoc : (t u v : Truth) → join (join t u) v ≡ join t (join u v)) where
@@ -261,7 +261,7 @@ module _ {A : Type 0} (g : Grammar) (a : A) where
         go false false false false false false false false e = absurd (refused-not (g .refusals + 3) a e)
 
   -- a filter that was read has the truth that its lines evaluate to
-  pub filter-read : (ed : Edition) (m : Assertion → Truth) (depth : ℕ) → Tells (filter g depth) ed m (evaluateLines ed m depth)
+  pub filter-read : (ed : Edition) (m : Assertion → Truth) (depth : ℕ) → ReadsTruth (filter g depth) ed m (evaluateLines ed m depth)
   unfolding filter evaluateLines evaluateSheet
   filter-read ed m zero left s next e = absurd (misplaced-not g s a e)
   filter-read ed m (suc depth) left s next e =

@@ -33,29 +33,29 @@ use Rattle.rules.specs.Laws.AnswerLow.{answer-to-low}
 
 -- ---- two verdicts
 
-abbrev Alike : Verdict Bytes → Verdict Bytes → Type 0
-Alike v w = Fitted v → Fitted w → SameLines v w
+abbrev LinesAlike : Verdict Bytes → Verdict Bytes → Type 0
+LinesAlike v w = Fitted v → Fitted w → SameLines v w
 
 module _ (n : ℕ) (length : any (eqb n) (1 ∷ 11 ∷ 21 ∷ 31 ∷ 33 ∷ []) ≡ true) where
   -- after a test of length, which may come out differently
-  tested : (b c : Bool) (v w : Verdict Bytes) → Alike v w → Alike (refuseIf b n v) (refuseIf c n w)
+  tested : (b c : Bool) (v w : Verdict Bytes) → LinesAlike v w → LinesAlike (refuseIf b n v) (refuseIf c n w)
   tested true c v w h p q = absurd (true≢false (sym length ∙ p))
   tested false true v w h p q = absurd (true≢false (sym length ∙ q))
   tested false false v w h p q = h p q
 
   -- after a sheet that is judged alike, but for its length
-  judged : {A : Type 0} (b c : Bool) (v w : Verdict A) → v ≡ w → (f g : A → Verdict Bytes) → ((a : A) → refuseIf b n v ≡ accept a → Alike (f a) (g a))
-      → Alike (then (refuseIf b n v) f) (then (refuseIf c n w) g)
-  judged {A} b c v w e f g h = subst (λ (u : Verdict A). Alike (then (refuseIf b n v) f) (then (refuseIf c n u) g)) e (go b c v h)
+  judged : {A : Type 0} (b c : Bool) (v w : Verdict A) → v ≡ w → (f g : A → Verdict Bytes) → ((a : A) → refuseIf b n v ≡ accept a → LinesAlike (f a) (g a))
+      → LinesAlike (then (refuseIf b n v) f) (then (refuseIf c n w) g)
+  judged {A} b c v w e f g h = subst (λ (u : Verdict A). LinesAlike (then (refuseIf b n v) f) (then (refuseIf c n u) g)) e (go b c v h)
     where
-      go : (b c : Bool) (v : Verdict A) → ((a : A) → refuseIf b n v ≡ accept a → Alike (f a) (g a)) → Alike (then (refuseIf b n v) f) (then (refuseIf c n v) g)
+      go : (b c : Bool) (v : Verdict A) → ((a : A) → refuseIf b n v ≡ accept a → LinesAlike (f a) (g a)) → LinesAlike (then (refuseIf b n v) f) (then (refuseIf c n v) g)
       go true c v h p q = absurd (true≢false (sym length ∙ p))
       go false true v h p q = absurd (true≢false (sym length ∙ q))
       go false false (accept a) h p q = h a refl p q
       go false false (refuse m) h p q = refl
 
 -- after the same verdict
-followed : {A : Type 0} (v : Verdict A) (f g : A → Verdict Bytes) → ((a : A) → Alike (f a) (g a)) → Alike (then v f) (then v g)
+followed : {A : Type 0} (v : Verdict A) (f g : A → Verdict Bytes) → ((a : A) → LinesAlike (f a) (g a)) → LinesAlike (then v f) (then v g)
 followed (accept a) f g h = h a
 followed (refuse n) f g h = λ p q. refl
 
@@ -124,7 +124,7 @@ module _ (k : Limits) (x : Written) where
       then-then (refuseIf (ltb 8192 (length (print (f .width) (x .request)))) 21 (request (requestGrammar (f .top)) (lines (f .width) (print (f .width) (x .request))))) _ _))
 
   module _ (room₁ room₂ : ℕ) (md : Each Modest (x .directory)) (mp : Each Modest (x .permissions)) (mr : Each Modest (x .request)) where
-    respond-alike : (g : Ground) (r : Request) → directoryOf narrow (print 6 (x .directory)) ≡ accept (g .directory) → Alike (respond narrow g r room₁) (respond wide g r room₂)
+    respond-alike : (g : Ground) (r : Request) → directoryOf narrow (print 6 (x .directory)) ≡ accept (g .directory) → LinesAlike (respond narrow g r room₁) (respond wide g r room₂)
     unfolding respond fitting
     respond-alike g r e =
         let σ : Setting = settingOf (g .directory) (g .items) (r .requester) in
@@ -133,7 +133,7 @@ module _ (k : Limits) (x : Written) where
         (answer-to-low σ (entries (g .directory)) (entries-low narrow (print 6 (x .directory)) (g .directory) e (omega arith) (omega arith)) (aliases (g .directory)) (r .base) (r .operation)) in
         tested 31 refl (ltb room₁ (length (print 6 ls))) (ltb room₂ (length (print 9 ls))) (accept (print 6 ls)) (accept (print 9 ls)) (λ p q. (ls, refl, refl, b .0, b .1))
 
-    sheets-alike : Alike (then (directoryOf narrow (print 6 (x .directory))) (permitted narrow room₁)) (then (directoryOf wide (print 9 (x .directory))) (permitted wide room₂))
+    sheets-alike : LinesAlike (then (directoryOf narrow (print 6 (x .directory))) (permitted narrow room₁)) (then (directoryOf wide (print 9 (x .directory))) (permitted wide room₂))
     unfolding directoryOf permissionsOf
     sheets-alike =
         judged 1 refl (ltb 65536 (length (print 6 (x .directory)))) (ltb 65536 (length (print 9 (x .directory)))) _ _
@@ -147,10 +147,10 @@ module _ (k : Limits) (x : Written) where
         _ _ (λ r j.
         followed (orderly (d .schema) r) (replied narrow room₁ d is) (replied wide room₂ d is) (λ r. respond-alike (record { directory = d; items = is }) (within k r) e))))
 
-    judged-alike : Alike (judgedIn narrow room₁) (judgedIn wide room₂)
+    judged-alike : LinesAlike (judgedIn narrow room₁) (judgedIn wide room₂)
     judged-alike =
-        subst (λ (v : Verdict Bytes). Alike v (judgedIn wide room₂)) (sym (judged-is narrow room₁))
-        (subst (Alike (then (directoryOf narrow (print 6 (x .directory))) (permitted narrow room₁))) (sym (judged-is wide room₂)) sheets-alike)
+        subst (λ (v : Verdict Bytes). LinesAlike v (judgedIn wide room₂)) (sym (judged-is narrow room₁))
+        (subst (LinesAlike (then (directoryOf narrow (print 6 (x .directory))) (permitted narrow room₁))) (sym (judged-is wide room₂)) sheets-alike)
 
 pub served-alike : FormsAlike
 unfolding serveAt

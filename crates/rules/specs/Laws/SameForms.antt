@@ -66,28 +66,28 @@ module _ (F G : List Form) (sound : Line → Bool) (n : ℕ) where
   abbrev h : Grammar
   h = record { forms = G; sound = sound; refusals = n }
 
-  abbrev Rows : Sheet → Type 0
-  Rows s = AllRows (Same F G) s
+  abbrev AllSame : Sheet → Type 0
+  AllSame s = AllRows (Same F G) s
 
   module _ {A : Type 0} where
     -- what follows comes to the same
     abbrev Next : {X : Type 0} → (X → Sheet → Verdict A) → (X → Sheet → Verdict A) → Type 0
-    Next {X} p q = (x : X) (s : Sheet) → Rows s → p x s ≡ q x s
+    Next {X} p q = (x : X) (s : Sheet) → AllSame s → p x s ≡ q x s
 
-    misplaced-same : (s : Sheet) → Rows s → misplaced {A = A} g s ≡ misplaced {A = A} h s
+    misplaced-same : (s : Sheet) → AllSame s → misplaced {A = A} g s ≡ misplaced {A = A} h s
     unfolding misplaced
     misplaced-same end k = refl
     misplaced-same broken k = refl
     misplaced-same (row x rest) k = ap (λ (b : Bool). refuse (cond b (n + 3) (n + 2))) (k .0)
 
-    due-same : (kind : ℕ) (s : Sheet) → Rows s → (p q : Line → Sheet → Verdict A) → Next p q → due g kind s p ≡ due h kind s q
+    due-same : (kind : ℕ) (s : Sheet) → AllSame s → (p q : Line → Sheet → Verdict A) → Next p q → due g kind s p ≡ due h kind s q
     unfolding due
     due-same kind end k p q e = misplaced-same end tt
     due-same kind broken k p q e = misplaced-same broken tt
     due-same kind (row x rest) k p q e =
         ap₂ (λ (b : Bool) (v : Verdict A). refuseIf (not b) (n + 2) (refuseIf (not (eqb (x .kind) kind)) (n + 3) (refuseIf (not (sound x)) (n + 4) v))) (k .0) (e x rest (k .1))
 
-    due-lines-same : (kind m : ℕ) (s : Sheet) → Rows s → (p q : List Line → Sheet → Verdict A) → Next p q → dueLines g kind m s p ≡ dueLines h kind m s q
+    due-lines-same : (kind m : ℕ) (s : Sheet) → AllSame s → (p q : List Line → Sheet → Verdict A) → Next p q → dueLines g kind m s p ≡ dueLines h kind m s q
     unfolding dueLines
     due-lines-same kind zero s k p q e = e [] s k
     due-lines-same kind (suc m) s k p q e = due-same kind s k _ _ (λ x s k. due-lines-same kind m s k _ _ (λ xs s k. e (x ∷ xs) s k))
@@ -95,16 +95,16 @@ module _ (F G : List Form) (sound : Line → Bool) (n : ℕ) where
     -- ---- filters
 
     abbrev NextLeft : {X : Type 0} → (X → ℕ → Sheet → Verdict A) → (X → ℕ → Sheet → Verdict A) → Type 0
-    NextLeft {X} p q = (x : X) (left : ℕ) (s : Sheet) → Rows s → p x left s ≡ q x left s
+    NextLeft {X} p q = (x : X) (left : ℕ) (s : Sheet) → AllSame s → p x left s ≡ q x left s
 
-    filter-line-same : (left : ℕ) (s : Sheet) → Rows s → (p q : ℕ → Line → Sheet → Verdict A) → ((left : ℕ) → Next (p left) (q left)) → filterLine g left s p ≡ filterLine h left s q
+    filter-line-same : (left : ℕ) (s : Sheet) → AllSame s → (p q : ℕ → Line → Sheet → Verdict A) → ((left : ℕ) → Next (p left) (q left)) → filterLine g left s p ≡ filterLine h left s q
     unfolding filterLine
     filter-line-same zero s k p q e = misplaced-same s k
     filter-line-same (suc left) end k p q e = misplaced-same end tt
     filter-line-same (suc left) broken k p q e = misplaced-same broken tt
     filter-line-same (suc left) (row x rest) k p q e = ap₂ (λ (b : Bool) (v : Verdict A). refuseIf (not b) (n + 2) v) (k .0) (e left x rest (k .1))
 
-    pieces-same : (first : Bool) (m left : ℕ) (s : Sheet) → Rows s → (p q : List Piece → ℕ → Sheet → Verdict A) → NextLeft p q → pieces g first m left s p ≡ pieces h first m left s q
+    pieces-same : (first : Bool) (m left : ℕ) (s : Sheet) → AllSame s → (p q : List Piece → ℕ → Sheet → Verdict A) → NextLeft p q → pieces g first m left s p ≡ pieces h first m left s q
     unfolding pieces
     pieces-same first zero left s k p q e = e [] left s k
     pieces-same first (suc m) left s k p q e =
@@ -113,15 +113,15 @@ module _ (F G : List Form) (sound : Line → Bool) (n : ℕ) where
         (pieces-same false m left s k _ _ (λ ps left s k. e _ left s k)))
 
     abbrev Readers : Reader A → Reader A → Type 0
-    Readers r t = (left : ℕ) (s : Sheet) → Rows s → (p q : Filter → ℕ → Sheet → Verdict A) → NextLeft p q → r left s p ≡ t left s q
+    Readers r t = (left : ℕ) (s : Sheet) → AllSame s → (p q : Filter → ℕ → Sheet → Verdict A) → NextLeft p q → r left s p ≡ t left s q
 
     module _ (r t : Reader A) (same : Readers r t) where
-      filters-same : (m left : ℕ) (s : Sheet) → Rows s → (p q : Filters → ℕ → Sheet → Verdict A) → NextLeft p q → filters r m left s p ≡ filters t m left s q
+      filters-same : (m left : ℕ) (s : Sheet) → AllSame s → (p q : Filters → ℕ → Sheet → Verdict A) → NextLeft p q → filters r m left s p ≡ filters t m left s q
       unfolding filters
       filters-same zero left s k p q e = e none left s k
       filters-same (suc m) left s k p q e = same left s k _ _ (λ f left s k. filters-same m left s k _ _ (λ fs left s k. e (more f fs) left s k))
 
-      filter-of-same : (left : ℕ) (x : Line) (s : Sheet) → Rows s → (p q : Filter → ℕ → Sheet → Verdict A) → NextLeft p q → filterOf g r p left x s ≡ filterOf h t q left x s
+      filter-of-same : (left : ℕ) (x : Line) (s : Sheet) → AllSame s → (p q : Filter → ℕ → Sheet → Verdict A) → NextLeft p q → filterOf g r p left x s ≡ filterOf h t q left x s
       unfolding filterOf
       filter-of-same left x s k p q e =
           cond-same (eqb (x .kind) 20) (filters-same (x .a) left s k _ _ (λ fs left s k. e (and fs) left s k))
@@ -141,15 +141,15 @@ module _ (F G : List Form) (sound : Line → Bool) (n : ℕ) where
 
     -- ---- the operation of a request
 
-    selection-same : (s : Sheet) → Rows s → (p q : Selection → Sheet → Verdict A) → Next p q → selection g s p ≡ selection h s q
+    selection-same : (s : Sheet) → AllSame s → (p q : Selection → Sheet → Verdict A) → Next p q → selection g s p ≡ selection h s q
     unfolding selection
     selection-same s k p q e = due-same 12 s k _ _ (λ x s k. due-lines-same 13 (x .b) s k _ _ (λ ts s k. e _ s k))
 
-    ordering-same : (s : Sheet) → Rows s → (p q : Option Ordering → Sheet → Verdict A) → Next p q → ordering g s p ≡ ordering h s q
+    ordering-same : (s : Sheet) → AllSame s → (p q : Option Ordering → Sheet → Verdict A) → Next p q → ordering g s p ≡ ordering h s q
     unfolding ordering
     ordering-same s k p q e = cond-same (follows 16 s) (due-same 16 s k _ _ (λ x s k. e _ s k)) (e _ s k)
 
-    operation-same : (ed : Edition) (x : Line) (s : Sheet) → Rows s → (p q : Operation → Sheet → Verdict A) → Next p q → operation g ed x s p ≡ operation h ed x s q
+    operation-same : (ed : Edition) (x : Line) (s : Sheet) → AllSame s → (p q : Operation → Sheet → Verdict A) → Next p q → operation g ed x s p ≡ operation h ed x s q
     unfolding operation
     operation-same ed x s k p q e =
         cond-same (eqb (x .a) 1) (selection-same s k _ _ (λ r s k. e (read r) s k))
@@ -157,7 +157,7 @@ module _ (F G : List Form) (sound : Line → Bool) (n : ℕ) where
         (cond-same (eqb (x .a) 3) (e _ s k)
         (selection-same s k _ _ (λ r s k. ordering-same s k _ _ (λ o s k. due-same 15 s k _ _ (λ y s k. filter-same 16 128 s k _ _ (λ f left s k. e _ s k)))))))
 
-  pub request-same : (s : Sheet) → Rows s → request g s ≡ request h s
+  pub request-same : (s : Sheet) → AllSame s → request g s ≡ request h s
   unfolding request
   request-same s k =
       due-same 10 s k _ _ (λ x s k. due-lines-same 9 (x .b) s k _ _ (λ name s k. due-same 11 s k _ _ (λ y s k. due-lines-same 9 (y .b) s k _ _ (λ base s k.

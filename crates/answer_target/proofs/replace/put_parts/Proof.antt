@@ -2,7 +2,7 @@ use native.Mathlib.Omega.{arith}
 use mathlib.Core.Path.{sym, _∙_}
 use denote.Ref.{now}
 use Rattle.sheet_line.specs.Laws.{taken-fits-line}
-use Rattle.answer_target.specs.Laws.Replace.{Written, written-start, written-room, written-on, written-done, bytes-none, bytes-broken, bytes-end}
+use Rattle.answer_target.specs.Laws.Replace.{PartsWritten, written-start, written-room, written-on, written-done, bytes-none, bytes-broken, bytes-end}
 use borrow.Author.Needs.{needs}
 use Rattle.answer_target.proofs.replace.put_parts.Statement.{statement}
 use Rattle.answer_target.proofs.replace.put_parts.Tie as tie
@@ -13,7 +13,7 @@ use Rattle.sheet_line.proofs.take.Reads as take-reads
 use Rattle.sheet_write.proofs.put_line.Reads as put-line-reads
 
 abbrev Inv-loop : tie.InvT-loop
-Inv-loop name₀ at w s i n to₀ j₀ left₀ name to j left = Written w s i n name₀ at name to j left
+Inv-loop name₀ at w s i n to₀ j₀ left₀ name to j left = PartsWritten w s i n name₀ at name to j left
 
 abbrev μ-loop : tie.MeasureT-loop
 μ-loop name₀ at w s i n to₀ j₀ left₀ name to j left = left

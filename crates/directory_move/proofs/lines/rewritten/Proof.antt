@@ -4,13 +4,13 @@ use native.Mathlib.Omega.{arith}
 use Prim.Native.Nat.{_-_}
 use lib.ListN.{length}
 use Rattle.sheet_line.specs.Laws.{taken-fits-line}
-use Rattle.directory_move.specs.Laws.Rewritten.{rewritten-broken, rewritten-end, Written, written-start, written-room, written-on, written-done}
+use Rattle.directory_move.specs.Laws.Rewritten.{rewritten-broken, rewritten-end, LinesWritten, written-start, written-room, written-on, written-done}
 use borrow.Author.Needs.{needs}
 use Rattle.directory_move.proofs.lines.rewritten.Statement.{statement}
 use Rattle.directory_move.proofs.lines.rewritten.Tie as tie
 
 abbrev Inv-loop : tie.InvT-loop
-Inv-loop s w v out₀ to₀ at₀ out to at = Written w v s out₀ out to at
+Inv-loop s w v out₀ to₀ at₀ out to at = LinesWritten w v s out₀ out to at
 
 abbrev μ-loop : tie.MeasureT-loop
 μ-loop s w v out₀ to₀ at₀ out to at = length s - at
