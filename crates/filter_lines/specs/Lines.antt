@@ -6,7 +6,7 @@ use mathlib.Core.List.{List, [], _∷_, map}
 use lib.ListN.{length, getD, take, drop, set}
 use Rattle.rules.specs.Sheet.{Bytes, end, broken}
 use Rattle.rules.specs.Value.{Piece, text, folded, matches}
-use Rattle.rules.specs.Laws.Value.{compared}
+use Rattle.rules.specs.Laws.Substrings.{compared}
 use Rattle.rules.specs.Places.{linesAt}
 use Rattle.sheet_line.specs.Line.{takenAt}
 use Rattle.sheet_line.specs.declared.Line.{Line}

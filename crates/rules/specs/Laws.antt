@@ -4,6 +4,7 @@ pub mod Each
 pub mod Members
 pub mod Sheet
 pub mod Value
+pub mod Substrings
 pub mod Back
 pub mod Blanks
 pub mod Name
@@ -16,6 +17,7 @@ pub mod DirectoryLines
 pub mod Order
 pub mod Allowed
 pub mod Arrange
+pub mod Keys
 pub mod Absent
 pub mod ByNumber
 pub mod Decision

@@ -11,7 +11,7 @@ use Rattle.rules.specs.Lists.{all}
 use Rattle.rules.specs.Sheet.{Bytes, Line, Sheet, end, broken, row}
 use Rattle.rules.specs.Value.{Piece, text, tidied, folded, normal, fits, used, matches, normalPiece, contains}
 use Rattle.rules.specs.Places.{linesAt}
-use Rattle.rules.specs.Laws.Value.{compared, matches-on, matches-off}
+use Rattle.rules.specs.Laws.Substrings.{compared, matches-on, matches-off}
 use Rattle.rules.specs.Laws.Blanks.{tidied-length}
 use Rattle.value_blank.specs.declared.Text.{Text}
 use Rattle.value_blank.specs.Blank.{isTidy, textOf}

@@ -19,7 +19,7 @@ use Rattle.rules.specs.Answer.{listed, candidate, found, inSubset, discl
 use Rattle.rules.specs.Laws.Tests.{and-left}
 use Rattle.rules.specs.Laws.Lists.{any-at, any-none, any-weaken, keep-none}
 use Rattle.rules.specs.Laws.Name.{covers-snoc, same-covers, same-length}
-use Rattle.rules.specs.Laws.Arrange.{nothing-arranged}
+use Rattle.rules.specs.Laws.Keys.{nothing-arranged}
 use Rattle.rules.specs.Laws.Each.{Each}
 use Rattle.rules.specs.Laws.Directory.{Shallow, Accepted}
 

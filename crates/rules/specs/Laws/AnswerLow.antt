@@ -23,7 +23,7 @@ use Rattle.rules.specs.Answer.{operationNumber, outcomeNumber, outcome, 
 use Rattle.rules.specs.Laws.Each.{Each, IfFound, each-map, each-append, each-given, each-cond, each-take, each-drop, each-keep, each-first, each-mapped, each-gathered}
 use Rattle.rules.specs.Laws.Low.{Low}
 use Rattle.rules.specs.Laws.EntriesLow.{Short, PartLow, NameLow, HeldLow, EntryLow}
-use Rattle.rules.specs.Laws.Arrange.{each-arranged}
+use Rattle.rules.specs.Laws.Keys.{each-arranged}
 
 abbrev F : List Line → Type 0
 F ls = Each (Low 65536) ls

@@ -20,7 +20,7 @@ use Rattle.rules.specs.Laws.Directory.{accepted-means}
 use Rattle.rules.specs.Laws.Absent.{none-longer}
 use Rattle.rules.specs.Laws.Aliases.{replaced-alike}
 use Rattle.rules.specs.Laws.Allowed.{EntryAllowed, entries-allowed}
-use Rattle.rules.specs.Laws.Arrange.{arranged-permuted, key-stable, key-ordered, key-least}
+use Rattle.rules.specs.Laws.Keys.{arranged-permuted, key-stable, key-ordered, key-least}
 
 pub printed-back : PrintedBack
 printed-back = accepted-back

@@ -8,7 +8,8 @@ use native.Mathlib.Nat.{zero-add}
 use borrow.Author.Tests.{eqb-true, eqb-false, eq-eqb, lt-ltb, le-ltb}
 use lib.Dec.{eqb, eqb·zero-suc, eqb·suc-suc}
 use lib.ListN.{length, getD, drop, length-drop, drop-of-length-le}
-use Rattle.rules.specs.Laws.Value.{identical-eq, normal-other, folded-length}
+use Rattle.rules.specs.Laws.Value.{identical-eq, normal-other}
+use Rattle.rules.specs.Laws.Substrings.{folded-length}
 use Rattle.rules.specs.Sheet.{Bytes}
 use Rattle.rules.specs.Value.{text, folded, identical, same, begins, orderBytes}
 use Rattle.rules.specs.declared.Order.the-variants.{Less, Equal, Greater}

@@ -6,7 +6,7 @@ use borrow.Author.Tests.{not-false}
 use lib.ListN.{length}
 use denote.Ref.{now}
 use Rattle.rules.specs.Value.{text, folded}
-use Rattle.rules.specs.Laws.Value.{folded-length}
+use Rattle.rules.specs.Laws.Substrings.{folded-length}
 use Rattle.value_substring.specs.Pieces.{Sought}
 use Rattle.value_substring.specs.Laws.Pieces.{sought-start, sought-four}
 use borrow.Author.Needs.{needs}

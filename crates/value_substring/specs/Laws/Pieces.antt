@@ -9,7 +9,7 @@ use borrow.Author.Tests.{not-true, eq-eqb, ne-eqb, le-leb, lt-leb}
 use lib.Dec.{eqb}
 use lib.ListN.{length, getD, take, drop, length-drop, drop-of-length-le}
 use lib.Seq.{drop-drop}
-use Rattle.rules.specs.Laws.Value.{find-by, folded-length}
+use Rattle.rules.specs.Laws.Substrings.{find-by, folded-length}
 use Rattle.rules.specs.Sheet.{Bytes}
 use Rattle.rules.specs.Value.{text, small, folded, begins, ends, find}
 use Rattle.rules.specs.declared.Found.the-variants.{At, Nothing}

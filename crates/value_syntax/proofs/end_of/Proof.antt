@@ -4,7 +4,7 @@ use borrow.Author.Tests.{eq-eqb, ne-eqb}
 use lib.ListN.{length-drop}
 use denote.Ref.{now}
 use Rattle.rules.specs.Value.{text, used}
-use Rattle.rules.specs.Laws.Value.{folded-length}
+use Rattle.rules.specs.Laws.Substrings.{folded-length}
 use Rattle.value_substring.specs.Laws.Pieces.{ends-short, ends-stands}
 use borrow.Author.Needs.{needs}
 use Rattle.value_syntax.proofs.end_of.Statement.{statement}

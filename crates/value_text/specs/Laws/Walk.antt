@@ -10,7 +10,8 @@ use lib.ListN.{length, getD, drop, length-map}
 use Rattle.rules.specs.Lists.{given}
 use Rattle.rules.specs.Sheet.{Bytes}
 use Rattle.rules.specs.Value.{text, small, orBlank, tidied, folded, normal, identical, same, orderℕ, orderBytes}
-use Rattle.rules.specs.Laws.Value.{folded-length, identical-eq, orderBytes-refl}
+use Rattle.rules.specs.Laws.Value.{identical-eq, orderBytes-refl}
+use Rattle.rules.specs.Laws.Substrings.{folded-length}
 use Rattle.rules.specs.Laws.Blanks.{words, words-blank, words-byte, small-blank, normal-text}
 use Rattle.rules.specs.declared.Order.{Order}
 use Rattle.rules.specs.declared.Order.the-variants.{Less, Equal, Greater}

@@ -5,7 +5,7 @@ use native.Mathlib.Omega.{arith}
 use lib.ListN.{length}
 use denote.Ref.{now}
 use Rattle.rules.specs.Value.{text}
-use Rattle.rules.specs.Laws.Value.{used-fits}
+use Rattle.rules.specs.Laws.Substrings.{used-fits}
 use Rattle.filter_lines.specs.Lines.{piecesStand}
 use Rattle.filter_lines.specs.Laws.Pieces.{piecesFrom, from-none, from-over, from-on, value-short, standFrom, stand-none, stand-lost, stand-on}
 use borrow.Author.Needs.{needs}
