@@ -1,9 +1,9 @@
 // The entries for the exchange and for corridor panels: three sheets and a lent buffer in, one reply out; and a directory sheet moved to the other
 // form. With a refusal, and beyond the length in the reply, `out` is unchanged.
 use answer_reply::Reply;
+use caller::format_of;
 use directory_move::moved;
 use engine::Terms;
-use rules::Format;
 use rules::Limits;
 ghost use mathlib.Core.Path.{_≡_};
 ghost use lib.ListN.{length};
@@ -11,19 +11,6 @@ ghost use Rattle.rules.specs.Sheet.{narrow, formatOf, Usable};
 ghost use Rattle.rules.specs.Serve as Rules;
 ghost use Rattle.rules.specs.Move.{widened, narrowed};
 ghost use Rattle.answer_reply.specs.Reply.{replyOf, leftOf, Replies};
-
-// The form that the caller names: nine columns, or six.
-fn format_of(wide: bool) -> Format
-    ensures { λ r. ⌜ (r ≡ formatOf wide) × Usable r ⌝ }
-{
-    if wide {
-        return Format {
-            width: 9,
-            top: 9999999,
-        };
-    }
-    Format { width: 6, top: 999 }
-}
 
 // Answers the request over the directory and the permissions, for a program of these limits, in the form that it names.
 fn serve(

@@ -1,3 +1,2 @@
 pub mod Serve
 pub mod Respond
-pub mod Within

@@ -1,11 +1,11 @@
 // A request answered: the room that is lent, then the directory and the permissions judged, which is the ground; then the request; then its answer is planned, its length known, and
 // only then its bytes are written.
 mod respond;
-mod within;
 
 use access_items::rank_items;
 use answer_reply::Reply;
 use answer_reply::refused;
+use caller::above;
 use respond::requested;
 use rules::Format;
 use rules::Limits;
@@ -19,7 +19,6 @@ ghost use Rattle.rules.specs.Directory.{Directory};
 ghost use mathlib.Core.Path.{_≡_};
 ghost use Prim.Native.Nat.{ℕ};
 ghost use Rattle.rules.specs.Serve.{judgedAt, serveAt};
-ghost use Rattle.rules.specs.Serve as Serve;
 ghost use Rattle.answer_reply.specs.Reply.{Replies};
 ghost use Rattle.engine.specs.Serve.{fromDirectory};
 ghost use Rattle.engine.specs.Judges.{DirectoryAt};
@@ -79,16 +78,6 @@ fn judged(d: &[u8], p: &[u8], q: &[u8], out: &mut [u8], terms: Terms) -> Reply
     let mut book: [u64; BOOK] = [0; BOOK];
     directory_book::note(terms.format, notes, &mut book);
     permitted(out, &book, &held, d, p, q, terms)
-}
-
-// Is more lent than the program may lend?
-fn above(limits: Limits, room: usize) -> bool
-    ensures { λ r. ⌜ r ≡ Serve.above limits room ⌝ }
-{
-    if limits.bytes == 0 {
-        return false;
-    }
-    limits.bytes < room as u64
 }
 
 // The reply to the request `q` over the directory `d` and the permissions `p`, on these terms, and the answer in `out`.

@@ -1,7 +1,6 @@
 // A request answered over a ground: the request judged, the sets of the items that are for the requester, the name looked up, the answer planned and
 // written.
 use super::Terms;
-use super::within::within;
 use access_covers::note_rights;
 use access_scope::Requester;
 use access_scope::reach_all;
@@ -10,6 +9,7 @@ use answer_operation::plan_of;
 use answer_print::write;
 use answer_reply::Reply;
 use answer_reply::refused;
+use caller::within;
 use request_sheet::Asked;
 use tables::book::BOOK;
 use tables::book::parents;

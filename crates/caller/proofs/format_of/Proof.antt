@@ -1,8 +1,8 @@
 use mathlib.Core.Path.{refl}
 use native.Mathlib.Omega.{arith}
 use borrow.Author.Needs.{needs}
-use Rattle.dinghy.proofs.format_of.Statement.{statement}
-use Rattle.dinghy.proofs.format_of.Tie as tie
+use Rattle.caller.proofs.format_of.Statement.{statement}
+use Rattle.caller.proofs.format_of.Tie as tie
 
 returns : tie.Need-returns
 returns c = rw (c .if1 .taken) (refl, record { least = omega arith; most = omega arith; types = omega arith })

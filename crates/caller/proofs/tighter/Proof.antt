@@ -1,7 +1,7 @@
 use borrow.Author.Tests.{eq-eqb, ne-eqb, lt-ltb, le-ltb}
 use Rattle.rules.specs.Serve as Serve
-use Rattle.engine.proofs.within.tighter.Statement.{statement}
-use Rattle.engine.proofs.within.tighter.Tie as tie
+use Rattle.caller.proofs.tighter.Statement.{statement}
+use Rattle.caller.proofs.tighter.Tie as tie
 
 returns : tie.Need-returns
 unfolding Serve.tighter

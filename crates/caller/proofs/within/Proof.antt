@@ -1,7 +1,7 @@
-use Rattle.engine.specs.Laws.Within.{noted-unlimited, noted-limited}
+use Rattle.caller.specs.Laws.Within.{noted-unlimited, noted-limited}
 use borrow.Author.Needs.{needs}
-use Rattle.engine.proofs.within.within.Statement.{statement}
-use Rattle.engine.proofs.within.within.Tie as tie
+use Rattle.caller.proofs.within.Statement.{statement}
+use Rattle.caller.proofs.within.Tie as tie
 
 returns : tie.Need-returns
 returns c = let A = c .before .before .args in λ G w q x n. noted-unlimited G w q (A .limits) x (A .asked) n (c .if1 .taken)

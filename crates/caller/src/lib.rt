@@ -1,14 +1,38 @@
-// What a program is limited to, put into what is asked.
+// What a calling program brings with it: the form of its sheets (#109), and what it is limited to (#107).
 use request_sheet::Asked;
+use rules::Format;
 use rules::Limits;
 use rules::operation;
 ghost use mathlib.Core.Path.{_≡_};
 ghost use Prim.Native.Nat.{ℕ};
-ghost use Rattle.rules.specs.Sheet.{Bytes};
+ghost use Rattle.rules.specs.Sheet.{Bytes, formatOf, Usable};
 ghost use Rattle.rules.specs.Judge.{Grammar};
 ghost use Rattle.rules.specs.Request.{Request};
 ghost use Rattle.rules.specs.Serve as Serve;
 ghost use Rattle.request_sheet.specs.Noted.{RequestNoted};
+
+// The form that the caller names: nine columns, or six.
+pub fn format_of(wide: bool) -> Format
+    ensures { λ r. ⌜ (r ≡ formatOf wide) × Usable r ⌝ }
+{
+    if wide {
+        return Format {
+            width: 9,
+            top: 9999999,
+        };
+    }
+    Format { width: 6, top: 999 }
+}
+
+// Is more lent than the program may lend?
+pub fn above(limits: Limits, room: usize) -> bool
+    ensures { λ r. ⌜ r ≡ Serve.above limits room ⌝ }
+{
+    if limits.bytes == 0 {
+        return false;
+    }
+    limits.bytes < room as u64
+}
 
 // The smaller of two size limits, of which 0 is none.
 fn tighter(a: u64, b: u64) -> u64

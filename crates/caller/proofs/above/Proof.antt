@@ -1,8 +1,8 @@
 -- By whether there is a limit.
 use borrow.Author.Tests.{eq-eqb, ne-eqb}
 use Rattle.rules.specs.Serve as Serve
-use Rattle.engine.proofs.above.Statement.{statement}
-use Rattle.engine.proofs.above.Tie as tie
+use Rattle.caller.proofs.above.Statement.{statement}
+use Rattle.caller.proofs.above.Tie as tie
 
 returns : tie.Need-returns
 unfolding Serve.above
