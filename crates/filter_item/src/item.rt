@@ -13,7 +13,7 @@ use filter_lines::lines::RANK;
 use filter_lines::lines::SECOND;
 use filter_lines::lines::value_of;
 use filter_lines::pieces::pieces_fit;
-use filter_lines::truth::truth_of;
+use filter_truth::truth_of;
 use rules::Truth;
 use sheet_kind::Kind;
 use sheet_kind::is;

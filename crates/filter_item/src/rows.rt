@@ -4,7 +4,7 @@ use filter_lines::lines::FILTER;
 use filter_lines::lines::LINE;
 use filter_lines::lines::SECOND;
 use filter_lines::pieces::substrings;
-use filter_lines::truth::not_below;
+use filter_truth::not_below;
 use rules::Order;
 use tables::held::HELD;
 use tables::held::bytes;

@@ -1,7 +1,6 @@
-// A filter's lines, read once and noted by six numbers each; the pieces of its substrings items; the truth of a test.
+// A filter's lines, read once and noted by six numbers each; the pieces of its substrings items.
 pub mod lines;
 pub mod pieces;
-pub mod truth;
 
 use sheet_kind::Kind;
 use sheet_kind::is;

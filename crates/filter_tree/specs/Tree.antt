@@ -17,11 +17,6 @@ use Rattle.rules.specs.FilterLines.{bothIn, eitherIn, afterLines}
 use Rattle.rules.specs.declared.Edition.{Edition}
 use Rattle.rules.specs.declared.Truth.{Truth}
 
--- "and" (a conjunction) or "or"
-abbrev pub joinBy : Edition → Bool → Truth → Truth → Truth
-joinBy ed true = bothIn ed
-joinBy ed false = eitherIn ed
-
 -- what follows an item
 unfoldable pub afterBy : ℕ → ℕ → Sheet → Sheet
 afterBy k b rest = cond (eqb k 23 || (eqb k 24 || (eqb k 25 || eqb k 26))) rest (afterLines b rest)

@@ -1,5 +1,3 @@
 // The truth of a request's filter for an entry: "and", "or" and "not" over the truths of its items.
-mod first;
 mod items;
 pub mod tree;
-mod truth;

@@ -1,10 +1,6 @@
 // A filter evaluated line by line, an operator before its parts.
 use super::items::note_truths;
 use super::items::truth_at;
-use super::truth::is_true;
-use super::truth::joined;
-use super::truth::negated;
-use super::truth::start;
 use filter_item::extent::Extent;
 use filter_item::matchable::ask;
 use filter_lines::joins;
@@ -12,6 +8,10 @@ use filter_lines::lines::FILTER;
 use filter_lines::lines::FIRST;
 use filter_lines::lines::LINE;
 use filter_lines::lines::SECOND;
+use filter_truth::is_true;
+use filter_truth::joined;
+use filter_truth::negated;
+use filter_truth::start;
 use rules::Edition;
 use rules::Truth;
 use sheet_kind::Kind;

@@ -21,7 +21,8 @@ use Rattle.filter_lines.specs.Lines.{LinesNoted, kindAt, firstAt, secondAt, pos
 use Rattle.filter_lines.specs.Laws.Lines.{row-lines}
 use Rattle.filter_lines.specs.Laws.Pieces.{pieces-are}
 use Rattle.filter_item.specs.Items.{assertionBy}
-use Rattle.filter_tree.specs.Tree.{joinBy, afterBy}
+use Rattle.filter_truth.specs.Join.{joinBy}
+use Rattle.filter_tree.specs.Tree.{afterBy}
 
 -- ---- line by line
 
@@ -90,11 +91,6 @@ module _ (ed : Edition) (m : Assertion → Truth) {w : ℕ} {q : Bytes} {rows : 
         go false false e a b = rw (ne-eqb (kindAt rows k) 22 ne, pieces-are h (secondAt rows k) (k + 1) (omega (arith, l)))
 
 -- ---- the parts one by one
-
--- the first edition starts from undefined where there are parts
-pub start-some : (t : Truth) (n : ℕ) → (n ≡ 0 → ⊥) → Undefined ≡ startIn FirstEdition t n
-start-some t zero h = absurd (h refl)
-start-some t (suc n) h = refl
 
 module _ (join : Truth → Truth → Truth) (one : Sheet → Evaluated) (left : ℕ) (t : Truth) (s : Sheet) where
   pub parts-end : left ≤ 0 → partsFrom join one left t s ≡ evaluated t s

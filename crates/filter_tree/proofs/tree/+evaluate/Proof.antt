@@ -9,7 +9,7 @@ use Rattle.rules.specs.Places.{linesAt}
 use Rattle.rules.specs.FilterLines.{Evaluated, evaluated, partsFrom, evaluateLines}
 use Rattle.sheet_kind.specs.Laws.Kinds.{is-kind, not-kind}
 use Rattle.filter_lines.specs.Lines.{LinesNoted, positionAt}
-use Rattle.filter_tree.specs.Tree.{joinBy}
+use Rattle.filter_truth.specs.Join.{joinBy}
 use Rattle.filter_tree.specs.Laws.Tree.{tree-none, tree-over, tree-not, tree-group, tree-item, parts-end, parts-on}
 use Rattle.filter_tree.specs.Truths.{Truths}
 use Rattle.rules.specs.declared.Truth.{Truth}
@@ -22,9 +22,9 @@ use Rattle.sheet_kind.proofs.is.Reads as is-reads
 use Rattle.filter_lines.proofs.joins.Reads as joins-reads
 use Rattle.filter_tree.proofs.items.truth_at.Reads as truth-at-reads
 use Rattle.filter_tree.proofs.tree.after_item.Reads as after-item-reads
-use Rattle.filter_tree.proofs.truth.joined.Reads as joined-reads
-use Rattle.filter_tree.proofs.truth.negated.Reads as negated-reads
-use Rattle.filter_tree.proofs.truth.start.Reads as start-reads
+use Rattle.filter_truth.proofs.joined.Reads as joined-reads
+use Rattle.filter_truth.proofs.negated.Reads as negated-reads
+use Rattle.filter_truth.proofs.start.Reads as start-reads
 use Rattle.filter_tree.proofs.tree.+evaluate.{statement}
 use Rattle.filter_tree.proofs.tree.+evaluate.Tie.{close}
 

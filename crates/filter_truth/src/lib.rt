@@ -1,16 +1,38 @@
-// The three truth values of "and", "or" and "not", one part at a time, in either edition.
-use super::first::both_first;
-use super::first::either_first;
-use filter_lines::truth::truth_of;
+// Truths: of a test; and the three values of "and", "or" and "not", one part at a time, in either edition.
+mod first;
+
+use first::both_first;
+use first::either_first;
 use rules::Edition;
+use rules::Order;
 use rules::Truth;
 ghost use mathlib.Core.Path.{_≡_};
+ghost use mathlib.Core.Bool.{not};
 ghost use Rattle.rules.specs.Filter.{isTrue, negation, truth};
+ghost use Rattle.rules.specs.FilterItem.{isLess};
 ghost use Rattle.rules.specs.FilterLines as Filter;
-ghost use Rattle.filter_tree.specs.Tree.{joinBy};
+ghost use Rattle.filter_truth.specs.Join.{joinBy};
+
+// The truth of a test.
+pub fn truth_of(b: bool) -> Truth
+    ensures { λ r. ⌜ r ≡ truth b ⌝ }
+{
+    if b { Truth::True } else { Truth::False }
+}
+
+// Is the first value not below the second?
+pub fn not_below(order: Order) -> bool
+    ensures { λ r. ⌜ r ≡ not (isLess order) ⌝ }
+{
+    match order {
+        Order::Less => false,
+        Order::Equal => true,
+        Order::Greater => true,
+    }
+}
 
 // Is it true?
-pub(crate) fn is_true(t: Truth) -> bool
+pub fn is_true(t: Truth) -> bool
     ensures { λ r. ⌜ r ≡ isTrue t ⌝ }
 {
     match t {
@@ -21,7 +43,7 @@ pub(crate) fn is_true(t: Truth) -> bool
 }
 
 // "and" of what came before and one part more: false if one is false, true if both are true, else undefined.
-pub(crate) fn both(t: Truth, u: Truth) -> Truth
+fn both(t: Truth, u: Truth) -> Truth
     ensures { λ r. ⌜ r ≡ Filter.both t u ⌝ }
 {
     match t {
@@ -36,7 +58,7 @@ pub(crate) fn both(t: Truth, u: Truth) -> Truth
 }
 
 // "or" of what came before and one part more: true if one is true, false if both are false, else undefined.
-pub(crate) fn either(t: Truth, u: Truth) -> Truth
+fn either(t: Truth, u: Truth) -> Truth
     ensures { λ r. ⌜ r ≡ Filter.either t u ⌝ }
 {
     match t {
@@ -71,7 +93,7 @@ fn either_in(edition: Edition, t: Truth, u: Truth) -> Truth
 }
 
 // "and" or "or" of what came before and one part more.
-pub(crate) fn joined(edition: Edition, conjunction: bool, t: Truth, u: Truth) -> Truth
+pub fn joined(edition: Edition, conjunction: bool, t: Truth, u: Truth) -> Truth
     ensures { λ r. ⌜ r ≡ joinBy edition conjunction t u ⌝ }
 {
     if conjunction {
@@ -81,7 +103,7 @@ pub(crate) fn joined(edition: Edition, conjunction: bool, t: Truth, u: Truth) ->
 }
 
 // What "and" or "or" of so many parts starts from: the truth of no parts, or in the first edition, where there are some, undefined.
-pub(crate) fn start(edition: Edition, conjunction: bool, parts: u64) -> Truth
+pub fn start(edition: Edition, conjunction: bool, parts: u64) -> Truth
     ensures { λ r. ⌜ r ≡ Filter.startIn edition (truth conjunction) parts ⌝ }
 {
     match edition {
@@ -96,7 +118,7 @@ pub(crate) fn start(edition: Edition, conjunction: bool, parts: u64) -> Truth
 }
 
 // "not": it keeps undefined.
-pub(crate) fn negated(t: Truth) -> Truth
+pub fn negated(t: Truth) -> Truth
     ensures { λ r. ⌜ r ≡ negation t ⌝ }
 {
     match t {

@@ -1,6 +1,6 @@
 use borrow.Author.Needs.{needs}
-use Rattle.filter_tree.proofs.truth.joined.Statement.{statement}
-use Rattle.filter_tree.proofs.truth.joined.Tie as tie
+use Rattle.filter_truth.proofs.joined.Statement.{statement}
+use Rattle.filter_truth.proofs.joined.Tie as tie
 
 returns : tie.Need-returns
 returns c = rw (c .before .if1 .taken) (c .both-in .ensures)

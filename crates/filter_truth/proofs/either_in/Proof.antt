@@ -1,7 +1,7 @@
 -- By the edition.
 use borrow.Author.Needs.{needs}
-use Rattle.filter_tree.proofs.truth.either_in.Statement.{statement}
-use Rattle.filter_tree.proofs.truth.either_in.Tie as tie
+use Rattle.filter_truth.proofs.either_in.Statement.{statement}
+use Rattle.filter_truth.proofs.either_in.Tie as tie
 
 returns : tie.Need-returns
 returns c = rw (c .before .enum-told .given .1) (c .either .ensures)

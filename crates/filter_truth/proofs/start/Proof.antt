@@ -1,8 +1,8 @@
 -- By the edition, then by the number of parts.
 use borrow.Author.Needs.{needs}
-use Rattle.filter_tree.specs.Laws.Tree.{start-some}
-use Rattle.filter_tree.proofs.truth.start.Statement.{statement}
-use Rattle.filter_tree.proofs.truth.start.Tie as tie
+use Rattle.filter_truth.specs.Laws.{start-some}
+use Rattle.filter_truth.proofs.start.Statement.{statement}
+use Rattle.filter_truth.proofs.start.Tie as tie
 
 returns-3 : tie.Need-returns-3
 returns-3 c = rw (c .before .enum-told2 .given .1) (start-some _ _ (c .if1 .left))
