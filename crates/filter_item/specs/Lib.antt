@@ -1,6 +1,3 @@
-pub mod Matchable
-pub mod Candidate
-pub mod Mask
 pub mod Rows
 pub mod Items
 pub mod Laws

@@ -1,14 +1,13 @@
 -- The rows of an entry's values that count for an item: of the item's rank, with FilterMatch granted, and with a value that passes the test.
-use Prim.Native.Nat.{ℕ, zero, suc, _+_, _-_, _≤_, _<_}
+use Prim.Native.Nat.{ℕ, zero, suc, _+_, _-_}
 use mathlib.Core.Bool.{Bool, false, not, _&&_, _||_, cond}
 use mathlib.Core.List.{List}
 use lib.Dec.{eqb}
-use lib.ListN.{length}
 use Rattle.rules.specs.Sheet.{Bytes}
 use Rattle.rules.specs.Value.{order}
 use Rattle.rules.specs.FilterItem.{isLess}
-use Rattle.tables.specs.Held.{ROWS, rankAt, placeAt, sizeAt, bytesAt}
-use Rattle.filter_item.specs.Matchable.{bitAt}
+use Rattle.tables.specs.Held.{rankAt, bytesAt}
+use Rattle.filter_matchable.specs.Matchable.{bitAt}
 
 -- one of the `n` numbers from `i` on passes
 unfoldable pub someFrom : (ℕ → Bool) → ℕ → ℕ → Bool
@@ -30,9 +29,3 @@ someRow d held values first end rank test = someFrom (λ i. matchableAt held val
 -- `u` is not below `v`, or not above it
 abbrev pub besideBy : ℕ → Bool → Bytes → Bytes → Bool
 besideBy s least v u = cond least (not (isLess (order s u v))) (not (isLess (order s v u)))
-
--- the bytes of the rows from `first` to `end` are parts of the directory, and few
-pub record RowsWithin (d : Bytes) (held : List ℕ) (first end : ℕ) : Type 0 where
-  pub room : end ≤ ROWS
-  pub part : (i : ℕ) → first ≤ i → i < end → placeAt held i + sizeAt held i ≤ length d
-  pub short : (i : ℕ) → first ≤ i → i < end → sizeAt held i ≤ 64

@@ -1,7 +1,4 @@
 // The truth of one item for an entry. Undefined goes before all else; what is not held is false.
-use super::extent::Extent;
-use super::matchable::END;
-use super::matchable::in_word;
 use super::rows::RowsSought;
 use super::rows::holds;
 use super::rows::some_containing;
@@ -13,6 +10,9 @@ use filter_lines::lines::RANK;
 use filter_lines::lines::SECOND;
 use filter_lines::lines::value_of;
 use filter_lines::pieces::pieces_fit;
+use filter_matchable::extent::Extent;
+use filter_matchable::matchable::END;
+use filter_matchable::matchable::in_word;
 use filter_truth::truth_of;
 use rules::Truth;
 use sheet_kind::Kind;
@@ -35,9 +35,9 @@ ghost use Rattle.tables.specs.Book.{schema};
 ghost use Rattle.tables.specs.World.{Entries};
 ghost use Rattle.filter_lines.specs.Lines.{RowsPlaced, Typed, kindAt, firstAt, valueAt, piecesAt};
 ghost use Rattle.filter_item.specs.Items.{assertionBy, definedBy, satisfiedIn};
-ghost use Rattle.filter_item.specs.Rows.{RowsWithin};
-ghost use Rattle.filter_item.specs.Matchable.{MatchableAt, AskedIn};
-ghost use Rattle.filter_item.specs.Candidate.{Admitted};
+ghost use Rattle.filter_matchable.specs.Matchable.{RowsWithin};
+ghost use Rattle.filter_matchable.specs.Matchable.{MatchableAt, AskedIn};
+ghost use Rattle.filter_matchable.specs.Candidate.{Admitted};
 
 // Do the value or the pieces of the item in line `k` fit the syntax `s`, and has the syntax the item's rule?
 fn defined(s: u64, q: &[u8], rows: &[u64; FILTER], lines: usize, k: usize) -> bool

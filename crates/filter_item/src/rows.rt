@@ -17,7 +17,8 @@ ghost use Rattle.rules.specs.Laws.Value.{reversed};
 ghost use Rattle.name.specs.Schema.{equalBy};
 ghost use Rattle.tables.specs.Held.{ROWS, bytesAt};
 ghost use Rattle.filter_lines.specs.Lines.{RowsPlaced, piecesAt};
-ghost use Rattle.filter_item.specs.Rows.{matchableAt, heldRow, someRow, RowsWithin, besideBy};
+ghost use Rattle.filter_item.specs.Rows.{matchableAt, heldRow, someRow, besideBy};
+ghost use Rattle.filter_matchable.specs.Matchable.{RowsWithin};
 
 // The rows of an entry, and the rank of an item's type.
 pub struct RowsSought {

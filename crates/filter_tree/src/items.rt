@@ -1,10 +1,10 @@
 // The truths of a filter's items for an entry, found one after the other and noted by a number for each line, before the filter is evaluated.
-use filter_item::extent::Extent;
 use filter_item::item::item;
 use filter_lines::joins;
 use filter_lines::lines::FILTER;
 use filter_lines::lines::LINE;
 use filter_lines::lines::LINES;
+use filter_matchable::extent::Extent;
 use rules::Truth;
 use sheet_kind::Kind;
 use sheet_kind::is;
@@ -20,9 +20,9 @@ ghost use Rattle.rules.specs.FilterItem.{itemTruth};
 ghost use Rattle.tables.specs.Book.{schema};
 ghost use Rattle.tables.specs.World.{Entries};
 ghost use Rattle.filter_lines.specs.Lines.{RowsPlaced, Typed};
-ghost use Rattle.filter_item.specs.Mask.{Masks};
-ghost use Rattle.filter_item.specs.Matchable.{MatchableAt};
-ghost use Rattle.filter_item.specs.Candidate.{Admitted};
+ghost use Rattle.filter_matchable.specs.Mask.{Masks};
+ghost use Rattle.filter_matchable.specs.Matchable.{MatchableAt};
+ghost use Rattle.filter_matchable.specs.Candidate.{Admitted};
 ghost use Rattle.filter_tree.specs.Truths.{truthNumber, truthOf, TruthAt, Truths};
 
 // A truth as a number.

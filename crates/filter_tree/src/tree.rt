@@ -1,13 +1,13 @@
 // A filter evaluated line by line, an operator before its parts.
 use super::items::note_truths;
 use super::items::truth_at;
-use filter_item::extent::Extent;
-use filter_item::matchable::ask;
 use filter_lines::joins;
 use filter_lines::lines::FILTER;
 use filter_lines::lines::FIRST;
 use filter_lines::lines::LINE;
 use filter_lines::lines::SECOND;
+use filter_matchable::extent::Extent;
+use filter_matchable::matchable::ask;
 use filter_truth::is_true;
 use filter_truth::joined;
 use filter_truth::negated;
@@ -33,8 +33,8 @@ ghost use Rattle.rules.specs.declared.Truth.{Truth};
 ghost use Rattle.tables.specs.Book.{width, schema};
 ghost use Rattle.tables.specs.World.{World};
 ghost use Rattle.filter_lines.specs.Lines.{LinesNoted, KnownLines, Typed, kindAt, secondAt, positionAt};
-ghost use Rattle.filter_item.specs.Mask.{Masks};
-ghost use Rattle.filter_item.specs.Candidate.{Candidate};
+ghost use Rattle.filter_matchable.specs.Mask.{Masks};
+ghost use Rattle.filter_matchable.specs.Candidate.{Candidate};
 ghost use Rattle.filter_tree.specs.Tree.{afterBy, matchesAt, FilterAt, KnownFilter};
 ghost use Rattle.filter_tree.specs.Truths.{Truths, KnownTruths};
 

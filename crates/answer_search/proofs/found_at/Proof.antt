@@ -7,7 +7,7 @@ use borrow.Author.Tests.{not-true, not-false}
 use Rattle.tables.specs.Book.{entries}
 use Rattle.tables.specs.Laws.World.{known-entry, inside}
 use Rattle.answer_search.specs.Laws.Hits.{found-outside, found-withheld, found-asked, candidate-asked}
-use Rattle.filter_item.specs.Laws.Candidate.{searched-known}
+use Rattle.filter_matchable.specs.Laws.Candidate.{searched-known}
 use Rattle.answer_search.proofs.found_at.Statement.{statement}
 use Rattle.answer_search.proofs.found_at.Tie as tie
 

@@ -28,7 +28,7 @@ use Rattle.tables.specs.Held.{rankAt, bytesAt, typeAt, ValueAt}
 use Rattle.tables.specs.Sets.{grantedAt}
 use Rattle.tables.specs.World.{Entries}
 use Rattle.tables.specs.Laws.Book.{end-is, schema-length, type-at}
-use Rattle.filter_item.specs.Matchable.{bitAt, MatchableAt}
+use Rattle.filter_matchable.specs.Matchable.{bitAt, MatchableAt}
 use Rattle.filter_item.specs.Rows.{someFrom, matchableAt, heldRow, someRow}
 use Rattle.filter_item.specs.Items.{assertionBy, definedBy, passesBy, satisfiedIn}
 use Rattle.filter_item.specs.Laws.Items.{countsBy, satisfiedBy, item-unknown, item-undecided, item-decided}

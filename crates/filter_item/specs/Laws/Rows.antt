@@ -12,8 +12,9 @@ use borrow.Author.Tests.{eq-eqb, ne-eqb}
 use Rattle.access_set.specs.Member.{bit}
 use Rattle.rules.specs.Sheet.{Bytes}
 use Rattle.tables.specs.Held.{rankAt, placeAt, sizeAt, bytesAt}
-use Rattle.filter_item.specs.Matchable.{bitAt}
-use Rattle.filter_item.specs.Rows.{someFrom, matchableAt, RowsWithin}
+use Rattle.filter_matchable.specs.Matchable.{bitAt}
+use Rattle.filter_item.specs.Rows.{someFrom, matchableAt}
+use Rattle.filter_matchable.specs.Matchable.{RowsWithin}
 
 module _ (held values : List ℕ) (first rank i : ℕ) where
   pub matchable-other : (rankAt held i ≡ rank → ⊥) → false ≡ matchableAt held values first rank i

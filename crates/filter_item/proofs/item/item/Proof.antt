@@ -1,7 +1,7 @@
 use denote.Ref.{now}
 use native.Mathlib.Omega.{arith}
 use Rattle.filter_lines.specs.Lines.{kindAt, firstAt, typeRank, valueAt, piecesAt}
-use Rattle.filter_item.specs.Laws.Matchable.{values-within}
+use Rattle.filter_matchable.specs.Laws.Matchable.{values-within}
 use Rattle.filter_item.specs.Laws.Entry.{item-beyond, item-undecidable, item-told}
 use borrow.Author.Needs.{needs}
 use Rattle.filter_item.proofs.item.item.Statement.{statement}

@@ -4,7 +4,7 @@ use native.Mathlib.Omega.{arith}
 use mathlib.Core.Bool.{true≢false}
 use Rattle.sheet_kind.specs.Laws.Kinds.{is-kind, not-kind}
 use Rattle.filter_lines.specs.Lines.{typeRank}
-use Rattle.filter_item.specs.Laws.Mask.{occurs-own, operator-none}
+use Rattle.filter_matchable.specs.Laws.Mask.{occurs-own, operator-none}
 use Rattle.filter_tree.specs.Truths.{truthOf}
 use Rattle.filter_tree.specs.Laws.Truths.{truth-number}
 use borrow.Author.Needs.{needs}

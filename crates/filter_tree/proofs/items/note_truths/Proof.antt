@@ -9,8 +9,8 @@ use Rattle.rules.specs.Decision.{Setting}
 use Rattle.rules.specs.FilterItem.{itemTruth}
 use Rattle.tables.specs.World.{Entries}
 use Rattle.filter_lines.specs.Lines.{LINES}
-use Rattle.filter_item.specs.Mask.{Masks}
-use Rattle.filter_item.specs.Matchable.{MatchableAt}
+use Rattle.filter_matchable.specs.Mask.{Masks}
+use Rattle.filter_matchable.specs.Matchable.{MatchableAt}
 use Rattle.filter_tree.specs.Truths.{Truths}
 use Rattle.filter_tree.specs.Laws.Truths.{truths-none, truths-on}
 use borrow.Author.Needs.{needs}
