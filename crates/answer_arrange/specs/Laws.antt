@@ -1,4 +1,3 @@
-pub mod Keys
 pub mod Weak
 pub mod Sort
 pub mod Arrange

@@ -8,11 +8,11 @@ use denote.Ref.{now}
 use Rattle.rules.specs.Laws.Each.{Each, each-at}
 use Rattle.tables.specs.Book.{entries, schema}
 use Rattle.tables.specs.Held.{typeAt}
-use Rattle.answer_arrange.specs.Keys.{KeyOf}
-use Rattle.answer_arrange.specs.Laws.Keys.{key-noted}
+use Rattle.answer_key.specs.Keys.{KeyOf}
+use Rattle.answer_key.specs.Laws.Keys.{key-noted}
 use borrow.Author.Needs.{needs}
-use Rattle.answer_arrange.proofs.key.note_keys.Statement.{statement}
-use Rattle.answer_arrange.proofs.key.note_keys.Tie as tie
+use Rattle.answer_key.proofs.key.note_keys.Statement.{statement}
+use Rattle.answer_key.proofs.key.note_keys.Tie as tie
 
 abbrev Inv-loop : tie.InvT-loop
 Inv-loop book held sets d p rank found keys₀ j₀ keys j =

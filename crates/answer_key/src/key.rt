@@ -21,7 +21,7 @@ ghost use Rattle.rules.specs.Laws.Each.{Each};
 ghost use Rattle.tables.specs.Book.{types, entries, schema, firstAt};
 ghost use Rattle.tables.specs.Held.{rankAt, bytesAt, typeAt};
 ghost use Rattle.tables.specs.World.{World, Known};
-ghost use Rattle.answer_arrange.specs.Keys.{KeyOf, readableAs};
+ghost use Rattle.answer_key.specs.Keys.{KeyOf, readableAs};
 
 // Is the value in row `i` of the type of this rank, with Read granted on type and value in the entry of index `k`?
 fn readable(
@@ -73,7 +73,7 @@ fn key_of(
 }
 
 // Notes the keys of the entries found, each at its index.
-pub(crate) fn note_keys(
+pub fn note_keys(
     book: &[u64; BOOK],
     held: &[u64; HELD],
     sets: &[u64; SETS],

@@ -10,9 +10,9 @@ use Rattle.tables.specs.Book.{schema}
 use Rattle.tables.specs.Held.{rankAt, bytesAt, typeAt}
 use Rattle.tables.specs.Laws.Book.{schema-length}
 use Rattle.tables.specs.Laws.World.{granted-next, inside, rows-within, rank-within, bytes-within, known-types}
-use Rattle.answer_arrange.specs.Laws.Keys.{other-type, type-hidden, type-shown}
-use Rattle.answer_arrange.proofs.key.readable.Statement.{statement}
-use Rattle.answer_arrange.proofs.key.readable.Tie as tie
+use Rattle.answer_key.specs.Laws.Keys.{other-type, type-hidden, type-shown}
+use Rattle.answer_key.proofs.key.readable.Statement.{statement}
+use Rattle.answer_key.proofs.key.readable.Tie as tie
 
 mul-if1 : tie.Need-mul-if1
 mul-if1 c = let A = c .before .before .args in let P = c .before .before .pre in let E = P .0 .2 .entries in let rows = rows-within E (A .k) (P .1) in omega (arith, rows .1, P .4)

@@ -9,11 +9,11 @@ use Rattle.tables.specs.Book.{types, entries, firstAt}
 use Rattle.tables.specs.World.{World}
 use Rattle.tables.specs.Laws.Book.{end-is}
 use Rattle.tables.specs.Laws.World.{rows-within, bytes-within}
-use Rattle.answer_arrange.specs.Keys.{keyIn, RowFits}
-use Rattle.answer_arrange.specs.Laws.Keys.{key-none, none-fits, keyFrom, from-end, from-first, from-in, from-out}
+use Rattle.answer_key.specs.Keys.{keyIn, RowFits}
+use Rattle.answer_key.specs.Laws.Keys.{key-none, none-fits, keyFrom, from-end, from-first, from-in, from-out}
 use borrow.Author.Needs.{needs}
-use Rattle.answer_arrange.proofs.key.key_of.Statement.{statement}
-use Rattle.answer_arrange.proofs.key.key_of.Tie as tie
+use Rattle.answer_key.proofs.key.key_of.Statement.{statement}
+use Rattle.answer_key.proofs.key.key_of.Tie as tie
 
 abbrev Inv-loop : tie.InvT-loop
 Inv-loop book held sets d p rank k syntax first i₀ best₀ i best =
