@@ -50,6 +50,10 @@ noLine = record { kind = 0; a = 0; b = 0; c = 0; place = 0; length = 0; next = 0
 abbrev pub notDue : ℕ → Due
 notDue n = record { refusal = n; line = noLine }
 
+-- the line that was due
+abbrev pub foundDue : Line → Due
+foundDue x = record { refusal = 0; line = x }
+
 -- the position after a line that was due, or its refusal
 abbrev pub afterDue : Due → Reached
 afterDue d = record { refusal = d .refusal; next = d .line .next }
@@ -63,7 +67,7 @@ afterGroup g = record { refusal = g .refusal; next = g .next }
 module _ (G : Grammar) (w : ℕ) (s : Bytes) where
   -- by what was seen where a line of kind `k` is due
   abbrev pub dueBy : ℕ → Seen → Due
-  dueBy k (Seen.Line x) = cond (eqb (x .kind) k) (cond (G .sound (lineOf s x)) (record { refusal = 0; line = x }) (notDue (G .refusals + 4))) (notDue (G .refusals + 3))
+  dueBy k (Seen.Line x) = cond (eqb (x .kind) k) (cond (G .sound (lineOf s x)) (foundDue x) (notDue (G .refusals + 4))) (notDue (G .refusals + 3))
   dueBy k Seen.NotAllowed = notDue (G .refusals + 2)
   dueBy k Seen.Missing = notDue (G .refusals + 3)
 

@@ -15,11 +15,13 @@ use sheet_kind::is;
 use sheet_line::Line;
 use sheet_line::Taken;
 ghost use mathlib.Core.Path.{_≡_};
+ghost use Prim.Native.Nat.{_+_, _≤_};
 ghost use Rattle.rules.specs.Sheet.{Usable};
 ghost use Rattle.rules.specs.Places.{schemaOf};
 ghost use Rattle.sheet_kind.specs.Kinds.{numberOf};
+ghost use Rattle.sheet_line.specs.Line.{takenAt};
 ghost use Rattle.sheet_due.specs.Grammars.{formsOf, refusalsOf, grammarOf};
-ghost use Rattle.sheet_due.specs.Lines.{seenAt, misplacedBy, reachedAt, afterDue, afterGroup, noLine, notDue, dueAt, linesDue, groupAt};
+ghost use Rattle.sheet_due.specs.Lines.{seenAt, misplacedBy, reachedAt, afterDue, afterGroup, noLine, notDue, foundDue, dueAt, linesDue, groupAt};
 
 // What stands at a position: a line that its sheet may have, a line not in form or not allowed, or nothing.
 pub enum Seen {
@@ -47,14 +49,23 @@ pub struct Group {
     pub next: usize,
 }
 
+// What stands at a position. The sheet is lent on as a part of itself: a slice lent on as it came is copied at once, and the processor waits where
+// its address and its length were written one by one just before.
+fn taken_at(s: &[u8], at: usize, w: usize) -> Taken
+    requires { ⌜ w ≤ 18 ⌝ }
+    ensures { λ r. ⌜ r ≡ takenAt w (now (s .entry)) at ⌝ }
+{
+    sheet_line::take(&s[0..], at, w)
+}
+
 // The line at a position, with its columns judged.
 pub fn seen_at(s: &[u8], f: Format, g: Grammar, at: usize) -> Seen
     requires { ⌜ Usable f ⌝ }
     ensures { λ r. ⌜ r ≡ seenAt (formsOf (f .top) g) (f .width) (now (s .entry)) at ⌝ }
 {
-    match sheet_line::take(s, at, f.width) {
+    match taken_at(s, at, f.width) {
         Taken::Line(line) => {
-            if in_form(g, line, f.top) {
+            if in_form(g, line.kind, line.a, line.b, line.c, line.length, f.top) {
                 Seen::Line(line)
             } else {
                 Seen::NotAllowed
@@ -129,6 +140,27 @@ fn not_due(refusal: u64) -> Due
     Due { refusal, line }
 }
 
+// A line that was due. Where it ends is computed again: copied, it would be copied at once with the number before it, as in `taken_at`.
+fn found(line: Line) -> Due
+    requires { ⌜ line .next ≡ line .place + line .length + 1 ⌝ }
+    ensures { λ r. ⌜ r ≡ foundDue line ⌝ }
+{
+    let place = line.place;
+    let length = line.length;
+    Due {
+        refusal: 0,
+        line: Line {
+            kind: line.kind,
+            a: line.a,
+            b: line.b,
+            c: line.c,
+            place,
+            length,
+            next: place + length + 1,
+        },
+    }
+}
+
 // The line of a kind that is due, unless there is a refusal already.
 pub fn due_at(s: &[u8], f: Format, g: Grammar, schema: &[u64], from: Reached, kind: Kind) -> Due
     requires { ⌜ Usable f ⌝ }
@@ -137,18 +169,21 @@ pub fn due_at(s: &[u8], f: Format, g: Grammar, schema: &[u64], from: Reached, ki
     if from.refusal != 0 {
         return not_due(from.refusal);
     }
-    match seen_at(s, f, g, from.next) {
-        Seen::Line(line) => {
+    match taken_at(s, from.next, f.width) {
+        Taken::Line(line) => {
+            if !in_form(g, line.kind, line.a, line.b, line.c, line.length, f.top) {
+                return not_due(refusal(g, NOT_ALLOWED));
+            }
             if !is(line.kind, kind) {
                 return not_due(refusal(g, OUT_OF_ORDER));
             }
             if sound(s, schema, g, line) {
-                return Due { refusal: 0, line };
+                return found(line);
             }
             not_due(refusal(g, OUTSIDE_SCHEMA))
         }
-        Seen::NotAllowed => not_due(refusal(g, NOT_ALLOWED)),
-        Seen::Missing => not_due(refusal(g, OUT_OF_ORDER)),
+        Taken::NotInForm => not_due(refusal(g, NOT_ALLOWED)),
+        Taken::End => not_due(refusal(g, OUT_OF_ORDER)),
     }
 }
 

@@ -75,6 +75,13 @@ fn order_blanks(v: &[u8], w: &[u8]) -> Order
     order_from(v, i, w, j)
 }
 
+// The same, the texts lent on as parts of themselves: so they are not copied where blanks are not looked at.
+fn by_blanks(v: &[u8], w: &[u8]) -> Order
+    ensures { λ r. ⌜ r ≡ orderBytes (normal text (now (v .entry))) (normal text (now (w .entry))) ⌝ }
+{
+    order_blanks(&v[0..], &w[0..])
+}
+
 // The order of two texts: by the bytes after the beginning that they share, where neither is a blank; blanks are looked at only where one is.
 fn order_after(v: &[u8], w: &[u8]) -> Order
     ensures { λ r. ⌜ r ≡ orderBytes (normal text (now (v .entry))) (normal text (now (w .entry))) ⌝ }
@@ -84,16 +91,16 @@ fn order_after(v: &[u8], w: &[u8]) -> Order
         if i == w.len() {
             return Order::Equal;
         }
-        return order_blanks(v, w);
+        return by_blanks(v, w);
     }
     if i == w.len() {
-        return order_blanks(v, w);
+        return by_blanks(v, w);
     }
     if v[i] == BLANK {
-        return order_blanks(v, w);
+        return by_blanks(v, w);
     }
     if w[i] == BLANK {
-        return order_blanks(v, w);
+        return by_blanks(v, w);
     }
     apart(small(v[i]), small(w[i]))
 }

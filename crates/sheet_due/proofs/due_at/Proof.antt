@@ -1,10 +1,10 @@
--- By the refusal, by what was seen, then by the tests of a line; a line that was seen fits the sheet.
+-- By the refusal, by what was taken, then by the tests of a line; a line that was taken fits the sheet.
 use mathlib.Core.Path.{sym, ap, _∙_}
 use native.Mathlib.Omega.{arith}
 use borrow.Author.Tests.{eq-eqb, ne-eqb, not-true, not-false}
 use denote.Ref.{now}
-use Rattle.sheet_due.specs.Lines.{dueAt, notDue}
-use Rattle.sheet_due.specs.Laws.Lines.{seen-stands}
+use Rattle.sheet_line.specs.Laws.{taken-fits-line}
+use Rattle.sheet_due.specs.Lines.{seenAt, dueAt, notDue}
 use borrow.Author.Needs.{needs}
 use Rattle.sheet_due.proofs.due_at.Statement.{statement}
 use Rattle.sheet_due.proofs.due_at.Tie as tie
@@ -14,31 +14,38 @@ unfolding dueAt
 returns c = rw (ne-eqb _ 0 (c .before .if1 .taken)) (c .not-due .ensures)
 
 returns-2 : tie.Need-returns-2
-unfolding dueAt
-returns-2 c = rw (eq-eqb _ 0 (c .before .before .before .before .before .before .before .before .if1 .left), sym (c .before .before .before .before .before .before .before .seen-at .ensures) ∙ c .before .before .before .before .before .line .given .1, sym (c .before .before .before .is .ensures) ∙ not-true _ (c .before .before .if2 .taken)) (c .not-due2 .ensures ∙ ap notDue (c .before .refusal .ensures))
-
-sound-requires : tie.Need-sound-requires
-sound-requires c κs = let f = seen-stands _ (c .before .before .before .before .before .before .before .before .before .before .args .f .width) (now (c .before .before .before .before .before .before .before .before .before .before .args .s)) _ (sym (c .before .before .before .before .before .seen-at .ensures) ∙ c .before .before .before .line .given .1) .fits in omega (arith, f .next, f .within)
+unfolding dueAt seenAt
+returns-2 c = rw (eq-eqb _ 0 (c .before .before .before .before .before .before .before .before .if1 .left), sym (c .before .before .before .before .before .before .before .taken-at .ensures) ∙ c .before .before .before .before .before .line .given .1, sym (c .before .before .before .in-form .ensures) ∙ not-true _ (c .before .before .if2 .taken)) (c .not-due2 .ensures ∙ ap notDue (c .before .refusal .ensures))
 
 returns-3 : tie.Need-returns-3
-unfolding dueAt
-returns-3 c = rw (eq-eqb _ 0 (c .before .before .before .before .before .before .before .before .if1 .left), sym (c .before .before .before .before .before .before .before .seen-at .ensures) ∙ c .before .before .before .before .before .line .given .1, sym (c .before .before .before .is .ensures) ∙ not-false _ (c .before .before .if2 .left), sym (c .before .sound .ensures) ∙ c .if3 .taken)
+unfolding dueAt seenAt
+returns-3 c = rw (eq-eqb _ 0 (c .before .before .before .before .before .before .before .before .before .before .if1 .left), sym (c .before .before .before .before .before .before .before .before .before .taken-at .ensures) ∙ c .before .before .before .before .before .before .before .line .given .1, sym (c .before .before .before .before .before .in-form .ensures) ∙ not-false _ (c .before .before .before .before .if2 .left), sym (c .before .before .before .is .ensures) ∙ not-true _ (c .before .before .if3 .taken)) (c .not-due3 .ensures ∙ ap notDue (c .before .refusal2 .ensures))
+
+sound-requires : tie.Need-sound-requires
+sound-requires c κs = let f = taken-fits-line (c .before .before .before .before .before .before .before .before .before .before .before .before .args .f .width) (now (c .before .before .before .before .before .before .before .before .before .before .before .before .args .s)) _ (sym (c .before .before .before .before .before .before .before .taken-at .ensures) ∙ c .before .before .before .before .before .line .given .1) in omega (arith, f .next, f .within)
+
+found-requires : tie.Need-found-requires
+found-requires c κs = taken-fits-line (c .before .before .before .before .before .before .before .before .before .before .before .before .before .before .args .f .width) (now (c .before .before .before .before .before .before .before .before .before .before .before .before .before .before .args .s)) _ (sym (c .before .before .before .before .before .before .before .before .before .taken-at .ensures) ∙ c .before .before .before .before .before .before .before .line .given .1) .next
 
 returns-4 : tie.Need-returns-4
-unfolding dueAt
-returns-4 c = rw (eq-eqb _ 0 (c .before .before .before .before .before .before .before .before .before .before .if1 .left), sym (c .before .before .before .before .before .before .before .before .before .seen-at .ensures) ∙ c .before .before .before .before .before .before .before .line .given .1, sym (c .before .before .before .before .before .is .ensures) ∙ not-false _ (c .before .before .before .before .if2 .left), sym (c .before .before .before .sound .ensures) ∙ c .before .before .if3 .left) (c .not-due3 .ensures ∙ ap notDue (c .before .refusal2 .ensures))
+unfolding dueAt seenAt
+returns-4 c = rw (eq-eqb _ 0 (c .before .before .before .before .before .before .before .before .before .before .before .if1 .left), sym (c .before .before .before .before .before .before .before .before .before .before .taken-at .ensures) ∙ c .before .before .before .before .before .before .before .before .line .given .1, sym (c .before .before .before .before .before .before .in-form .ensures) ∙ not-false _ (c .before .before .before .before .before .if2 .left), sym (c .before .before .before .before .is .ensures) ∙ not-false _ (c .before .before .before .if3 .left), sym (c .before .before .sound .ensures) ∙ c .before .if4 .taken) (c .found .ensures)
 
 returns-5 : tie.Need-returns-5
-unfolding dueAt
-returns-5 c = rw (eq-eqb _ 0 (c .before .before .before .before .before .if1 .left), sym (c .before .before .before .before .seen-at .ensures) ∙ c .before .before .enum-told .given .1) (c .not-due4 .ensures ∙ ap notDue (c .before .refusal3 .ensures))
+unfolding dueAt seenAt
+returns-5 c = rw (eq-eqb _ 0 (c .before .before .before .before .before .before .before .before .before .before .before .before .if1 .left), sym (c .before .before .before .before .before .before .before .before .before .before .before .taken-at .ensures) ∙ c .before .before .before .before .before .before .before .before .before .line .given .1, sym (c .before .before .before .before .before .before .before .in-form .ensures) ∙ not-false _ (c .before .before .before .before .before .before .if2 .left), sym (c .before .before .before .before .before .is .ensures) ∙ not-false _ (c .before .before .before .before .if3 .left), sym (c .before .before .before .sound .ensures) ∙ c .before .before .if4 .left) (c .not-due4 .ensures ∙ ap notDue (c .before .refusal3 .ensures))
 
 returns-6 : tie.Need-returns-6
-unfolding dueAt
-returns-6 c = rw (eq-eqb _ 0 (c .before .before .before .before .before .if1 .left), sym (c .before .before .before .before .seen-at .ensures) ∙ c .before .before .enum-told2 .given .1) (c .not-due5 .ensures ∙ ap notDue (c .before .refusal4 .ensures))
+unfolding dueAt seenAt
+returns-6 c = rw (eq-eqb _ 0 (c .before .before .before .before .before .if1 .left), sym (c .before .before .before .before .taken-at .ensures) ∙ c .before .before .enum-told .given .1) (c .not-due5 .ensures ∙ ap notDue (c .before .refusal4 .ensures))
+
+returns-7 : tie.Need-returns-7
+unfolding dueAt seenAt
+returns-7 c = rw (eq-eqb _ 0 (c .before .before .before .before .before .if1 .left), sym (c .before .before .before .before .taken-at .ensures) ∙ c .before .before .enum-told2 .given .1) (c .not-due6 .ensures ∙ ap notDue (c .before .refusal5 .ensures))
 
 pub due-at-spec : {M : Type 1} → statement M
 due-at-spec =
     tie.close
     (tie.spec (λ c κs. search needs) returns (λ c κs. search needs) (λ c. search needs) (λ c κs. search needs) (λ c κs. search needs) (λ c κs. search needs) returns-2
-    sound-requires returns-3 (λ c κs. search needs) (λ c κs. search needs) (λ c. search needs) (λ c κs. search needs) (λ c κs. search needs)
-    (λ c. search needs) (λ c κs. search needs) (λ c κs. search needs) returns-4 returns-5 returns-6)
+    (λ c κs. search needs) (λ c κs. search needs) (λ c κs. search needs) returns-3 sound-requires found-requires returns-4 (λ c κs. search needs) (λ c κs. search needs)
+    (λ c. search needs) (λ c κs. search needs) (λ c κs. search needs) (λ c. search needs) (λ c κs. search needs) (λ c κs. search needs) returns-5 returns-6 returns-7)
