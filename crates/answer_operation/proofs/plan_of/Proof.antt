@@ -16,48 +16,20 @@ use Rattle.answer_operation.specs.Laws.Posed.{posed-full, to-target, to-
 use borrow.Author.Needs.{needs}
 use Rattle.answer_operation.proofs.plan_of.Statement.{statement}
 use Rattle.answer_operation.proofs.plan_of.Tie as tie
-use Rattle.answer_operation.proofs.plan_of.Reads as reads
-use Rattle.answer_operation.proofs.plan_of.Lts as lts
-use Rattle.answer_operation.proofs.plan_at.Reads as plan-at-reads
-use Rattle.answer_plan.proofs.refused.Reads as refused-reads
-use Rattle.answer_target.proofs.target_of.Reads as target-of-reads
 
--- src/lib.rt:92:11
 target-of-requires : tie.Need-target-of-requires
 target-of-requires c κs = let A = c .before .before .before .args in let h = c .before .before .before .pre .0 in ((now (A .p), now (A .held), (h .0, h .1, h .4 .world)), posed-full h)
 
--- src/lib.rt:93:26
-enum-known-target : tie.Need-enum-known-target
-enum-known-target c = search needs
-
--- src/lib.rt:94:13
 plan-at-requires : tie.Need-plan-at-requires
 plan-at-requires c κs = let A = c .before .before .before .before .before .before .before .before .args in let h = c .before .before .before .before .before .before .before .before .pre .0 in let T = to-target (h .4) _ (c .before .before .before .before .target-of .ensures (h .0) (h .1) (now (A .p)) (now (A .held)) (h .4 .world)) (c .before .before .target .given .1) in ((h .0, h .1, h .2, h .3, T .0, h .4, T .1), search needs)
 
--- src/lib.rt:96:60
-enum-told : tie.Need-enum-told
-enum-told c = search needs
-
--- src/lib.rt:96:35
-refused-requires : tie.Need-refused-requires
-refused-requires c κs = search needs
-
--- src/lib.rt:78:1
 returns : tie.Need-returns
 returns c = let A = c .before .before .before .before .before .before .before .before .before .args in (c .plan-at .ensures .0, λ σ es G x Q. let T = to-target Q _ (c .before .before .before .before .before .target-of .ensures σ es (now (A .p)) (now (A .held)) (Q .world)) (c .before .before .before .target .given .1) in (c .plan-at .ensures .1 σ es G x (T .0) Q (T .1) ∙ answer-named σ es (x .base) (x .operation) (T .0) (T .2), c .plan-at .ensures .2 σ es G x (Q .world) (Q .noted) ∙ ap (λ (f : List ℕ). over f (now (A .hits))) (found-named σ es (x .base) (x .operation) (T .0) _ _ (T .1) (T .2))))
 
--- src/lib.rt:78:1
 returns-2 : tie.Need-returns-2
 returns-2 c = let A = c .before .before .before .before .before .before .before .args in let b = now (A .book) in (subst (λ (r : Plan). SoundPlan (entries b) r (now (A .hits))) (sym (c .refused .ensures)) (refused-sound (entries b) (now (A .hits)) (A .asked .operation) AliasProblem), λ σ es G x Q. let z = to-problem Q _ (c .before .before .before .target-of .ensures σ es (now (A .p)) (now (A .held)) (Q .world)) (c .before .enum-told .given .1) in (ap (λ (r : Plan). planned σ es (selectionOf (x .operation)) r (now (A .hits))) (c .refused .ensures) ∙ refused-planned σ es (selectionOf (x .operation)) (now (A .hits)) (A .asked .operation) AliasProblem (omega arith) ∙ ap (λ (o : ℕ). outcome o AliasProblem) (operation-is G (width b) (now (A .q)) (A .asked) (x .operation) (Q .noted .operation)) ∙ answer-problem σ es (x .base) (x .operation) z, found-none σ es (x .base) (x .operation) (now (A .hits)) z))
 
 pub plan-of-spec : {M : Type 1} → statement M
 plan-of-spec =
     tie.close
-    (tie.spec
-    target-of-requires
-    enum-known-target
-    plan-at-requires
-    enum-told
-    refused-requires
-    returns
-    returns-2)
+    (tie.spec target-of-requires (λ c. search needs) plan-at-requires (λ c. search needs) (λ c κs. search needs) returns returns-2)

@@ -10,56 +10,14 @@ use Rattle.sheet_write.specs.Laws.Put.{put-length}
 use borrow.Author.Needs.{needs}
 use Rattle.answer_target.proofs.replace.replaced.Statement.{statement}
 use Rattle.answer_target.proofs.replace.replaced.Tie as tie
-use Rattle.answer_target.proofs.replace.replaced.Reads as reads
-use Rattle.answer_target.proofs.replace.replaced.Lts as lts
-use Rattle.answer_target.proofs.replace.put_parts.Reads as put-parts-reads
 
--- src/replace.rt:61:13
-element-copy-out-w : tie.Need-element-copy-out-w
-element-copy-out-w c = search needs
-
--- src/replace.rt:62:33
-sub-target : tie.Need-sub-target
-sub-target c = search needs
-
--- src/replace.rt:62:23
-add-target : tie.Need-add-target
-add-target c = search needs
-
--- src/replace.rt:62:18
-mul-target : tie.Need-mul-target
-mul-target c = search needs
-
--- src/replace.rt:62:18
-element-copy-out-target : tie.Need-element-copy-out-target
-element-copy-out-target c = search needs
-
--- src/replace.rt:64:9
-put-parts-requires : tie.Need-put-parts-requires
-put-parts-requires c κs = search needs
-
--- src/replace.rt:65:5
 put-parts-requires-2 : tie.Need-put-parts-requires-2
 put-parts-requires-2 c κs = let E = c .before .before .before .before .before .before .before .pre .0 .3 in let A = c .before .before .before .before .before .before .before .args in let x = targetAt (now (A .book)) (A .e - 1) in let r = bytes-room (width (now (A .book))) (E .fits .wide) (now (A .d)) (x % 16) (x / 16) in let t = target-few E (A .e) (c .before .before .before .before .before .before .before .pre .1) (c .before .before .before .before .before .before .before .pre .2) in let k = ap length (c .before .put-parts .ensures .1) ∙ put-length _ 0 (partBytes (width (now (A .book))) (now (A .d)) (x / 16) (x % 16)) (omega (arith, r, t, c .before .before .before .before .before .before .before .pre .5)) in (omega (arith, E .fits .narrow), E .fits .wide, omega (arith, c .before .put-parts .ensures .0, r, t, c .before .before .before .before .before .before .before .pre .3, c .before .before .before .before .before .before .before .pre .5, k))
 
--- src/replace.rt:66:5
-add-result : tie.Need-add-result
-add-result c = search needs
-
--- src/replace.rt:49:1
 returns : tie.Need-returns
 returns c = let A = c .before .before .before .before .before .before .before .before .args in let b = now (A .book) in let x = targetAt b (A .e - 1) in (let E = c .before .before .before .before .before .before .before .before .pre .0 .3 in replaced-size (width b) (E .fits .narrow) (E .fits .wide) (now (A .d)) (now (A .s)) (x / 16) (x % 16) (A .next) (A .left) _ _ _ _ (omega (arith, c .before .before .before .before .before .before .before .before .pre .5, c .before .before .before .before .before .before .before .before .pre .3, target-few E (A .e) (c .before .before .before .before .before .before .before .before .pre .1) (c .before .before .before .before .before .before .before .before .pre .2))) (c .before .before .put-parts .ensures .0) (c .before .before .put-parts .ensures .1) (c .put-parts2 .ensures .1) ∙ c .before .before .before .before .before .before .before .before .pre .5, λ σ es held E. replaced-holds (width b) (E .fits .narrow) (E .fits .wide) (now (A .d)) (now (A .s)) (x / 16) (x % 16) (A .next) (A .left) _ _ _ _ (omega (arith, c .before .before .before .before .before .before .before .before .pre .5, c .before .before .before .before .before .before .before .before .pre .3, target-few E (A .e) (c .before .before .before .before .before .before .before .before .pre .1) (c .before .before .before .before .before .before .before .before .pre .2))) (c .before .before .put-parts .ensures .0) (c .before .before .put-parts .ensures .1) (c .put-parts2 .ensures .1) (target-count E (A .e) (c .before .before .before .before .before .before .before .before .pre .1) (c .before .before .before .before .before .before .before .before .pre .2)) (c .before .before .before .before .before .before .before .before .pre .4) (target-parts E (A .e) (c .before .before .before .before .before .before .before .before .pre .1) (c .before .before .before .before .before .before .before .before .pre .2)))
 
 pub replaced-spec : {M : Type 1} → statement M
 replaced-spec =
     tie.close
-    (tie.spec
-    element-copy-out-w
-    sub-target
-    add-target
-    mul-target
-    element-copy-out-target
-    put-parts-requires
-    put-parts-requires-2
-    add-result
-    returns)
+    (tie.spec (λ c. search needs) (λ c. search needs) (λ c. search needs) (λ c. search needs) (λ c. search needs) (λ c κs. search needs) put-parts-requires-2 (λ c. search needs) returns)

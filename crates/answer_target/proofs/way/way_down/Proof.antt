@@ -8,10 +8,6 @@ use Rattle.answer_target.specs.Laws.Way.{going-full, Going, going-positi
 use borrow.Author.Needs.{needs}
 use Rattle.answer_target.proofs.way.way_down.Statement.{statement}
 use Rattle.answer_target.proofs.way.way_down.Tie as tie
-use Rattle.answer_target.proofs.way.way_down.Reads as reads
-use Rattle.answer_target.proofs.way.way_down.Lts as lts
-use Rattle.answer_target.proofs.way.disclosed.Reads as disclosed-reads
-use Rattle.directory_lookup.proofs.find.down.Reads as down-reads
 
 abbrev Inv-loop : tie.InvT-loop
 Inv-loop book sets d s place parts stop from₀ last₀ j₀ left₀ from last j left = (from ≤ entries book) × (last ≤ entries book) × (left ≤ parts) × Full (width book) s j left × Going book sets d s place parts stop from last j left
@@ -19,109 +15,43 @@ Inv-loop book sets d s place parts stop from₀ last₀ j₀ left₀ from last j
 abbrev μ-loop : tie.MeasureT-loop
 μ-loop book sets d s place parts stop from₀ last₀ j₀ left₀ from last j left = left
 
--- src/way.rt:61:5
-loop-holds : tie.Need-loop-holds Inv-loop μ-loop
-loop-holds c = search needs
-
--- src/way.rt:62:15
-down-requires : tie.Need-down-requires Inv-loop μ-loop
-down-requires c κs = search needs
-
--- src/way.rt:63:27
-enum-known-number : tie.Need-enum-known-number Inv-loop μ-loop
-enum-known-number c = search needs
-
--- src/way.rt:64:17
 disclosed-requires : tie.Need-disclosed-requires Inv-loop μ-loop
 disclosed-requires c κs = known-entry (c .before .before .before .before .before .before .before .before .pre .0 .2) _ (c .before .before .before .before .before .loop .inv .0)
 
--- src/way.rt:65:17
-sub-left : tie.Need-sub-left Inv-loop μ-loop
-sub-left c = search needs
-
--- src/way.rt:67:39
 sub-if2 : tie.Need-sub-if2 Inv-loop μ-loop
 sub-if2 c = let L = c .before .before .before .before .before .before .before .loop in let n = within-of _ _ _ _ (c .before .before .before .before .before .down .ensures .0) (c .before .before .before .number .given .1) in let o = going-positive _ _ _ _ _ _ _ (L .inv .4) (c .before .before .before .before .before .before .loop-test .taken) (c .before .before .before .before .before .down .ensures .1) (c .before .before .before .number .given .1) (c .before .before .before .before .before .before .before .before .before .before .pre .0 .2) in omega (arith, o)
 
--- src/way.rt:67:29
 add-if2 : tie.Need-add-if2 Inv-loop μ-loop
 add-if2 c = let L = c .before .before .before .before .before .before .before .loop in let n = within-of _ _ _ _ (c .before .before .before .before .before .down .ensures .0) (c .before .before .before .number .given .1) in let o = going-positive _ _ _ _ _ _ _ (L .inv .4) (c .before .before .before .before .before .before .loop-test .taken) (c .before .before .before .before .before .down .ensures .1) (c .before .before .before .number .given .1) (c .before .before .before .before .before .before .before .before .before .before .pre .0 .2) in let f = (c .before .before .before .before .before .before .before .before .before .before .pre .0 .2 .2) .entries .fits in omega (arith, n, f .few-entries)
 
--- src/way.rt:67:24
 mul-if2 : tie.Need-mul-if2 Inv-loop μ-loop
 mul-if2 c = let L = c .before .before .before .before .before .before .before .loop in let n = within-of _ _ _ _ (c .before .before .before .before .before .down .ensures .0) (c .before .before .before .number .given .1) in let o = going-positive _ _ _ _ _ _ _ (L .inv .4) (c .before .before .before .before .before .before .loop-test .taken) (c .before .before .before .before .before .down .ensures .1) (c .before .before .before .number .given .1) (c .before .before .before .before .before .before .before .before .before .before .pre .0 .2) in let f = (c .before .before .before .before .before .before .before .before .before .before .pre .0 .2 .2) .entries .fits in omega (arith, n, f .few-entries)
 
--- src/way.rt:67:24
 element-copy-out-if2 : tie.Need-element-copy-out-if2 Inv-loop μ-loop
 element-copy-out-if2 c = let L = c .before .before .before .before .before .before .before .loop in let n = within-of _ _ _ _ (c .before .before .before .before .before .down .ensures .0) (c .before .before .before .number .given .1) in let o = going-positive _ _ _ _ _ _ _ (L .inv .4) (c .before .before .before .before .before .before .loop-test .taken) (c .before .before .before .before .before .down .ensures .1) (c .before .before .before .number .given .1) (c .before .before .before .before .before .before .before .before .before .before .pre .0 .2) in let f = (c .before .before .before .before .before .before .before .before .before .before .pre .0 .2 .2) .entries .fits in omega (arith, n, o, f .few-entries)
 
--- src/way.rt:68:25
 returns : tie.Need-returns Inv-loop μ-loop
 returns c = let L = c .before .before .before .before .before .before .before .before .before .loop in let n = within-of _ _ _ _ (c .before .before .before .before .before .before .before .down .ensures .0) (c .before .before .before .before .before .number .given .1) in let o = going-positive _ _ _ _ _ _ _ (L .inv .4) (c .before .before .before .before .before .before .before .before .loop-test .taken) (c .before .before .before .before .before .before .before .down .ensures .1) (c .before .before .before .before .before .number .given .1) (c .before .before .before .before .before .before .before .before .before .before .before .before .pre .0 .2) in let u = going-full _ _ _ _ _ _ _ (L .inv .4) (c .before .before .before .before .before .before .before .before .loop-test .taken) (c .before .before .before .before .before .before .before .down .ensures .1) (c .before .before .before .before .before .number .given .1) (c .before .before .before .before .before .before .before .before .before .before .before .before .pre .0 .2) (L .inv .3) in ((o, n, omega (arith, L .inv .2, c .before .before .before .before .before .before .before .before .loop-test .taken), u), going-met _ _ _ _ _ _ _ (L .inv .4) (c .before .before .before .before .before .before .before .before .loop-test .taken) (c .before .before .before .before .before .before .before .down .ensures .1) (c .before .before .before .before .before .number .given .1) (c .before .before .if1 .taken) o n (c .if2 .taken))
 
--- src/way.rt:61:5
-loop-less : tie.Need-loop-less Inv-loop μ-loop
-loop-less c = search needs
-
--- src/way.rt:61:5
 loop-again : tie.Need-loop-again Inv-loop μ-loop
 loop-again c = let L = c .before .before .before .before .before .before .before .before .before .loop in let n = within-of _ _ _ _ (c .before .before .before .before .before .before .before .down .ensures .0) (c .before .before .before .before .before .number .given .1) in let o = going-positive _ _ _ _ _ _ _ (L .inv .4) (c .before .before .before .before .before .before .before .before .loop-test .taken) (c .before .before .before .before .before .before .before .down .ensures .1) (c .before .before .before .before .before .number .given .1) (c .before .before .before .before .before .before .before .before .before .before .before .before .pre .0 .2) in let u = going-full _ _ _ _ _ _ _ (L .inv .4) (c .before .before .before .before .before .before .before .before .loop-test .taken) (c .before .before .before .before .before .before .before .down .ensures .1) (c .before .before .before .before .before .number .given .1) (c .before .before .before .before .before .before .before .before .before .before .before .before .pre .0 .2) (L .inv .3) in (n, c .before .before .before .disclosed .ensures .0 _ (L .inv .0) (L .inv .1), omega (arith, L .inv .2), u, going-past _ _ _ _ _ _ _ (L .inv .4) (c .before .before .before .before .before .before .before .before .loop-test .taken) (c .before .before .before .before .before .before .before .down .ensures .1) (c .before .before .before .before .before .number .given .1) (c .before .before .if1 .taken) o n (c .if2 .left) (λ σ es p held W. c .before .before .before .disclosed .ensures .1 σ es _ p _ held W (omega (arith, L .inv .0, W .entries .count))))
 
--- src/way.rt:61:5
-loop-less-2 : tie.Need-loop-less-2 Inv-loop μ-loop
-loop-less-2 c = search needs
-
--- src/way.rt:61:5
 loop-again-2 : tie.Need-loop-again-2 Inv-loop μ-loop
 loop-again-2 c = let L = c .before .before .before .before .before .before .before .loop in let n = within-of _ _ _ _ (c .before .before .before .before .before .down .ensures .0) (c .before .before .before .number .given .1) in let o = going-positive _ _ _ _ _ _ _ (L .inv .4) (c .before .before .before .before .before .before .loop-test .taken) (c .before .before .before .before .before .down .ensures .1) (c .before .before .before .number .given .1) (c .before .before .before .before .before .before .before .before .before .before .pre .0 .2) in let u = going-full _ _ _ _ _ _ _ (L .inv .4) (c .before .before .before .before .before .before .loop-test .taken) (c .before .before .before .before .before .down .ensures .1) (c .before .before .before .number .given .1) (c .before .before .before .before .before .before .before .before .before .before .pre .0 .2) (L .inv .3) in (n, c .before .disclosed .ensures .0 _ (L .inv .0) (L .inv .1), omega (arith, L .inv .2), u, going-on _ _ _ _ _ _ _ (L .inv .4) (c .before .before .before .before .before .before .loop-test .taken) (c .before .before .before .before .before .down .ensures .1) (c .before .before .before .number .given .1) (c .if1 .left) (λ σ es p held W. c .before .disclosed .ensures .1 σ es _ p _ held W (omega (arith, L .inv .0, W .entries .count))))
 
--- src/way.rt:76:27
-enum-told : tie.Need-enum-told Inv-loop μ-loop
-enum-told c = search needs
-
--- src/way.rt:77:30
 disclosed-requires-2 : tie.Need-disclosed-requires-2 Inv-loop μ-loop
 disclosed-requires-2 c κs = known-entry (c .before .before .before .before .before .before .before .pre .0 .2) _ (c .before .before .before .before .loop .inv .0)
 
--- src/way.rt:75:17
 returns-2 : tie.Need-returns-2 Inv-loop μ-loop
 returns-2 c = let L = c .before .before .before .before .before .loop in (c .disclosed2 .ensures .0 _ (L .inv .0) (L .inv .1), going-lost _ _ _ _ _ _ _ (L .inv .4) (c .before .before .before .before .loop-test .taken) (c .before .before .before .down .ensures .1) (c .before .enum-told .given .1) (λ σ es p held W. c .disclosed2 .ensures .1 σ es _ p _ held W (omega (arith, L .inv .0, W .entries .count))))
 
--- src/way.rt:82:27
-enum-told-2 : tie.Need-enum-told-2 Inv-loop μ-loop
-enum-told-2 c = search needs
-
--- src/way.rt:81:17
 returns-3 : tie.Need-returns-3 Inv-loop μ-loop
 returns-3 c = let L = c .before .before .before .before .loop in (L .inv .1, going-ended _ _ _ _ _ _ _ (L .inv .4) (c .before .before .before .loop-test .taken) (c .before .before .down .ensures .1) (c .enum-told2 .given .1))
 
--- src/way.rt:45:1
 returns-4 : tie.Need-returns-4 Inv-loop μ-loop
 returns-4 c = let L = c .before .loop in (L .inv .1, going-end _ _ _ _ _ _ _ (L .inv .4) (c .loop-test .left))
 
 pub way-down-spec : {M : Type 1} → statement M
 way-down-spec =
     tie.close
-    (tie.spec
-    Inv-loop
-    μ-loop
-    loop-holds
-    down-requires
-    enum-known-number
-    disclosed-requires
-    sub-left
-    sub-if2
-    add-if2
-    mul-if2
-    element-copy-out-if2
-    returns
-    loop-less
-    loop-again
-    loop-less-2
-    loop-again-2
-    enum-told
-    disclosed-requires-2
-    returns-2
-    enum-told-2
-    returns-3
-    returns-4)
+    (tie.spec Inv-loop μ-loop (λ c. search needs) (λ c κs. search needs) (λ c. search needs) disclosed-requires (λ c. search needs) sub-if2 add-if2 mul-if2 element-copy-out-if2 returns (λ c. search needs) loop-again (λ c. search needs) loop-again-2 (λ c. search needs) disclosed-requires-2 returns-2 (λ c. search needs) returns-3 returns-4)
