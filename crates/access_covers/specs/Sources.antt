@@ -2,19 +2,19 @@
 use Prim.Native.Nat.{ℕ, _≤_, _<_}
 use mathlib.Core.Path.{_≡_}
 use mathlib.Core.List.{List, map}
-use lib.ListN.{length, getD}
+use lib.ListN.{length, getD, take}
 use Rattle.rules.specs.Directory.{Stored, blank}
 use Rattle.rules.specs.Decision.{Setting}
 use Rattle.rules.specs.Laws.Directory.{Accepted}
 use Rattle.rules.specs.Laws.First.{Ranked}
-use Rattle.rules.specs.Numbers.{reachOf}
+use Rattle.tables.specs.Numbers.{reachOf}
 
 -- of the setting's items and the accepted entries `es`
 pub record Sources (σ : Setting) (es : List Stored) (reach order parents : List ℕ) : Type 0 where
   pub accepted : Accepted (σ .schema) es
   pub few : length es ≤ 256
   pub few-items : length (σ .items) ≤ 256
-  pub reach-is : reach ≡ map (reachOf σ es) (σ .items)
+  pub reach-is : take (length (σ .items)) reach ≡ map (reachOf σ es) (σ .items)
   pub ranked : Ranked (σ .items) order
   pub count : length order ≡ length (σ .items)
   pub parents-noted : length parents ≡ length es

@@ -1,22 +1,23 @@
 // The items that cover each entry and fit the requester, for all entries in one pass in directory order; and with them all that the requester may.
+mod down;
 mod enter;
 mod row;
 
+use down::DOWN;
 use tables::sets::SETS;
 ghost use mathlib.Core.Path.{_≡_};
 ghost use Prim.Native.Nat.{ℕ, _≤_, _<_};
 ghost use lib.ListN.{length, getD};
 ghost use Rattle.directory_schema.specs.Schema.{Rising};
-ghost use Rattle.tables.specs.Sets as Sets;
 ghost use Rattle.access_items.specs.Note.{Rows};
 ghost use Rattle.access_covers.specs.Noted.{coversNoted, rightsNoted};
 
 // The items that cover each entry, into its row; none into the root's. `reach` says which entries each item is for, by its number.
-pub fn note_covers(reach: &[usize], order: &[usize], parents: &[u64], sets: &mut [u64; SETS])
-    requires { ⌜ (length (now sets) ≡ Sets.SETS) × (length (now order) ≤ 256) × (length (now parents) ≤ 256) × ((p : ℕ) → p < length (now order) → getD (now order) p 0 < length (now reach)) × ((k : ℕ) → k < length (now parents) → getD (now parents) k 0 ≤ k) ⌝ }
+pub fn note_covers(reach: &[usize; 256], order: &[usize], parents: &[u64], sets: &mut [u64; SETS])
+    requires { ⌜ (length (now order) ≤ 256) × (length (now parents) ≤ 256) × ((p : ℕ) → p < length (now order) → getD (now order) p 0 < 256) × ((k : ℕ) → k < length (now parents) → getD (now parents) k 0 ≤ k) ⌝ }
     ensures { λ _. ⌜ now (sets .exit) ≡ coversNoted (now (reach .entry)) (now (order .entry)) (now (parents .entry)) (now (sets .entry)) ⌝ }
 {
-    let mut down: [u64; 1028] = [0; 1028];
+    let mut down: [u64; DOWN] = [0; DOWN];
     enter::enter_all(reach, order, sets, &mut down);
     let mut k: usize = 0;
     while k < parents.len() {
@@ -27,14 +28,14 @@ pub fn note_covers(reach: &[usize], order: &[usize], parents: &[u64], sets: &mut
 
 // What the requester may, into the table.
 pub fn note_rights(
-    rights: &[u64],
+    rights: &[u64; 2048],
     schema: &[u64],
     order: &[usize],
-    reach: &[usize],
+    reach: &[usize; 256],
     parents: &[u64],
     sets: &mut [u64; SETS],
 )
-    requires { ⌜ (length (now sets) ≡ Sets.SETS) × Rising 0 (now schema) × (length (now schema) ≤ 64) × (length (now order) ≤ 256) × (length (now parents) ≤ 256) × Rows (now rights) (now order) × ((p : ℕ) → p < length (now order) → getD (now order) p 0 < length (now reach)) × ((k : ℕ) → k < length (now parents) → getD (now parents) k 0 ≤ k) ⌝ }
+    requires { ⌜ Rising 0 (now schema) × (length (now schema) ≤ 64) × (length (now order) ≤ 256) × (length (now parents) ≤ 256) × Rows (now rights) (now order) × ((p : ℕ) → p < length (now order) → getD (now order) p 0 < 256) × ((k : ℕ) → k < length (now parents) → getD (now parents) k 0 ≤ k) ⌝ }
     ensures { λ _. ⌜ now (sets .exit) ≡ rightsNoted (now (rights .entry)) (now (schema .entry)) (now (order .entry)) (now (reach .entry)) (now (parents .entry)) (now (sets .entry)) ⌝ }
 {
     access_items::note_items(rights, schema, order, sets);

@@ -12,7 +12,7 @@ use Rattle.access_items.specs.Mark.{marked}
 
 -- the row is there, and its numbers are those of an accepted item
 pub record Small (rights : List ℕ) (at : ℕ) : Type 0 where
-  pub within : at + RIGHTS ≤ length rights
+  pub within : at + RIGHTS ≤ 2048
   pub digest : getD rights (at + DIGEST) 0 < 4294967296
   pub grants : getD rights (at + GRANTS) 0 < 2
   pub what : getD rights (at + WHAT) 0 < 6

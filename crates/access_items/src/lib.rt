@@ -8,38 +8,29 @@ use permission_sheet::SCORE;
 use tables::sets::SETS;
 ghost use mathlib.Core.Path.{_≡_};
 ghost use mathlib.Core.List.{_++_};
-ghost use Prim.Native.Nat.{_*_, _≤_};
-ghost use lib.ListN.{length, take, drop};
+ghost use Prim.Native.Nat.{_≤_};
+ghost use lib.ListN.{length, drop};
 ghost use Rattle.directory_schema.specs.Schema.{Rising};
-ghost use Rattle.tables.specs.Sets as Sets;
-ghost use Rattle.access_items.specs.Rank.{scoresOf, orderOf};
+ghost use Rattle.access_items.specs.Rank.{orderOf};
 ghost use Rattle.access_items.specs.Note.{Rows, itemsNoted};
 
-// The scores of the first items, to the front of `keys`.
-fn scores(rights: &[u64], count: usize, keys: &mut [u64])
-    requires { ⌜ (count ≤ length (now keys)) × (count * 8 ≤ length (now rights)) ⌝ }
-    ensures { λ _. ⌜ take count (now (keys .exit)) ≡ scoresOf (now (rights .entry)) count ⌝ }
+// The numbers of the items in order of weight, to the front of `order`.
+pub fn rank_items(rights: &[u64; 2048], count: usize, order: &mut [usize; 256])
+    requires { ⌜ (length (now order) ≡ 256) × (count ≤ 256) ⌝ }
+    ensures { λ _. ⌜ now (order .exit) ≡ orderOf (now (rights .entry)) count ++ drop count (now (order .entry)) ⌝ }
 {
+    let mut keys: [u64; 256] = [0; 256];
     let mut k: usize = 0;
     while k < count {
         keys[k] = rights[k * RIGHTS + SCORE];
         k += 1;
     }
-}
-
-// The numbers of the items in order of weight, to the front of `order`.
-pub fn rank_items(rights: &[u64], count: usize, order: &mut [usize; 256])
-    requires { ⌜ (length (now order) ≡ 256) × (count ≤ 256) × (count * 8 ≤ length (now rights)) ⌝ }
-    ensures { λ _. ⌜ now (order .exit) ≡ orderOf (now (rights .entry)) count ++ drop count (now (order .entry)) ⌝ }
-{
-    let mut keys: [u64; 256] = [0; 256];
-    scores(rights, count, &mut keys);
     access_order::sort(&keys[0..count], order);
 }
 
 // The sets of the items, and the numbers of their values, into the table.
-pub fn note_items(rights: &[u64], schema: &[u64], order: &[usize], sets: &mut [u64; SETS])
-    requires { ⌜ (length (now sets) ≡ Sets.SETS) × Rising 0 (now schema) × (length (now schema) ≤ 64) × (length (now order) ≤ 256) × Rows (now rights) (now order) ⌝ }
+pub fn note_items(rights: &[u64; 2048], schema: &[u64], order: &[usize], sets: &mut [u64; SETS])
+    requires { ⌜ Rising 0 (now schema) × (length (now schema) ≤ 64) × (length (now order) ≤ 256) × Rows (now rights) (now order) ⌝ }
     ensures { λ _. ⌜ now (sets .exit) ≡ itemsNoted (now (rights .entry)) (now (schema .entry)) (now (order .entry)) (length (now (order .entry))) (now (sets .entry)) ⌝ }
 {
     let mut j: usize = 0;

@@ -1,15 +1,15 @@
 // One item: the rows that it enters, and the numbers of its value.
 use super::mark::mark;
+use tables::sets::SETS;
 ghost use mathlib.Core.Path.{_≡_};
 ghost use Prim.Native.Nat.{_≤_, _<_};
 ghost use lib.ListN.{length};
 ghost use Rattle.directory_schema.specs.Schema.{Rising};
-ghost use Rattle.tables.specs.Sets.{SETS};
 ghost use Rattle.access_items.specs.Note.{Small, permitted, grantsNoted, aboutNoted, typeNoted, valueNoted, itemNoted};
 
 // The permissions of the item, each by its row.
-fn note_permissions(mask: u64, place: usize, sets: &mut [u64])
-    requires { ⌜ (length (now sets) ≡ SETS) × (place < 256) ⌝ }
+fn note_permissions(mask: u64, place: usize, sets: &mut [u64; SETS])
+    requires { ⌜ place < 256 ⌝ }
     ensures { λ _. ⌜ now (sets .exit) ≡ permitted 6 mask place (now (sets .entry)) ⌝ }
 {
     let mut b: usize = 0;
@@ -20,8 +20,8 @@ fn note_permissions(mask: u64, place: usize, sets: &mut [u64])
 }
 
 // Whether it grants, and what.
-fn note_grants(rights: &[u64], at: usize, place: usize, sets: &mut [u64])
-    requires { ⌜ (length (now sets) ≡ SETS) × (place < 256) × Small (now rights) at ⌝ }
+fn note_grants(rights: &[u64; 2048], at: usize, place: usize, sets: &mut [u64; SETS])
+    requires { ⌜ (place < 256) × Small (now rights) at ⌝ }
     ensures { λ _. ⌜ now (sets .exit) ≡ grantsNoted (now (rights .entry)) at place (now (sets .entry)) ⌝ }
 {
     mark(
@@ -34,8 +34,8 @@ fn note_grants(rights: &[u64], at: usize, place: usize, sets: &mut [u64])
 }
 
 // What it is about: the kind, and the slots of the value's digest.
-fn note_about(rights: &[u64], at: usize, place: usize, sets: &mut [u64])
-    requires { ⌜ (length (now sets) ≡ SETS) × (place < 256) × Small (now rights) at ⌝ }
+fn note_about(rights: &[u64; 2048], at: usize, place: usize, sets: &mut [u64; SETS])
+    requires { ⌜ (place < 256) × Small (now rights) at ⌝ }
     ensures { λ _. ⌜ now (sets .exit) ≡ aboutNoted (now (rights .entry)) at place (now (sets .entry)) ⌝ }
 {
     let what = rights[at + permission_sheet::WHAT] as usize;
@@ -46,8 +46,8 @@ fn note_about(rights: &[u64], at: usize, place: usize, sets: &mut [u64])
 }
 
 // The type that it names, if the schema has it. An item about the entry or all types names type 0, which is not looked up.
-fn note_type(schema: &[u64], t: u64, place: usize, sets: &mut [u64])
-    requires { ⌜ (length (now sets) ≡ SETS) × (place < 256) × Rising 0 (now schema) × (length (now schema) ≤ 64) ⌝ }
+fn note_type(schema: &[u64], t: u64, place: usize, sets: &mut [u64; SETS])
+    requires { ⌜ (place < 256) × Rising 0 (now schema) × (length (now schema) ≤ 64) ⌝ }
     ensures { λ _. ⌜ now (sets .exit) ≡ typeNoted (now (schema .entry)) t place (now (sets .entry)) ⌝ }
 {
     if t != 0 {
@@ -59,8 +59,8 @@ fn note_type(schema: &[u64], t: u64, place: usize, sets: &mut [u64])
 }
 
 // The digest, the place and the length of its value.
-fn note_value(rights: &[u64], at: usize, place: usize, sets: &mut [u64])
-    requires { ⌜ (length (now sets) ≡ SETS) × (place < 256) × Small (now rights) at ⌝ }
+fn note_value(rights: &[u64; 2048], at: usize, place: usize, sets: &mut [u64; SETS])
+    requires { ⌜ (place < 256) × Small (now rights) at ⌝ }
     ensures { λ _. ⌜ now (sets .exit) ≡ valueNoted (now (rights .entry)) at place (now (sets .entry)) ⌝ }
 {
     sets[tables::sets::DIGEST + place] = rights[at + permission_sheet::DIGEST];
@@ -69,8 +69,14 @@ fn note_value(rights: &[u64], at: usize, place: usize, sets: &mut [u64])
 }
 
 // The item whose row of rights begins at `at`, at its place in the order.
-pub fn note_item(rights: &[u64], at: usize, schema: &[u64], place: usize, sets: &mut [u64])
-    requires { ⌜ (length (now sets) ≡ SETS) × (place < 256) × Rising 0 (now schema) × (length (now schema) ≤ 64) × Small (now rights) at ⌝ }
+pub fn note_item(
+    rights: &[u64; 2048],
+    at: usize,
+    schema: &[u64],
+    place: usize,
+    sets: &mut [u64; SETS],
+)
+    requires { ⌜ (place < 256) × Rising 0 (now schema) × (length (now schema) ≤ 64) × Small (now rights) at ⌝ }
     ensures { λ _. ⌜ now (sets .exit) ≡ itemNoted (now (rights .entry)) at (now (schema .entry)) place (now (sets .entry)) ⌝ }
 {
     note_grants(rights, at, place, sets);

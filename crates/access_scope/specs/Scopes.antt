@@ -10,7 +10,7 @@ use Rattle.rules.specs.Name.{Schema, covers}
 use Rattle.rules.specs.Directory.{Stored}
 use Rattle.rules.specs.Decision.{Setting}
 use Rattle.rules.specs.Places.{linesAt, partsOf}
-use Rattle.rules.specs.Numbers.{walk, numberOr0, baseReach, ownReach}
+use Rattle.tables.specs.Numbers.{walk, numberOr0, baseReach, ownReach}
 use Rattle.access_scope.specs.declared.Requester.{Requester}
 use Rattle.access_scope.specs.declared.Scope.{Scope}
 use Rattle.rules.specs.declared.Found.{Found}

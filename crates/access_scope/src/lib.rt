@@ -18,15 +18,15 @@ use rules::Found;
 use rules::who::ENTRY_ITSELF;
 use tables::book::BOOK;
 ghost use mathlib.Core.Path.{_≡_};
-ghost use Prim.Native.Nat.{ℕ, _+_, _*_, _≤_};
+ghost use Prim.Native.Nat.{ℕ, _≤_, _<_};
 ghost use mathlib.Core.List.{List};
 ghost use lib.Dec.{eqb};
-ghost use lib.ListN.{length};
+ghost use lib.ListN.{length, take, drop};
 ghost use Rattle.rules.specs.Sheet.{Bytes};
 ghost use Rattle.rules.specs.Directory.{Stored};
 ghost use Rattle.rules.specs.Decision.{Setting};
 ghost use Rattle.rules.specs.Places.{linesAt, partsOf};
-ghost use Rattle.rules.specs.Numbers.{walk, baseReach, ownReach};
+ghost use Rattle.tables.specs.Numbers.{walk, baseReach, ownReach};
 ghost use Rattle.tables.specs.Book.{entries, width};
 ghost use Rattle.tables.specs.World.{Entries, Listed};
 ghost use Rattle.access_scope.specs.Scopes.{scopeAt, spreadBy, spreadFrom, itemBy, ownNumber, reachesBy};
@@ -51,8 +51,8 @@ pub struct Scope {
 }
 
 // The scope of the item of index `k`, from its rows.
-fn scope_at(rights: &[u64], scopes: &[u64], k: usize) -> Scope
-    requires { ⌜ (k * 8 + 8 ≤ length (now rights)) × (k * 7 + 7 ≤ length (now scopes)) ⌝ }
+fn scope_at(rights: &[u64; 2048], scopes: &[u64; 1792], k: usize) -> Scope
+    requires { ⌜ k < 256 ⌝ }
     ensures { λ r. ⌜ r ≡ scopeAt (now (rights .entry)) (now (scopes .entry)) k ⌝ }
 {
     let r = k * RIGHTS;
@@ -155,23 +155,25 @@ fn own_number(book: &[u64; BOOK], d: &[u8], q: &[u8], who: Requester) -> usize
     }
 }
 
-// The reach of every item for the requester, whose name stands on the sheet `q`.
+// The reaches of the first `count` items for the requester, whose name stands on the sheet `q`, to the front of `reach`; what is behind them stays.
 pub fn reach_all(
     book: &[u64; BOOK],
     d: &[u8],
     p: &[u8],
-    rights: &[u64],
-    scopes: &[u64],
+    rights: &[u64; 2048],
+    scopes: &[u64; 1792],
     q: &[u8],
     who: Requester,
-    reach: &mut [usize],
+    count: usize,
+    reach: &mut [usize; 256],
 )
-    requires { ⌜ Listed (now d) (now book) × (length (now reach) * 8 ≤ length (now rights)) × (length (now reach) * 7 ≤ length (now scopes)) ⌝ }
-    ensures { λ r. ⌜ ((σ : Setting) (es : List Stored) (held : List ℕ) → Entries σ es (now (d .entry)) (now (book .entry)) held → now (reach .exit) ≡ reachesBy (σ .schema) es (width (now (book .entry))) (now (p .entry)) (now (rights .entry)) (now (scopes .entry)) (now (q .entry)) who (length (now (reach .entry)))) ⌝ }
+    requires { ⌜ Listed (now d) (now book) × (length (now reach) ≡ 256) × (count ≤ 256) ⌝ }
+    ensures front { λ r. ⌜ ((σ : Setting) (es : List Stored) (held : List ℕ) → Entries σ es (now (d .entry)) (now (book .entry)) held → take count (now (reach .exit)) ≡ reachesBy (σ .schema) es (width (now (book .entry))) (now (p .entry)) (now (rights .entry)) (now (scopes .entry)) (now (q .entry)) who count) ⌝ }
+    ensures rest { λ r. ⌜ drop count (now (reach .exit)) ≡ drop count (now (reach .entry)) ⌝ }
 {
     let o = own_number(book, d, q, who);
     let mut k: usize = 0;
-    while k < reach.len() {
+    while k < count {
         reach[k] = reach_item(book, d, p, scope_at(rights, scopes, k), q, who, o);
         k += 1;
     }

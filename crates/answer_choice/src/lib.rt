@@ -1,9 +1,9 @@
 // What a request selects, K 12, by the ranks of the types in the schema: made once for a request.
-use answer_plan::Choice;
 use request_sheet::Asked;
 use sheet_line::Taken;
 use tables::book::BOOK;
 use tables::book::WIDTH;
+use tables::plan::Choice;
 ghost use mathlib.Core.Path.{_≡_};
 ghost use mathlib.Core.Bool.{_||_};
 ghost use Prim.Native.Nat.{ℕ, _≤_, _<_};
@@ -15,7 +15,7 @@ ghost use Rattle.rules.specs.Request.{Selection};
 ghost use Rattle.access_set.specs.Member.{bit};
 ghost use Rattle.tables.specs.Book.{BookFits, width, schema};
 ghost use Rattle.tables.specs.Held.{typeAt, Distinct};
-ghost use Rattle.answer_plan.specs.Choice.{Chooses};
+ghost use Rattle.tables.specs.Choice.{Chooses};
 ghost use Rattle.answer_choice.specs.Selected.{Selects, KnownSelection};
 
 // All ranks.

@@ -10,7 +10,7 @@ use Rattle.rules.specs.Decision.{Setting, ofType, ofValue, granted}
 use Rattle.rules.specs.FilterItem.{holds}
 use Rattle.rules.specs.declared.Outcome.{Outcome}
 use Rattle.rules.specs.declared.Outcome.the-variants.{Result, InsufficientAccessRights, NoSuchAttributeOrValue, InvalidAttributeSyntax}
-use Rattle.answer_plan.specs.declared.Plan.{Plan}
+use Rattle.tables.specs.declared.plan.Plan.{Plan}
 
 -- "if Compare on the type is refused, 2 if the type is held and has DiscloseOnError, else 3; not held, 3; value outside the syntax, 4"; else a result
 unfoldable pub compareOutcome : Setting → ℕ → Bytes → Entry → Outcome

@@ -8,8 +8,8 @@ use Rattle.rules.specs.Decision.{Setting, entry}
 use Rattle.tables.specs.Sets.{grantedAt}
 use Rattle.rules.specs.declared.Outcome.{Outcome}
 use Rattle.rules.specs.declared.Outcome.the-variants.{Result, NoSuchObject, InsufficientAccessRights, NoSuchAttributeOrValue, InvalidAttributeSyntax, AliasProblem}
-use Rattle.answer_plan.specs.declared.Plan.{Plan}
-use Rattle.answer_plan.specs.Outcome.{absentPlan, refusedPlan}
+use Rattle.tables.specs.declared.plan.Plan.{Plan}
+use Rattle.tables.specs.Outcome.{absentPlan, refusedPlan}
 
 -- "read and compare need Read on the entry; without it, 2 if DiscloseOnError is granted, else 1"
 unfoldable pub openingAt : Setting → List Stored → ℕ → ℕ → Outcome

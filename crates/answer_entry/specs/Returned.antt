@@ -8,8 +8,8 @@ use Rattle.rules.specs.Permission.{Read, Browse, ReturnDN}
 use Rattle.rules.specs.Decision.{Setting, entry}
 use Rattle.tables.specs.Sets.{grantedAt}
 use Rattle.rules.specs.declared.Outcome.the-variants.{Result}
-use Rattle.answer_plan.specs.declared.Plan.{Plan}
-use Rattle.answer_plan.specs.Outcome.{absentPlan}
+use Rattle.tables.specs.declared.plan.Plan.{Plan}
+use Rattle.tables.specs.Outcome.{absentPlan}
 
 module _ (σ : Setting) (es : List Stored) where
   -- "Browse (for the base Browse or Read)" on entry number `e`

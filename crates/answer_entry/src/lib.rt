@@ -1,11 +1,11 @@
 // What is decided of an entry by the permissions on the entry alone: whether read and compare open it, whether list and search may return it; and the
 // plan of the entries that were found.
 use access_may::may_entry;
-use answer_plan::Plan;
-use answer_plan::absent;
-use answer_plan::refused;
 use rules::Found;
 use rules::Outcome;
+use tables::plan::Plan;
+use tables::plan::absent;
+use tables::plan::refused;
 use tables::sets::BROWSE;
 use tables::sets::DISCLOSE_ON_ERROR;
 use tables::sets::READ;

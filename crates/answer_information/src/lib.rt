@@ -3,14 +3,14 @@ mod values;
 
 use access_may::may_type;
 use answer_line::emit;
-use answer_plan::Choice;
-use answer_plan::chosen;
 use sheet_kind::Kind;
 use tables::book::BOOK;
 use tables::book::FIRST;
 use tables::book::SCHEMA;
 use tables::book::WIDTH;
 use tables::held::HELD;
+use tables::plan::Choice;
+use tables::plan::chosen;
 use tables::sets::READ;
 use tables::sets::SETS;
 use values::emit_readable;
@@ -28,8 +28,8 @@ ghost use Rattle.tables.specs.Held.{ROWS, typeAt};
 ghost use Rattle.tables.specs.World.{World, Known};
 ghost use Rattle.answer_line.specs.Emit.{Emits};
 ghost use Rattle.answer_line.specs.Room.{answerRoom, lineRoom, informationRoom};
-ghost use Rattle.answer_plan.specs.Plan.{informationAt};
-ghost use Rattle.answer_plan.specs.Choice.{Chooses, KnownChoice, KnownChoiceAt};
+ghost use Rattle.tables.specs.Plan.{informationAt};
+ghost use Rattle.tables.specs.Choice.{Chooses, KnownChoice, KnownChoiceAt};
 ghost use Rattle.answer_information.specs.Information as Information;
 ghost use Rattle.answer_information.specs.Information.{EndsAt, RunOf, heldBy, returned};
 

@@ -11,9 +11,9 @@ use Rattle.request_sheet.specs.Noted.{RequestNoted}
 use Rattle.request_sheet.specs.declared.Asked.{Asked}
 use Rattle.tables.specs.Book.{width, schema}
 use Rattle.tables.specs.World.{World}
-use Rattle.answer_plan.specs.declared.Choice.{Choice}
-use Rattle.answer_plan.specs.Choice.{Chooses}
-use Rattle.answer_plan.specs.Sound.{Base}
+use Rattle.tables.specs.declared.plan.Choice.{Choice}
+use Rattle.tables.specs.Choice.{Chooses}
+use Rattle.tables.specs.Sound.{Base}
 use Rattle.answer_choice.specs.Selected.{selectionOf}
 use Rattle.answer_entry.specs.declared.Target.{Target}
 

@@ -2,9 +2,9 @@
 use answer_information::emit_information;
 use answer_name::emit_child;
 use answer_name::emit_entry;
-use answer_plan::Choice;
 use tables::book::BOOK;
 use tables::held::HELD;
+use tables::plan::Choice;
 use tables::sets::SETS;
 ghost use Prim.Native.Nat.{ℕ, _+_, _*_, _≤_, _<_};
 ghost use mathlib.Core.List.{List, _++_};
@@ -18,8 +18,8 @@ ghost use Rattle.tables.specs.Book.{width, entries, schema};
 ghost use Rattle.tables.specs.World.{Entries, Listed, World, Known};
 ghost use Rattle.answer_line.specs.Emit.{Emits};
 ghost use Rattle.answer_line.specs.Room.{answerRoom, lineRoom, foundRoom};
-ghost use Rattle.answer_plan.specs.Plan.{childLines, informationAt, foundLines};
-ghost use Rattle.answer_plan.specs.Choice.{Chooses, KnownChoice};
+ghost use Rattle.tables.specs.Plan.{childLines, informationAt, foundLines};
+ghost use Rattle.tables.specs.Choice.{Chooses, KnownChoice};
 
 // The K 32 lines of the entries with these indices.
 pub(crate) fn emit_children(

@@ -3,8 +3,6 @@ mod entries;
 
 use answer_line::emit;
 use answer_name::emit_name;
-use answer_plan::Choice;
-use answer_plan::Plan;
 use answer_reply::Reply;
 use answer_reply::refused;
 use entries::emit_children;
@@ -17,6 +15,8 @@ use sheet_kind::Kind;
 use tables::book::BOOK;
 use tables::book::WIDTH;
 use tables::held::HELD;
+use tables::plan::Choice;
+use tables::plan::Plan;
 use tables::sets::SETS;
 ghost use mathlib.Core.Path.{_≡_};
 ghost use Prim.Native.Nat.{_+_, _*_, _≤_};
@@ -34,9 +34,9 @@ ghost use Rattle.tables.specs.Book.{width};
 ghost use Rattle.tables.specs.World.{World, Known};
 ghost use Rattle.answer_line.specs.Emit.{Emits};
 ghost use Rattle.answer_line.specs.Room.{answerRoom, foundRoom};
-ghost use Rattle.answer_plan.specs.Plan.{successLines, planned};
-ghost use Rattle.answer_plan.specs.Sound.{SoundPlan};
-ghost use Rattle.answer_plan.specs.Choice.{Chooses, KnownChoice};
+ghost use Rattle.tables.specs.Plan.{successLines, planned};
+ghost use Rattle.tables.specs.Sound.{SoundPlan};
+ghost use Rattle.tables.specs.Choice.{Chooses, KnownChoice};
 
 // The number of an outcome.
 fn outcome_number(outcome: Outcome) -> u64

@@ -10,7 +10,7 @@ use Rattle.rules.specs.Request.{Selection}
 use Rattle.rules.specs.Answer.{selected, information}
 use Rattle.rules.specs.declared.Outcome.{Outcome}
 use Rattle.rules.specs.declared.Outcome.the-variants.{Result, InsufficientAccessRights, NoSuchAttributeOrValue}
-use Rattle.answer_plan.specs.declared.Plan.{Plan}
+use Rattle.tables.specs.declared.plan.Plan.{Plan}
 
 module _ (σ : Setting) (s : Selection) (n : Name) where
   -- a value for which something is returned: its type is selected, with Read, and, if values are wanted, it has Read itself

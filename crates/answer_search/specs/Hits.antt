@@ -8,7 +8,7 @@ use Rattle.rules.specs.Directory.{Stored}
 use Rattle.rules.specs.Decision.{Setting}
 use Rattle.rules.specs.Filter.{Filter}
 use Rattle.rules.specs.Request.{Search}
-use Rattle.rules.specs.Numbers.{withinNumber}
+use Rattle.tables.specs.Numbers.{withinNumber}
 use Rattle.rules.specs.declared.Edition.{Edition}
 use Rattle.rules.specs.declared.Found.{Found}
 use Rattle.rules.specs.declared.Found.the-variants.{At, Nothing}

@@ -12,12 +12,12 @@ use Rattle.rules.specs.Permission.{DiscloseOnError}
 use Rattle.rules.specs.Decision.{Setting, entry}
 use Rattle.rules.specs.Judge.{nameLines}
 use Rattle.rules.specs.Places.{linesAt, partsOf}
-use Rattle.rules.specs.Numbers.{childFrom}
+use Rattle.tables.specs.Numbers.{childFrom}
 use Rattle.rules.specs.declared.Found.{Found}
 use Rattle.rules.specs.declared.Found.the-variants.{At, Nothing}
 use Rattle.tables.specs.Sets.{grantedAt}
 use Rattle.directory_lookup.specs.Find.{byChild}
-use Rattle.answer_plan.specs.Sound.{Base}
+use Rattle.tables.specs.Sound.{Base}
 use Rattle.answer_target.specs.declared.way.Way.{Way}
 use Rattle.answer_target.specs.declared.way.Way.the-variants as Way
 use Rattle.answer_target.specs.declared.Resolved.{Resolved}

@@ -19,7 +19,7 @@ ghost use Rattle.rules.specs.Aliases.{followed, resolved};
 ghost use Rattle.rules.specs.Places.{linesAt, partsOf};
 ghost use Rattle.tables.specs.Book.{entries, width};
 ghost use Rattle.tables.specs.World.{World, Known};
-ghost use Rattle.answer_plan.specs.Plan.{aliasesOf};
+ghost use Rattle.tables.specs.Plan.{aliasesOf};
 ghost use Rattle.answer_target.specs.Target.{Full, targetOf, Resolves};
 
 // The target of a request, or a ninth replacement is due.

@@ -24,6 +24,26 @@ pub fn format_of(wide: bool) -> Format
     Format { width: 6, top: 999 }
 }
 
+// The exchange has no limits.
+pub fn exchange() -> Limits
+    ensures { λ r. ⌜ r ≡ Serve.exchange ⌝ }
+{
+    Limits {
+        entries: 0,
+        bytes: 0,
+    }
+}
+
+// A panel gets at most five entries from a list or search, and lends at most 1,024 bytes.
+pub fn panel() -> Limits
+    ensures { λ r. ⌜ r ≡ Serve.panel ⌝ }
+{
+    Limits {
+        entries: 5,
+        bytes: 1024,
+    }
+}
+
 // Is more lent than the program may lend?
 pub fn above(limits: Limits, room: usize) -> bool
     ensures { λ r. ⌜ r ≡ Serve.above limits room ⌝ }

@@ -30,8 +30,8 @@ fn serve(
     engine::serve(directory, permissions, request, out, terms)
 }
 
-// The exchange has no limits.
-fn exchange(
+// For the exchange, in the form that it names.
+fn for_exchange(
     directory: &[u8],
     permissions: &[u8],
     request: &[u8],
@@ -40,22 +40,27 @@ fn exchange(
 ) -> Reply
     ensures { λ r. ⌜ Replies (Rules.serveAt (formatOf wide) Rules.exchange (now (directory .entry)) (now (permissions .entry)) (now (request .entry)) (length (now (out .entry)))) (now (out .entry)) r (now (out .exit)) ⌝ }
 {
-    let limits = Limits {
-        entries: 0,
-        bytes: 0,
-    };
-    serve(directory, permissions, request, out, limits, wide)
+    serve(
+        directory,
+        permissions,
+        request,
+        out,
+        caller::exchange(),
+        wide,
+    )
 }
 
-// A panel gets at most five entries from a list or search, and lends at most 1,024 bytes.
-fn panel(directory: &[u8], permissions: &[u8], request: &[u8], out: &mut [u8], wide: bool) -> Reply
+// For a panel, in the form that it names.
+fn for_panel(
+    directory: &[u8],
+    permissions: &[u8],
+    request: &[u8],
+    out: &mut [u8],
+    wide: bool,
+) -> Reply
     ensures { λ r. ⌜ Replies (Rules.serveAt (formatOf wide) Rules.panel (now (directory .entry)) (now (permissions .entry)) (now (request .entry)) (length (now (out .entry)))) (now (out .entry)) r (now (out .exit)) ⌝ }
 {
-    let limits = Limits {
-        entries: 5,
-        bytes: 1024,
-    };
-    serve(directory, permissions, request, out, limits, wide)
+    serve(directory, permissions, request, out, caller::panel(), wide)
 }
 
 // For the exchange.
@@ -69,7 +74,7 @@ pub extern "C" fn dinghy_serve(
     ensures reply { λ r. ⌜ r ≡ replyOf (Rules.serveAt narrow Rules.exchange (now (directory .entry)) (now (permissions .entry)) (now (request .entry)) (length (now (out .entry)))) ⌝ }
     ensures left { λ r. ⌜ now (out .exit) ≡ leftOf (Rules.serveAt narrow Rules.exchange (now (directory .entry)) (now (permissions .entry)) (now (request .entry)) (length (now (out .entry)))) (now (out .entry)) ⌝ }
 {
-    exchange(directory, permissions, request, out, false)
+    for_exchange(directory, permissions, request, out, false)
 }
 
 // For the exchange, in the form that it names.
@@ -84,7 +89,7 @@ pub extern "C" fn dinghy_serve_form(
     ensures reply { λ r. ⌜ r ≡ replyOf (Rules.serveAt (formatOf wide) Rules.exchange (now (directory .entry)) (now (permissions .entry)) (now (request .entry)) (length (now (out .entry)))) ⌝ }
     ensures left { λ r. ⌜ now (out .exit) ≡ leftOf (Rules.serveAt (formatOf wide) Rules.exchange (now (directory .entry)) (now (permissions .entry)) (now (request .entry)) (length (now (out .entry)))) (now (out .entry)) ⌝ }
 {
-    exchange(directory, permissions, request, out, wide)
+    for_exchange(directory, permissions, request, out, wide)
 }
 
 // For a panel.
@@ -98,7 +103,7 @@ pub extern "C" fn dinghy_serve_panel(
     ensures reply { λ r. ⌜ r ≡ replyOf (Rules.serveAt narrow Rules.panel (now (directory .entry)) (now (permissions .entry)) (now (request .entry)) (length (now (out .entry)))) ⌝ }
     ensures left { λ r. ⌜ now (out .exit) ≡ leftOf (Rules.serveAt narrow Rules.panel (now (directory .entry)) (now (permissions .entry)) (now (request .entry)) (length (now (out .entry)))) (now (out .entry)) ⌝ }
 {
-    panel(directory, permissions, request, out, false)
+    for_panel(directory, permissions, request, out, false)
 }
 
 // For a panel, in the form that it names.
@@ -113,7 +118,7 @@ pub extern "C" fn dinghy_serve_panel_form(
     ensures reply { λ r. ⌜ r ≡ replyOf (Rules.serveAt (formatOf wide) Rules.panel (now (directory .entry)) (now (permissions .entry)) (now (request .entry)) (length (now (out .entry)))) ⌝ }
     ensures left { λ r. ⌜ now (out .exit) ≡ leftOf (Rules.serveAt (formatOf wide) Rules.panel (now (directory .entry)) (now (permissions .entry)) (now (request .entry)) (length (now (out .entry)))) (now (out .entry)) ⌝ }
 {
-    panel(directory, permissions, request, out, wide)
+    for_panel(directory, permissions, request, out, wide)
 }
 
 // A directory sheet of six columns, moved to nine.

@@ -14,47 +14,10 @@ use tables::book::TARGET;
 use tables::book::TYPES;
 use tables::book::WIDTH;
 ghost use mathlib.Core.Path.{_≡_};
-ghost use Prim.Native.Nat.{ℕ, _+_, _≤_, _<_};
-ghost use lib.ListN.{length, getD};
+ghost use lib.ListN.{length};
 ghost use Rattle.rules.specs.Sheet.{Usable};
 ghost use Rattle.tables.specs.Book.{BOOK};
-ghost use Rattle.directory_book.specs.Filled.{put, placesOf, filled, OfDirectory, StandsFor};
-
-// The first `n` numbers of `column` into the book, from `at` on.
-fn put_numbers(book: &mut [u64], at: usize, column: &[u64], n: usize)
-    requires { ⌜ (at + n ≤ length (now book)) × (n ≤ length (now column)) ⌝ }
-    ensures { λ _. ⌜ now (book .exit) ≡ put (now (book .entry)) at (now (column .entry)) n ⌝ }
-{
-    let mut i: usize = 0;
-    while i < n {
-        book[at + i] = column[i];
-        i += 1;
-    }
-}
-
-// The same of a column of sizes.
-fn put_sizes(book: &mut [u64], at: usize, column: &[usize], n: usize)
-    requires { ⌜ (at + n ≤ length (now book)) × (n ≤ length (now column)) ⌝ }
-    ensures { λ _. ⌜ now (book .exit) ≡ put (now (book .entry)) at (now (column .entry)) n ⌝ }
-{
-    let mut i: usize = 0;
-    while i < n {
-        book[at + i] = column[i] as u64;
-        i += 1;
-    }
-}
-
-// Where the first `n` naming values begin, by where their lines do.
-fn put_places(book: &mut [u64], w: usize, lines: &[usize], n: usize)
-    requires { ⌜ (72 + n ≤ length (now book)) × (n ≤ length (now lines)) × (w ≤ 18) × ((k : ℕ) → k < n → getD (now lines) k 0 ≤ 65536) ⌝ }
-    ensures { λ _. ⌜ now (book .exit) ≡ put (now (book .entry)) 72 (placesOf w (now (lines .entry))) n ⌝ }
-{
-    let mut i: usize = 0;
-    while i < n {
-        book[PLACE + i] = (lines[i] + 5 * w) as u64;
-        i += 1;
-    }
-}
+ghost use Rattle.directory_book.specs.Filled.{filled, OfDirectory, StandsFor};
 
 // The book of what is noted of a directory in this format.
 pub fn note(f: Format, notes: Notes, book: &mut [u64; BOOK])
@@ -66,11 +29,20 @@ pub fn note(f: Format, notes: Notes, book: &mut [u64; BOOK])
     book[WIDTH] = f.width as u64;
     book[TYPES] = types as u64;
     book[ENTRIES] = count as u64;
-    put_numbers(book, SCHEMA, &notes.schema, types);
-    put_places(book, f.width, &notes.at, count);
-    put_sizes(book, PARENT, &notes.parents, count);
-    put_numbers(book, NAMING, &notes.naming, count);
-    put_sizes(book, LENGTH, &notes.lengths, count);
-    put_sizes(book, FIRST, &notes.first, count + 1);
-    put_numbers(book, TARGET, &notes.targets, count);
+    let mut i: usize = 0;
+    while i < types {
+        book[SCHEMA + i] = notes.schema[i];
+        i += 1;
+    }
+    let mut k: usize = 0;
+    while k < count {
+        book[PLACE + k] = (notes.at[k] + 5 * f.width) as u64;
+        book[PARENT + k] = notes.parents[k] as u64;
+        book[NAMING + k] = notes.naming[k];
+        book[LENGTH + k] = notes.lengths[k] as u64;
+        book[FIRST + k] = notes.first[k] as u64;
+        book[TARGET + k] = notes.targets[k];
+        k += 1;
+    }
+    book[FIRST + count] = notes.first[count] as u64;
 }

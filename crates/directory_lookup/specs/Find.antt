@@ -6,7 +6,7 @@ use lib.Dec.{eqb}
 use Rattle.rules.specs.Sheet.{Bytes}
 use Rattle.rules.specs.Name.{Schema, part}
 use Rattle.rules.specs.Directory.{Stored}
-use Rattle.rules.specs.Numbers.{childFrom}
+use Rattle.tables.specs.Numbers.{childFrom}
 use Rattle.name.specs.Schema.{equalBy}
 use Rattle.sheet_line.specs.Line.{bytesOf}
 use Rattle.sheet_line.specs.declared.Taken.{Taken}

@@ -7,7 +7,7 @@ ghost use mathlib.Core.List.{List};
 ghost use Rattle.rules.specs.Sheet.{Bytes};
 ghost use Rattle.rules.specs.Directory.{Stored};
 ghost use Rattle.rules.specs.Decision.{Setting};
-ghost use Rattle.rules.specs.Numbers as Numbers;
+ghost use Rattle.tables.specs.Numbers as Numbers;
 ghost use Rattle.tables.specs.Book.{entries};
 ghost use Rattle.tables.specs.World.{Entries, Listed};
 

@@ -18,7 +18,7 @@ ghost use Rattle.rules.specs.Name.{part};
 ghost use Rattle.rules.specs.Directory.{Stored};
 ghost use Rattle.rules.specs.Decision.{Setting};
 ghost use Rattle.rules.specs.Places.{linesAt, partsOf};
-ghost use Rattle.rules.specs.Numbers.{childFrom, walk};
+ghost use Rattle.tables.specs.Numbers.{childFrom, walk};
 ghost use Rattle.rules.specs.declared.Found.the-variants.{At};
 ghost use Rattle.sheet_line.specs.Line.{takenAt};
 ghost use Rattle.name.specs.Schema.{syntaxIn};

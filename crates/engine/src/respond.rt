@@ -35,7 +35,7 @@ ghost use Rattle.tables.specs.Book as Book;
 ghost use Rattle.tables.specs.Sets as Sets;
 ghost use Rattle.tables.specs.World.{World, Entries, Known};
 ghost use Rattle.access_scope.specs.Scopes.{Asker};
-ghost use Rattle.answer_plan.specs.Plan.{aliasesOf};
+ghost use Rattle.tables.specs.Plan.{aliasesOf};
 ghost use Rattle.access_items.specs.Sorted.{Sorted};
 ghost use Rattle.engine.specs.Serve.{fromGround};
 ghost use Rattle.engine.specs.Judges.{GroundAt};
@@ -66,8 +66,8 @@ fn note_sets(
     d: &[u8],
     p: &[u8],
     q: &[u8],
-    rights: &[u64],
-    scopes: &[u64],
+    rights: &[u64; 2048],
+    scopes: &[u64; 1792],
     order: &[usize],
     who: Requester,
     sets: &mut [u64; SETS],
@@ -75,17 +75,9 @@ fn note_sets(
     requires { ⌜ (now sets ≡ replicate Sets.SETS 0) × Rising 0 (Book.schema (now book)) × ((σ : Setting) × (es : List Stored) × (held : List ℕ) × Entries σ es (now d) (now book) held × Asker σ (width (now book)) (now q) who × Sorted (width (now book)) (now p) (σ .items) (now rights) (now scopes) (now order)) ⌝ }
     ensures { λ _. ⌜ ((σ : Setting) (es : List Stored) (held : List ℕ) → Entries σ es (now (d .entry)) (now (book .entry)) held → Asker σ (width (now (book .entry))) (now (q .entry)) who → Sorted (width (now (book .entry))) (now (p .entry)) (σ .items) (now (rights .entry)) (now (scopes .entry)) (now (order .entry)) → World σ es (now (d .entry)) (now (p .entry)) (now (book .entry)) held (now (sets .exit))) ⌝ }
 {
-    let count = order.len();
     let mut reach: [usize; 256] = [0; 256];
-    reach_all(book, d, p, rights, scopes, q, who, &mut reach[0..count]);
-    note_rights(
-        rights,
-        schema(book),
-        order,
-        &reach[0..count],
-        parents(book),
-        sets,
-    );
+    reach_all(book, d, p, rights, scopes, q, who, order.len(), &mut reach);
+    note_rights(rights, schema(book), order, &reach, parents(book), sets);
 }
 
 // The answer over a ground: the request judged, asked within the limits, what the requester may, and the reply.
@@ -96,8 +88,8 @@ pub fn requested(
     d: &[u8],
     p: &[u8],
     q: &[u8],
-    rights: &[u64],
-    scopes: &[u64],
+    rights: &[u64; 2048],
+    scopes: &[u64; 1792],
     order: &[usize],
     terms: Terms,
 ) -> Reply

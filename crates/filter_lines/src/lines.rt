@@ -27,8 +27,8 @@ pub const LINES: usize = 265;
 pub const FILTER: usize = 1596;
 
 // Notes a line in the row that begins at `at`, but for its position, and the position of the next.
-fn note_line(rows: &mut [u64], at: usize, x: Line, rank: usize)
-    requires { ⌜ at + 12 ≤ length (now rows) ⌝ }
+fn note_line(rows: &mut [u64; FILTER], at: usize, x: Line, rank: usize)
+    requires { ⌜ at + 12 ≤ Lines.FILTER ⌝ }
     ensures { λ _. ⌜ now (rows .exit) ≡ noted (now (rows .entry)) at (x .kind) (x .a) (x .b) (x .place) rank (x .next) ⌝ }
 {
     rows[at] = x.kind;
@@ -65,8 +65,8 @@ pub fn note(schema: &[u64], w: usize, q: &[u8], at: usize, rows: &mut [u64; FILT
 }
 
 // The bytes of line `k`, as a part of the request.
-pub fn value_of<'a>(q: &'a [u8], rows: &[u64], k: usize) -> &'a [u8]
-    requires { ⌜ (k * 6 + 10 ≤ length (now rows)) × (placeAt (now rows) k < nextAt (now rows) k) × (nextAt (now rows) k ≤ length (now q)) ⌝ }
+pub fn value_of<'a>(q: &'a [u8], rows: &[u64; FILTER], k: usize) -> &'a [u8]
+    requires { ⌜ (k * 6 + 10 ≤ Lines.FILTER) × (placeAt (now rows) k < nextAt (now rows) k) × (nextAt (now rows) k ≤ length (now q)) ⌝ }
     ensures { λ r. ⌜ now r ≡ valueAt (now (q .entry)) (now (rows .entry)) k ⌝ }
 {
     let at = k * LINE;

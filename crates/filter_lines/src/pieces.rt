@@ -1,4 +1,5 @@
 // The pieces of a substrings item: the K 28 lines that follow its line. Where there are fewer lines than pieces, the pieces end with the lines.
+use crate::lines::FILTER;
 use crate::lines::FIRST;
 use crate::lines::LINE;
 use crate::lines::value_of;
@@ -13,7 +14,14 @@ ghost use Rattle.rules.specs.Value as Value;
 ghost use Rattle.filter_lines.specs.Lines.{RowsPlaced, piecesIn, piecesStand, lesser};
 
 // Do all of the `n` pieces from line `k` on, of `lines` lines, fit the syntax?
-pub fn pieces_fit(syntax: u64, q: &[u8], rows: &[u64], lines: usize, k: usize, n: u64) -> bool
+pub fn pieces_fit(
+    syntax: u64,
+    q: &[u8],
+    rows: &[u64; FILTER],
+    lines: usize,
+    k: usize,
+    n: u64,
+) -> bool
     requires { ⌜ RowsPlaced (now q) (now rows) lines × (k ≤ lines) ⌝ }
     ensures { λ r. ⌜ r ≡ all (λ p. Value.fits syntax (p .bytes)) (piecesIn (now (q .entry)) (now (rows .entry)) k (lesser n (lines - k))) ⌝ }
 {
@@ -33,7 +41,7 @@ pub fn pieces_fit(syntax: u64, q: &[u8], rows: &[u64], lines: usize, k: usize, n
 }
 
 // Do the `n` pieces from line `k` on, of `lines` lines, stand in the text `v`, which has no stray blanks, in order and without overlap?
-fn pieces_stand(q: &[u8], rows: &[u64], lines: usize, k: usize, n: u64, v: &[u8]) -> bool
+fn pieces_stand(q: &[u8], rows: &[u64; FILTER], lines: usize, k: usize, n: u64, v: &[u8]) -> bool
     requires { ⌜ RowsPlaced (now q) (now rows) lines × (k ≤ lines) ⌝ }
     ensures { λ r. ⌜ r ≡ piecesStand (now (v .entry)) (piecesIn (now (q .entry)) (now (rows .entry)) k (lesser n (lines - k))) ⌝ }
 {
@@ -60,7 +68,7 @@ fn pieces_stand(q: &[u8], rows: &[u64], lines: usize, k: usize, n: u64, v: &[u8]
 }
 
 // The substrings rule: do the pieces stand in the value `v`?
-pub fn substrings(q: &[u8], rows: &[u64], lines: usize, k: usize, n: u64, v: &[u8]) -> bool
+pub fn substrings(q: &[u8], rows: &[u64; FILTER], lines: usize, k: usize, n: u64, v: &[u8]) -> bool
     requires { ⌜ RowsPlaced (now q) (now rows) lines × (k ≤ lines) × (length (now v) ≤ 64) ⌝ }
     ensures { λ r. ⌜ r ≡ Value.contains Value.text (piecesIn (now (q .entry)) (now (rows .entry)) k (lesser n (lines - k))) (now (v .entry)) ⌝ }
 {

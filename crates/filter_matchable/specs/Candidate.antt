@@ -9,7 +9,7 @@ use Rattle.rules.specs.Name.{Name}
 use Rattle.rules.specs.Directory.{Stored, blank, entryOf}
 use Rattle.rules.specs.Decision.{Setting}
 use Rattle.rules.specs.Answer as Answer
-use Rattle.rules.specs.Numbers.{walk}
+use Rattle.tables.specs.Numbers.{walk}
 use Rattle.rules.specs.declared.Found.the-variants.{At}
 use Rattle.tables.specs.Book.{entries}
 use Rattle.tables.specs.World.{World}

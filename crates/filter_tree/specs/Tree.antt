@@ -13,7 +13,7 @@ use Rattle.rules.specs.Filter.{Filter, isTrue, evaluate}
 use Rattle.rules.specs.FilterItem.{itemTruth}
 use Rattle.rules.specs.Request.{filter}
 use Rattle.rules.specs.Places.{linesAt}
-use Rattle.rules.specs.FilterLines.{bothIn, eitherIn, afterLines}
+use Rattle.tables.specs.FilterLines.{bothIn, eitherIn, afterLines}
 use Rattle.rules.specs.declared.Edition.{Edition}
 use Rattle.rules.specs.declared.Truth.{Truth}
 

@@ -28,7 +28,7 @@ ghost use Rattle.rules.specs.Judge.{Grammar};
 ghost use Rattle.rules.specs.Decision.{Setting};
 ghost use Rattle.rules.specs.Filter.{Assertion, Filter};
 ghost use Rattle.rules.specs.Places.{linesAt};
-ghost use Rattle.rules.specs.FilterLines.{evaluated, evaluateLines};
+ghost use Rattle.tables.specs.FilterLines.{evaluated, evaluateLines};
 ghost use Rattle.rules.specs.declared.Truth.{Truth};
 ghost use Rattle.tables.specs.Book.{width, schema};
 ghost use Rattle.tables.specs.World.{World};

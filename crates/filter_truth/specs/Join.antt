@@ -1,6 +1,6 @@
 -- "and" and "or" by one name.
 use mathlib.Core.Bool.{Bool, true, false}
-use Rattle.rules.specs.FilterLines.{bothIn, eitherIn}
+use Rattle.tables.specs.FilterLines.{bothIn, eitherIn}
 use Rattle.rules.specs.declared.Edition.{Edition}
 use Rattle.rules.specs.declared.Truth.{Truth}
 

@@ -1,7 +1,7 @@
 -- Laws of what "and" and "or" start from.
 use Prim.Native.Nat.{ℕ, zero, suc}
 use mathlib.Core.Path.{_≡_, refl}
-use Rattle.rules.specs.FilterLines.{startIn}
+use Rattle.tables.specs.FilterLines.{startIn}
 use Rattle.rules.specs.declared.Edition.the-variants.{FirstEdition}
 use Rattle.rules.specs.declared.Truth.{Truth}
 use Rattle.rules.specs.declared.Truth.the-variants.{Undefined}

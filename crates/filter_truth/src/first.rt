@@ -1,7 +1,7 @@
 // "and" and "or" of the first edition, one part at a time.
 use rules::Truth;
 ghost use mathlib.Core.Path.{_≡_};
-ghost use Rattle.rules.specs.FilterLines as Filter;
+ghost use Rattle.tables.specs.FilterLines as Filter;
 
 // "and" in the first edition: undefined is neutral; false if one is false, else true.
 pub(crate) fn both_first(t: Truth, u: Truth) -> Truth

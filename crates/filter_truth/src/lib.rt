@@ -10,7 +10,7 @@ ghost use mathlib.Core.Path.{_≡_};
 ghost use mathlib.Core.Bool.{not};
 ghost use Rattle.rules.specs.Filter.{isTrue, negation, truth};
 ghost use Rattle.rules.specs.FilterItem.{isLess};
-ghost use Rattle.rules.specs.FilterLines as Filter;
+ghost use Rattle.tables.specs.FilterLines as Filter;
 ghost use Rattle.filter_truth.specs.Join.{joinBy};
 
 // The truth of a test.

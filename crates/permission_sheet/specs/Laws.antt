@@ -2,3 +2,4 @@ pub mod End
 pub mod Rows
 pub mod ItemRows
 pub mod ItemsRead
+pub mod Misplaced

@@ -4,12 +4,15 @@ mod row;
 
 use rules::Format;
 use rules::refusal;
+use sheet_due::due_at;
 use sheet_due::grammar::Grammar;
-use sheet_due::misplaced_by;
-use sheet_due::seen_at;
+use sheet_due::reached_at;
+use sheet_kind::Kind;
 ghost use mathlib.Core.Path.{_≡_};
 ghost use lib.ListN.{replicate};
 ghost use Rattle.rules.specs.Sheet.{Usable};
+ghost use Rattle.rules.specs.Columns.{permissionForms};
+ghost use Rattle.sheet_due.specs.Lines.{seenAt, misplacedBy};
 ghost use Rattle.permission_sheet.specs.Noted.{PermissionsJudged};
 ghost use Rattle.permission_sheet.specs.Noted as PermissionsNoted;
 
@@ -65,6 +68,25 @@ fn refused(number: u64) -> NotedItems
     }
 }
 
+// The refusal of what stands at a position after the last item that there may be: that of a line that begins an item, or 13 for such a line itself.
+fn misplaced_at(p: &[u8], f: Format, schema: &[u64], at: usize) -> u64
+    requires { ⌜ Usable f ⌝ }
+    ensures { λ r. ⌜ r ≡ misplacedBy 10 (seenAt (permissionForms (f .top)) (f .width) (now (p .entry)) at) ⌝ }
+{
+    let due = due_at(
+        p,
+        f,
+        Grammar::Permissions,
+        schema,
+        reached_at(at),
+        Kind::Item,
+    );
+    if due.refusal != 0 {
+        return due.refusal;
+    }
+    refusal::PERMISSIONS + refusal::OUT_OF_ORDER
+}
+
 // The permission sheet `p`, in the format `f`, judged against the schema. Its items are noted in 256 rows of rights and 256 rows of scopes, where
 // they stay: no array is copied.
 pub fn judge(
@@ -84,14 +106,14 @@ pub fn judge(
     let mut at: usize = 0;
     while at < p.len() {
         if 256 <= count {
-            let g = Grammar::Permissions;
-            return refused(misplaced_by(g, seen_at(p, f, g, at)));
+            return refused(misplaced_at(p, f, schema, at));
         }
         let lines = permission_item::item_at(p, f, schema, at);
         if lines.refusal != 0 {
             return refused(lines.refusal);
         }
-        row::note(p, rights, scopes, count, lines);
+        row::note_rights(p, rights, count, lines);
+        row::note_scopes(scopes, count, lines);
         count += 1;
         at = lines.mask.next;
     }

@@ -5,7 +5,6 @@ use request_piece::pieces_at;
 use rules::Format;
 use rules::refusal;
 use sheet_due::Seen;
-use sheet_due::grammar::Grammar;
 use sheet_due::misplaced_by;
 use sheet_due::seen_at;
 use sheet_kind::Kind;
@@ -90,7 +89,7 @@ fn node_at(q: &[u8], at: usize, f: Format, left: u64) -> Node
     requires { ⌜ Usable f ⌝ }
     ensures { λ r. ⌜ r ≡ nodeAt (requestGrammar (f .top)) (f .width) (now (q .entry)) at left ⌝ }
 {
-    node_by(q, f, left, seen_at(q, f, Grammar::Request, at))
+    node_by(q, f, left, seen_at(q, f, at))
 }
 
 // No filter may stand at a position.
@@ -98,8 +97,7 @@ fn too_deep(q: &[u8], at: usize, f: Format) -> Progress
     requires { ⌜ Usable f ⌝ }
     ensures { λ r. ⌜ r ≡ Progress.Refused (misplacedBy 20 (seenAt (requestForms (f .top)) (f .width) (now (q .entry)) at)) ⌝ }
 {
-    let g = Grammar::Request;
-    Progress::Refused(misplaced_by(g, seen_at(q, f, g, at)))
+    Progress::Refused(misplaced_by(seen_at(q, f, at)))
 }
 
 // The filter at a position, with `depth` more levels and `left` more lines allowed.

@@ -2,7 +2,6 @@
 use rules::Format;
 use rules::refusal;
 use sheet_due::Seen;
-use sheet_due::grammar::Grammar;
 use sheet_due::seen_at;
 use sheet_kind::Kind;
 use sheet_kind::is;
@@ -69,7 +68,7 @@ fn piece_at(q: &[u8], at: usize, f: Format, first: bool, after: u64, left: u64) 
     requires { ⌜ Usable f ⌝ }
     ensures { λ r. ⌜ r ≡ pieceAt (requestGrammar (f .top)) (f .width) (now (q .entry)) first after at left ⌝ }
 {
-    piece_by(first, after, left, seen_at(q, f, Grammar::Request, at))
+    piece_by(first, after, left, seen_at(q, f, at))
 }
 
 // `count` pieces from a position on.

@@ -138,12 +138,7 @@ fn with_body(q: &[u8], f: Format, requester: Line, base: Line, body: Body) -> As
     if body.refusal != 0 {
         return refuse(body.refusal);
     }
-    end_by(
-        requester,
-        base,
-        body,
-        seen_at(q, f, Grammar::Request, body.next),
-    )
+    end_by(requester, base, body, seen_at(q, f, body.next))
 }
 
 // The sheet line by line: requester, base, the operation's lines, the end.

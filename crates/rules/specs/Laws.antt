@@ -19,17 +19,11 @@ pub mod Allowed
 pub mod Arrange
 pub mod Keys
 pub mod Absent
-pub mod ByNumber
 pub mod Decision
 pub mod First
 pub mod Held
-pub mod Resolve
-pub mod Filter
 pub mod Items
 pub mod Loops
-pub mod Hits
-pub mod Targets
-pub mod Reach
 pub mod Forms
 pub mod SameForms
 pub mod Low

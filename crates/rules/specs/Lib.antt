@@ -18,8 +18,7 @@ pub mod Move
 pub mod Shown
 pub mod Theorems
 pub mod Places
-pub mod Numbers
-pub mod FilterLines
 pub mod Examples
+pub mod LaterExamples
 pub mod Laws
 pub mod Secrecy

@@ -11,7 +11,7 @@ ghost use Prim.Native.Nat.{_+_, _≤_};
 ghost use lib.ListN as ListN;
 ghost use Rattle.rules.specs.Permission.{soundItem};
 ghost use Rattle.rules.specs.Places.{schemaOf};
-ghost use Rattle.sheet_form.specs.Columns.{inFormOf};
+ghost use Rattle.sheet_form.specs.Columns.{columnsIn};
 ghost use Rattle.sheet_line.specs.Line.{lineOf};
 ghost use Rattle.sheet_due.specs.Grammars.{formsOf, soundOf, refusalsOf};
 
@@ -21,19 +21,10 @@ pub enum Grammar {
     Request,
 }
 
-// Is a line with these columns in a form of its sheet? They come one by one, in registers.
-pub fn in_form(g: Grammar, kind: u64, a: u64, b: u64, c: u64, length: usize, top: u64) -> bool
-    ensures { λ r. ⌜ r ≡ inFormOf (formsOf top g) kind a b c length ⌝ }
+// Is the line in a form of its sheet?
+pub fn in_form(g: Grammar, line: Line, top: u64) -> bool
+    ensures { λ r. ⌜ r ≡ columnsIn (formsOf top g) line ⌝ }
 {
-    let line = Line {
-        kind,
-        a,
-        b,
-        c,
-        place: 0,
-        length,
-        next: 0,
-    };
     match g {
         Grammar::Permissions => sheet_form::columns::permission_columns(line, top),
         Grammar::Request => sheet_form::columns::request_columns(line, top),

@@ -10,18 +10,22 @@ use rules::Format;
 use rules::refusal::NOT_ALLOWED;
 use rules::refusal::OUT_OF_ORDER;
 use rules::refusal::OUTSIDE_SCHEMA;
+use rules::refusal::REQUEST_NOT_ALLOWED;
+use rules::refusal::REQUEST_OUT_OF_ORDER;
+use sheet_form::columns::request_columns;
 use sheet_kind::Kind;
 use sheet_kind::is;
 use sheet_line::Line;
 use sheet_line::Taken;
 ghost use mathlib.Core.Path.{_≡_};
-ghost use Prim.Native.Nat.{_+_, _≤_};
+ghost use Prim.Native.Nat.{_≤_};
 ghost use Rattle.rules.specs.Sheet.{Usable};
+ghost use Rattle.rules.specs.Columns.{requestForms};
 ghost use Rattle.rules.specs.Places.{schemaOf};
 ghost use Rattle.sheet_kind.specs.Kinds.{numberOf};
 ghost use Rattle.sheet_line.specs.Line.{takenAt};
-ghost use Rattle.sheet_due.specs.Grammars.{formsOf, refusalsOf, grammarOf};
-ghost use Rattle.sheet_due.specs.Lines.{seenAt, misplacedBy, reachedAt, afterDue, afterGroup, noLine, notDue, foundDue, dueAt, linesDue, groupAt};
+ghost use Rattle.sheet_due.specs.Grammars.{grammarOf};
+ghost use Rattle.sheet_due.specs.Lines.{seenAt, misplacedBy, reachedAt, afterDue, afterGroup, noLine, notDue, dueAt, linesDue, groupAt};
 
 // What stands at a position: a line that its sheet may have, a line not in form or not allowed, or nothing.
 pub enum Seen {
@@ -49,23 +53,27 @@ pub struct Group {
     pub next: usize,
 }
 
-// What stands at a position. The sheet is lent on as a part of itself: a slice lent on as it came is copied at once, and the processor waits where
-// its address and its length were written one by one just before.
+// What stands at a position. The sheet is lent on as a part of itself, and a line is made anew of its numbers: what is copied as a whole right after its
+// parts were written one by one waits for them.
 fn taken_at(s: &[u8], at: usize, w: usize) -> Taken
     requires { ⌜ w ≤ 18 ⌝ }
     ensures { λ r. ⌜ r ≡ takenAt w (now (s .entry)) at ⌝ }
 {
-    sheet_line::take(&s[0..], at, w)
+    match sheet_line::take(&s[0..], at, w) {
+        Taken::Line(line) => Taken::Line(sheet_line::anew(line)),
+        Taken::NotInForm => Taken::NotInForm,
+        Taken::End => Taken::End,
+    }
 }
 
-// The line at a position, with its columns judged.
-pub fn seen_at(s: &[u8], f: Format, g: Grammar, at: usize) -> Seen
+// What stands at a position of a request, its columns judged.
+pub fn seen_at(q: &[u8], f: Format, at: usize) -> Seen
     requires { ⌜ Usable f ⌝ }
-    ensures { λ r. ⌜ r ≡ seenAt (formsOf (f .top) g) (f .width) (now (s .entry)) at ⌝ }
+    ensures { λ r. ⌜ r ≡ seenAt (requestForms (f .top)) (f .width) (now (q .entry)) at ⌝ }
 {
-    match taken_at(s, at, f.width) {
+    match taken_at(q, at, f.width) {
         Taken::Line(line) => {
-            if in_form(g, line.kind, line.a, line.b, line.c, line.length, f.top) {
+            if request_columns(line, f.top) {
                 Seen::Line(line)
             } else {
                 Seen::NotAllowed
@@ -76,14 +84,14 @@ pub fn seen_at(s: &[u8], f: Format, g: Grammar, at: usize) -> Seen
     }
 }
 
-// The refusal of what stands where no line is due.
-pub fn misplaced_by(g: Grammar, seen: Seen) -> u64
-    ensures { λ r. ⌜ r ≡ misplacedBy (refusalsOf g) seen ⌝ }
+// The refusal of what stands in a request where no line is due.
+pub fn misplaced_by(seen: Seen) -> u64
+    ensures { λ r. ⌜ r ≡ misplacedBy 20 seen ⌝ }
 {
     match seen {
-        Seen::Line(_) => refusal(g, OUT_OF_ORDER),
-        Seen::NotAllowed => refusal(g, NOT_ALLOWED),
-        Seen::Missing => refusal(g, OUT_OF_ORDER),
+        Seen::Line(_) => REQUEST_OUT_OF_ORDER,
+        Seen::NotAllowed => REQUEST_NOT_ALLOWED,
+        Seen::Missing => REQUEST_OUT_OF_ORDER,
     }
 }
 
@@ -140,27 +148,6 @@ fn not_due(refusal: u64) -> Due
     Due { refusal, line }
 }
 
-// A line that was due. Where it ends is computed again: copied, it would be copied at once with the number before it, as in `taken_at`.
-fn found(line: Line) -> Due
-    requires { ⌜ line .next ≡ line .place + line .length + 1 ⌝ }
-    ensures { λ r. ⌜ r ≡ foundDue line ⌝ }
-{
-    let place = line.place;
-    let length = line.length;
-    Due {
-        refusal: 0,
-        line: Line {
-            kind: line.kind,
-            a: line.a,
-            b: line.b,
-            c: line.c,
-            place,
-            length,
-            next: place + length + 1,
-        },
-    }
-}
-
 // The line of a kind that is due, unless there is a refusal already.
 pub fn due_at(s: &[u8], f: Format, g: Grammar, schema: &[u64], from: Reached, kind: Kind) -> Due
     requires { ⌜ Usable f ⌝ }
@@ -171,14 +158,14 @@ pub fn due_at(s: &[u8], f: Format, g: Grammar, schema: &[u64], from: Reached, ki
     }
     match taken_at(s, from.next, f.width) {
         Taken::Line(line) => {
-            if !in_form(g, line.kind, line.a, line.b, line.c, line.length, f.top) {
+            if !in_form(g, line, f.top) {
                 return not_due(refusal(g, NOT_ALLOWED));
             }
             if !is(line.kind, kind) {
                 return not_due(refusal(g, OUT_OF_ORDER));
             }
             if sound(s, schema, g, line) {
-                return found(line);
+                return Due { refusal: 0, line };
             }
             not_due(refusal(g, OUTSIDE_SCHEMA))
         }

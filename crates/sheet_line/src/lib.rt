@@ -2,7 +2,7 @@
 use rules::Front;
 use sheet_frame::front;
 ghost use mathlib.Core.Path.{_≡_};
-ghost use Prim.Native.Nat.{_+_, _≤_};
+ghost use Prim.Native.Nat.{_+_, _≤_, _<_};
 ghost use lib.ListN.{drop};
 ghost use lib.ListN as ListN;
 ghost use Rattle.rules.specs.Sheet.{frontOf};
@@ -37,6 +37,14 @@ fn front_at(s: &[u8], at: usize, w: usize) -> Front
     Front::End
 }
 
+// Where the next line begins: after the bytes and byte 10.
+fn after(place: usize, length: usize) -> usize
+    requires { ⌜ place + length < 18446744073709551615 ⌝ }
+    ensures { λ r. ⌜ r ≡ place + length + 1 ⌝ }
+{
+    place + length + 1
+}
+
 // The line at the position `at`, with the positions that follow from it.
 pub fn take(s: &[u8], at: usize, w: usize) -> Taken
     requires { ⌜ w ≤ 18 ⌝ }
@@ -58,11 +66,29 @@ pub fn take(s: &[u8], at: usize, w: usize) -> Taken
                 c,
                 place,
                 length,
-                next: place + length + 1,
+                next: after(place, length),
             })
         }
         Front::NotInForm => Taken::NotInForm,
         Front::End => Taken::End,
+    }
+}
+
+// The line, made anew of its numbers one by one. A copy right after they were written one by one would wait for them.
+pub fn anew(line: Line) -> Line
+    requires { ⌜ line .next ≡ line .place + line .length + 1 ⌝ }
+    ensures { λ r. ⌜ r ≡ line ⌝ }
+{
+    let place = line.place;
+    let length = line.length;
+    Line {
+        kind: line.kind,
+        a: line.a,
+        b: line.b,
+        c: line.c,
+        place,
+        length,
+        next: after(place, length),
     }
 }
 

@@ -1,4 +1,13 @@
+pub mod Resolve
+pub mod ByNumber
+pub mod Hits
+pub mod Targets
+pub mod Reach
+pub mod Filter
 pub mod Book
 pub mod Held
 pub mod Sets
 pub mod World
+pub mod Choice
+pub mod Outcome
+pub mod Sound

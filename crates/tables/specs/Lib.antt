@@ -1,5 +1,11 @@
+pub mod Numbers
+pub mod FilterLines
 pub mod Book
 pub mod Held
 pub mod Sets
 pub mod World
+pub mod Choice
+pub mod Outcome
+pub mod Sound
+pub mod Plan
 pub mod Laws

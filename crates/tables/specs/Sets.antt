@@ -26,9 +26,13 @@ use Rattle.access_set.specs.declared.Bits.{Bits}
 use Rattle.access_set.specs.Member.{member}
 use Rattle.tables.specs.Held.{typeAt}
 
--- how many numbers they are: 398 rows of four words, and three numbers for each of 256 items
+-- how many rows there are
+abbrev pub rows : ℕ
+rows = 398
+
+-- how many numbers they are: rows of four words, and three numbers for each of 256 items
 abbrev pub SETS : ℕ
-SETS = 398 * 4 + 3 * 256
+SETS = rows * 4 + 3 * 256
 
 -- ---- the rows
 

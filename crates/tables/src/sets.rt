@@ -3,7 +3,7 @@ use access_set::Bits;
 ghost use mathlib.Core.Path.{_≡_};
 ghost use Prim.Native.Nat.{_+_, _*_, _≤_, _<_};
 ghost use lib.ListN.{length};
-ghost use Rattle.tables.specs.Sets.{rowOf, firstSlot, secondSlot};
+ghost use Rattle.tables.specs.Sets.{rows, rowOf, firstSlot, secondSlot};
 
 // Rows: 257 of the entries by their numbers, one of those that grant, 6 of the permissions, 6 by what they are about, 64 by types, twice 32 by slots.
 pub const GRANTS: usize = 257;
@@ -42,8 +42,8 @@ pub const COMPARE: usize = 4;
 pub const FILTER_MATCH: usize = 5;
 
 // The set in row `r`.
-pub fn row(sets: &[u64], r: usize) -> Bits
-    requires { ⌜ r * 4 + 4 ≤ length (now sets) ⌝ }
+pub fn row(sets: &[u64; SETS], r: usize) -> Bits
+    requires { ⌜ r < rows ⌝ }
     ensures { λ x. ⌜ x ≡ rowOf (now (sets .entry)) r ⌝ }
 {
     let at = r * 4;

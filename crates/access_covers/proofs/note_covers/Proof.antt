@@ -1,9 +1,8 @@
-use Prim.Native.Nat.{ℕ, _-_, _≤_}
-use mathlib.Core.Path.{_≡_, refl, _∙_}
+use Prim.Native.Nat.{_-_, _≤_}
+use mathlib.Core.Path.{_≡_, refl}
 use native.Mathlib.Omega.{arith}
 use denote.Ref.{now}
-use lib.ListN.{length, length-replicate}
-use Rattle.tables.specs.Sets.{SETS}
+use lib.ListN.{length}
 use Rattle.access_covers.specs.Noted.{downTo, coversTo}
 use Rattle.access_covers.specs.Laws.Inherit.{down-more, covers-more}
 use Rattle.access_covers.specs.Laws.Covers.{covers-whole}
@@ -12,57 +11,42 @@ use Rattle.access_covers.proofs.note_covers.Statement.{statement}
 use Rattle.access_covers.proofs.note_covers.Tie as tie
 
 abbrev Inv-loop : tie.InvT-loop
-Inv-loop reach order parents sets₀ down₀ k₀ sets down k = (k ≤ length parents) × (length sets ≡ SETS) × (length down ≡ 1028) × (sets ≡ coversTo parents k down₀ sets₀) × (down ≡ downTo parents k down₀)
+Inv-loop reach order parents sets₀ down₀ k₀ sets down k = (k ≤ length parents) × (sets ≡ coversTo parents k down₀ sets₀) × (down ≡ downTo parents k down₀)
 
 abbrev μ-loop : tie.MeasureT-loop
 μ-loop reach order parents sets₀ down₀ k₀ sets down k = length parents - k
 
-enter-all-requires : tie.Need-enter-all-requires Inv-loop μ-loop
-enter-all-requires c κs =
-    let P = c .before .before .before .before .before .pre in
-    (P .1, omega (arith, P .0), omega (arith, length-replicate {A = ℕ} 1028 0), P .3)
-
 loop-holds : tie.Need-loop-holds Inv-loop μ-loop
 unfolding coversTo downTo
-loop-holds c =
-    let E = c .before .enter-all in
-    (omega arith, E .kept .1 .1 .0 ∙ c .before .before .before .before .before .before .before .pre .0, E .kept .1 .1 .1 .0 ∙ length-replicate {A = ℕ} 1028 0, refl, refl)
-
-add-inherit : tie.Need-add-inherit Inv-loop μ-loop
-add-inherit c = omega (arith, c .before .before .loop-test .taken, c .before .before .before .before .before .before .before .before .before .before .before .pre .2)
+loop-holds c = (omega arith, refl, refl)
 
 inherit-requires : tie.Need-inherit-requires Inv-loop μ-loop
 inherit-requires c κs =
-    let P = c .before .before .before .before .before .before .before .before .before .before .before .before .pre in
+    let P = c .before .before .before .before .before .before .before .before .before .before .pre in
     let L = c .before .before .before .before .loop in
     let t = c .before .before .before .loop-test .taken in
-    (omega (arith, L .inv .1), omega (arith, L .inv .2), omega (arith, t, P .2), omega (arith, P .4 (L .k) t))
-
-add-k : tie.Need-add-k Inv-loop μ-loop
-add-k c = omega (arith, c .before .before .before .before .before .loop-test .taken, c .before .before .before .before .before .before .before .before .before .before .before .before .before .before .pre .2)
+    (omega (arith, t, P .1), omega (arith, P .3 (L .k) t))
 
 loop-again : tie.Need-loop-again Inv-loop μ-loop
 loop-again c =
-    let A = c .before .before .before .before .before .before .before .before .before .before .before .before .before .before .args in
-    let L = c .before .before .before .before .before .before .loop in
-    let E = c .before .before .before .before .before .before .before .before .enter-all in
-    let I = c .before .inherit in (
-      omega (arith, c .before .before .before .before .before .loop-test .taken),
-      I .kept .0 ∙ L .inv .1,
-      I .kept .1 .0 ∙ L .inv .2,
-      covers-more (now (A .parents)) (E .last .1 .1 .1 .0) (E .last .1 .1 .0) (L .down) (L .sets) (L .k) (L .inv .4) _ (L .inv .3) (I .ensures .0),
-      down-more (now (A .parents)) (E .last .1 .1 .1 .0) (E .last .1 .1 .0) (L .down) (L .sets) (L .k) (L .inv .4) _ (I .ensures .1),
+    let A = c .before .before .before .before .before .before .before .before .before .before .before .args in
+    let L = c .before .before .before .before .before .loop in
+    let E = c .before .before .before .before .before .before .enter-all in
+    let I = c .inherit in (
+      omega (arith, c .before .before .before .before .loop-test .taken),
+      covers-more (now (A .parents)) (E .last .1 .1 .1 .0) (E .last .1 .1 .0) (L .down) (L .sets) (L .k) (L .inv .2) _ (L .inv .1) (I .ensures .0),
+      down-more (now (A .parents)) (E .last .1 .1 .1 .0) (E .last .1 .1 .0) (L .down) (L .sets) (L .k) (L .inv .2) _ (I .ensures .1),
     )
 
 returns : tie.Need-returns Inv-loop μ-loop
 returns c =
-    let A = c .before .before .before .before .before .before .before .before .before .args in
+    let A = c .before .before .before .before .before .before .before .args in
     let L = c .before .loop in
-    let E = c .before .before .before .enter-all in
-    covers-whole (now (A .reach)) (now (A .order)) (now (A .parents)) (now (A .sets)) _ _ (L .sets) (L .k) (L .inv .0) (c .loop-test .left) (E .ensures .1) (E .ensures .0) (L .inv .3)
+    let E = c .before .before .enter-all in
+    covers-whole (now (A .reach)) (now (A .order)) (now (A .parents)) (now (A .sets)) _ _ (L .sets) (L .k) (L .inv .0) (c .loop-test .left) (E .ensures .1) (E .ensures .0) (L .inv .1)
 
 pub note-covers-spec : {M : Type 1} → statement M
 note-covers-spec =
     tie.close
-    (tie.spec Inv-loop μ-loop (λ c. search needs) enter-all-requires loop-holds (λ c. search needs) add-inherit (λ c. search needs)
-    (λ c. search needs) inherit-requires add-k (λ c. search needs) loop-again returns)
+    (tie.spec Inv-loop μ-loop (λ c κs. search needs) loop-holds (λ c. search needs) (λ c. search needs) (λ c. search needs) inherit-requires (λ c. search needs)
+    (λ c. search needs) loop-again returns)

@@ -1,12 +1,13 @@
 -- Laws of `Covers` and `Rights`: the rows are the items that concern each entry, and beside the sets of the items they are what the requester may.
 use Prim.Native.Nat.{ℕ, zero, suc, _+_, _≤_, _<_}
-use mathlib.Core.Path.{_≡_, refl, ap, ap₂, _∙_, subst}
+use mathlib.Core.Path.{_≡_, refl, sym, ap, ap₂, _∙_, subst}
 use mathlib.Core.Bool.{Bool, true, false, _&&_}
 use mathlib.Core.List.{List}
 use native.Mathlib.Numerals.{add-one}
 use native.Mathlib.Omega.{arith}
 use lib.Dec.{ltb}
-use lib.ListN.{length, getD, take, drop, replicate, length-map, length-replicate}
+use lib.ListN.{length, getD, take, drop, replicate, length-replicate}
+use lib.Seq.{getD-take}
 use borrow.Author.Tests.{ltb-true}
 use Rattle.rules.specs.Sheet.{Bytes}
 use Rattle.rules.specs.Directory.{Stored}
@@ -16,8 +17,8 @@ use Rattle.rules.specs.Decision.{Setting}
 use Rattle.rules.specs.Laws.Lists.{getD-map}
 use Rattle.rules.specs.Laws.Decision.{concerns}
 use Rattle.rules.specs.Laws.First.{blank, itemAt}
-use Rattle.rules.specs.Numbers.{reaches, reachOf}
-use Rattle.rules.specs.Laws.Reach.{reach-concerns}
+use Rattle.tables.specs.Numbers.{reaches, reachOf}
+use Rattle.tables.specs.Laws.Reach.{reach-concerns}
 use Rattle.directory_schema.specs.Schema.{Rising}
 use Rattle.tables.specs.Sets.{SETS, inRow, Items, Covers, Rights}
 use Rattle.access_items.specs.Sorted.{Sorted}
@@ -73,10 +74,7 @@ covers-whole reach order parents sets down₀ covers₀ covers k l h d c e =
     let z : k ≡ length parents = omega arith in
     e ∙ ap (λ (m : ℕ). coversTo parents m down₀ covers₀) z ∙ ap₂ (coversTo parents (length parents)) d c
 
--- the items first, which keep the size
-pub items-size : (rights schema order sets s : List ℕ) → s ≡ itemsNoted rights schema order (length order) sets → length s ≡ length sets
-items-size rights schema order sets s h = ap length h ∙ items-length rights schema order (length order) sets
-
+-- the items first
 pub rights-whole : (rights schema order reach parents sets s t : List ℕ) → s ≡ itemsNoted rights schema order (length order) sets → t ≡ coversNoted reach order parents s
     → t ≡ rightsNoted rights schema order reach parents sets
 unfolding rightsNoted
@@ -86,11 +84,8 @@ rights-whole rights schema order reach parents sets s t h e = e ∙ ap (coversNo
 
 module _ (σ : Setting) (es : List Stored) (reach order parents : List ℕ) (given : Sources σ es reach order parents) where
   -- an item of the order has a reach
-  pub within-reach : (p : ℕ) → p < length order → getD order p 0 < length reach
-  within-reach p l =
-      let b : p < length (σ .items) = subst (λ (m : ℕ). p < m) (given .count) l in
-      let n : length reach ≡ length (σ .items) = ap length (given .reach-is) ∙ length-map (σ .items) (reachOf σ es) in
-      omega (arith, given .ranked .within p b)
+  pub within-reach : (p : ℕ) → p < length order → getD order p 0 < 256
+  within-reach p l = omega (arith, given .ranked .within p (subst (λ (m : ℕ). p < m) (given .count) l), given .few-items)
 
   -- parents stand before their children
   pub parents-rise : (k : ℕ) → k < length parents → getD parents k 0 ≤ k
@@ -111,9 +106,10 @@ module _ (σ : Setting) (es : List Stored) (reach order parents : List ℕ) (giv
           → (b && reaches es (reachAt reach order j) (suc k)) ≡ (b && concerns σ (getD es k Directory.blank .name) (itemAt (σ .items) order j))
       below k j l false e = refl
       below k j l true e =
+          let l′ = given .ranked .within j (ltb-true j (length (σ .items)) e) in
           ap (λ (r : ℕ). reaches es r (suc k))
-          (ap (λ (x : List ℕ). getD x (getD order j 0) 0) (given .reach-is)
-          ∙ getD-map (reachOf σ es) blank 0 (σ .items) (getD order j 0) (given .ranked .within j (ltb-true j (length (σ .items)) e)))
+          (sym (getD-take (length (σ .items)) reach (getD order j 0) 0 l′) ∙ ap (λ (x : List ℕ). getD x (getD order j 0) 0) (given .reach-is)
+          ∙ getD-map (reachOf σ es) blank 0 (σ .items) (getD order j 0) l′)
           ∙ reach-concerns σ es (given .accepted) k l (itemAt (σ .items) order j)
 
   -- of a table without members in the rows of the entries

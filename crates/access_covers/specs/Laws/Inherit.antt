@@ -10,7 +10,7 @@ use lib.Dec.{eqb, ltb}
 use lib.ListN.{length, getD, List·getD-eq-default}
 use borrow.Author.Tests.{eq-eqb, ne-eqb, eqb-true, eqb-false, ltb-true, ltb-false}
 use Rattle.rules.specs.Directory.{Stored, blank}
-use Rattle.rules.specs.Numbers.{climbs, reaches}
+use Rattle.tables.specs.Numbers.{climbs, reaches}
 use Rattle.tables.specs.Sets.{inRow}
 use Rattle.access_covers.specs.Row.{downInherited, coversInherited}
 use Rattle.access_covers.specs.Noted.{downTo, coversTo}

@@ -198,7 +198,7 @@ module _ (w : ℕ) (p : Bytes) (is : List Item) (rights scopes order : List ℕ)
       let b : j < length is = subst (λ (m : ℕ). j < m) (S .count) l in
       let R = row-of j b in
       record {
-        within = omega (arith, S .ranked .within j b, S .table .rights-length, S .table .few);
+        within = omega (arith, S .ranked .within j b, S .table .few);
         digest = subst (λ (m : ℕ). m < 4294967296) (sym (R .digest)) (digest-bound 0 (itemAt is order j .value));
         grants = subst (λ (m : ℕ). m < 2) (sym (R .grants)) (bit-small (itemAt is order j .grants));
         what = omega (arith, R .what, R .bounded .what);

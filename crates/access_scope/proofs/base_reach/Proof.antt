@@ -1,5 +1,5 @@
 use borrow.Author.Tests.{eq-eqb, ne-eqb}
-use Rattle.rules.specs.Numbers.{baseReach}
+use Rattle.tables.specs.Numbers.{baseReach}
 use borrow.Author.Needs.{needs}
 use Rattle.access_scope.proofs.base_reach.Statement.{statement}
 use Rattle.access_scope.proofs.base_reach.Tie as tie

@@ -1,6 +1,6 @@
 use Prim.Native.Nat.{zero-le}
 use mathlib.Core.Path.{sym, ap, _∙_}
-use Rattle.rules.specs.Numbers.{numberOr0}
+use Rattle.tables.specs.Numbers.{numberOr0}
 use Rattle.directory_lookup.specs.Laws.Find.{up-to}
 use borrow.Author.Needs.{needs}
 use Rattle.access_scope.proofs.own_number.Statement.{statement}

@@ -9,7 +9,7 @@ use lib.Seq.{take-suc-set, take-suc, take-all}
 use Rattle.rules.specs.Sheet.{Bytes}
 use Rattle.rules.specs.Directory.{Stored}
 use Rattle.rules.specs.Decision.{Setting}
-use Rattle.rules.specs.Numbers.{reachOf}
+use Rattle.tables.specs.Numbers.{reachOf}
 use Rattle.permission_sheet.specs.Noted.{Table, blank}
 use Rattle.tables.specs.Book.{width}
 use Rattle.tables.specs.World.{Entries}
@@ -41,10 +41,6 @@ module _ (book : List ℕ) (d p : Bytes) (rights scopes : List ℕ) (q : Bytes) 
         ∙ ap₂ (λ (h : List ℕ) (y : ℕ). h ++ (y ∷ [])) (inv .front σ es held e)
         (item σ es held e ∙ ap₂ (λ (y : Scope) (m : ℕ). itemBy (σ .schema) es (width book) p y q who m) scope (own σ es held e)));
   }
-
-  pub resolved-all : (k : ℕ) (list : List ℕ) → length list ≡ k → Resolved k list → (σ : Setting) (es : List Stored) (held : List ℕ) → Entries σ es d book held
-      → list ≡ reachesBy (σ .schema) es (width book) p rights scopes q who k
-  resolved-all k list l inv σ es held e = sym (take-all k list (omega arith)) ∙ inv .front σ es held e
 
 -- of the requester of the setting they are the reaches of the setting's items
 module _ (σ : Setting) (es : List Stored) (w : ℕ) (p : Bytes) (rights scopes : List ℕ) (q : Bytes) (who : Requester) (asker : Asker σ w q who) (table : Table w p (σ .items) rights scopes) where

@@ -14,7 +14,7 @@ use Rattle.rules.specs.Permission.{Item}
 use Rattle.rules.specs.Decision.{Setting, levelFits}
 use Rattle.rules.specs.Places.{linesAt, partsOf}
 use Rattle.rules.specs.Laws.Tests.{bool-ext, eqb-same}
-use Rattle.rules.specs.Numbers.{climbs, walk, numberOr0, baseReach, baseReaches, ownReach, fitsAlways, reachFrom, reachOf}
+use Rattle.tables.specs.Numbers.{climbs, walk, numberOr0, baseReach, baseReaches, ownReach, fitsAlways, reachFrom, reachOf}
 use Rattle.permission_sheet.specs.Noted.{ItemRow, bit}
 use Rattle.access_scope.specs.Scopes.{Asker, scopeAt, levelBy, whoBy, askedBy, spreadBy, spreadFrom, itemBy}
 use Rattle.access_scope.specs.declared.Requester.{Requester}

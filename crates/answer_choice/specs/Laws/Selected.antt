@@ -27,8 +27,8 @@ use Rattle.request_sheet.specs.declared.Asked.{Asked}
 use Rattle.access_set.specs.Member.{bit}
 use Rattle.access_set.specs.Laws.Bit.{bit-or, bit-pow, one-shl}
 use Rattle.tables.specs.Held.{typeAt, Distinct}
-use Rattle.answer_plan.specs.declared.Choice.{Choice}
-use Rattle.answer_plan.specs.Choice.{Chooses}
+use Rattle.tables.specs.declared.plan.Choice.{Choice}
+use Rattle.tables.specs.Choice.{Chooses}
 use Rattle.answer_choice.specs.Selected.{nothingSelected, selectionOf, Selects}
 
 module _ (w : ℕ) (q : Bytes) (r : Asked) where

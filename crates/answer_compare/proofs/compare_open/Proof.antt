@@ -13,12 +13,12 @@ use Rattle.rules.specs.FilterItem.{holds, someValue}
 use Rattle.tables.specs.Book.{entries, schema, firstAt}
 use Rattle.tables.specs.Laws.Book.{end-is}
 use Rattle.tables.specs.Laws.World.{inside, rank-within}
-use Rattle.answer_plan.specs.declared.Plan.{Plan}
+use Rattle.tables.specs.declared.plan.Plan.{Plan}
 use Rattle.rules.specs.declared.Outcome.the-variants.{NoSuchAttributeOrValue}
-use Rattle.answer_plan.specs.Outcome.{isResult}
-use Rattle.answer_plan.specs.Plan.{planned}
-use Rattle.answer_plan.specs.Sound.{SoundPlan}
-use Rattle.answer_plan.specs.Laws.Outcome.{refused-sound}
+use Rattle.tables.specs.Outcome.{isResult}
+use Rattle.tables.specs.Plan.{planned}
+use Rattle.tables.specs.Sound.{SoundPlan}
+use Rattle.tables.specs.Laws.Outcome.{refused-sound}
 use Rattle.answer_compare.specs.Compare.{compareOutcome}
 use Rattle.answer_compare.specs.Laws.Compare.{outcome-unheld, outcome-held, compare-sound, compared-planned, refused-compare}
 use borrow.Author.Needs.{needs}

@@ -20,10 +20,10 @@ use Rattle.rules.specs.Answer.{outcome, compareEntry}
 use Rattle.rules.specs.Laws.Held.{holds-flat, someValue-flat}
 use Rattle.rules.specs.declared.Outcome.{Outcome}
 use Rattle.rules.specs.declared.Outcome.the-variants.{Result, InsufficientAccessRights, NoSuchAttributeOrValue, InvalidAttributeSyntax}
-use Rattle.answer_plan.specs.Plan.{planned, successLines}
-use Rattle.answer_plan.specs.Sound.{SoundPlan}
-use Rattle.answer_plan.specs.Outcome.{isResult, refusedPlan}
-use Rattle.answer_plan.specs.Laws.Outcome.{refused-planned}
+use Rattle.tables.specs.Plan.{planned, successLines}
+use Rattle.tables.specs.Sound.{SoundPlan}
+use Rattle.tables.specs.Outcome.{isResult, refusedPlan}
+use Rattle.tables.specs.Laws.Outcome.{refused-planned}
 use Rattle.rules.specs.declared.Found.the-variants.{At}
 use Rattle.name.specs.Schema.{syntaxIn, equalBy}
 use Rattle.name.specs.Laws.Schema.{allowed-at, equal-at}

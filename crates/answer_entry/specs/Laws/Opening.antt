@@ -13,16 +13,16 @@ use Rattle.rules.specs.Decision.{Setting, entry}
 use Rattle.rules.specs.Request.{Selection}
 use Rattle.rules.specs.Answer.{outcome, noSuchObject, named, opened}
 use Rattle.rules.specs.Laws.Directory.{Accepted}
-use Rattle.rules.specs.Laws.Resolve.{numbered, entryBy, named-walk}
+use Rattle.tables.specs.Laws.Resolve.{numbered, entryBy, named-walk}
 use Rattle.rules.specs.declared.Outcome.{Outcome}
 use Rattle.rules.specs.declared.Outcome.the-variants.{Result, NoSuchObject, InsufficientAccessRights, NoSuchAttributeOrValue, InvalidAttributeSyntax, AliasProblem}
 use Rattle.rules.specs.declared.Found.{Found}
 use Rattle.rules.specs.declared.Found.the-variants.{At, Nothing}
 use Rattle.tables.specs.Sets.{grantedAt}
-use Rattle.answer_plan.specs.Plan.{planned}
-use Rattle.answer_plan.specs.Sound.{Base, SoundPlan}
-use Rattle.answer_plan.specs.Outcome.{isResult, absentPlan, refusedPlan}
-use Rattle.answer_plan.specs.Laws.Outcome.{absent-planned, refused-planned, absent-sound, refused-sound}
+use Rattle.tables.specs.Plan.{planned}
+use Rattle.tables.specs.Sound.{Base, SoundPlan}
+use Rattle.tables.specs.Outcome.{isResult, absentPlan, refusedPlan}
+use Rattle.tables.specs.Laws.Outcome.{absent-planned, refused-planned, absent-sound, refused-sound}
 use Rattle.answer_entry.specs.Opening.{openingAt, withheldPlan}
 
 module _ (σ : Setting) (es : List Stored) (e q : ℕ) where

@@ -17,15 +17,15 @@ use Rattle.rules.specs.Decision.{Setting, entry, granted}
 use Rattle.rules.specs.Request.{Selection}
 use Rattle.rules.specs.Answer as Answer
 use Rattle.rules.specs.Laws.Directory.{Accepted}
-use Rattle.rules.specs.Numbers.{walk}
-use Rattle.rules.specs.Laws.Resolve.{numbered, disclosed-walk, entryBy, test}
+use Rattle.tables.specs.Numbers.{walk}
+use Rattle.tables.specs.Laws.Resolve.{numbered, disclosed-walk, entryBy, test}
 use Rattle.rules.specs.declared.Found.{Found}
 use Rattle.rules.specs.declared.Found.the-variants.{At}
 use Rattle.tables.specs.Sets.{grantedAt}
-use Rattle.answer_plan.specs.Plan.{successLines, planned}
-use Rattle.answer_plan.specs.Sound.{Base, SoundPlan}
-use Rattle.answer_plan.specs.Outcome.{absentPlan}
-use Rattle.answer_plan.specs.Laws.Outcome.{absent-planned, absent-sound}
+use Rattle.tables.specs.Plan.{successLines, planned}
+use Rattle.tables.specs.Sound.{Base, SoundPlan}
+use Rattle.tables.specs.Outcome.{absentPlan}
+use Rattle.tables.specs.Laws.Outcome.{absent-planned, absent-sound}
 use Rattle.answer_entry.specs.Returned.{browsableAt, returnableAt, successPlan, limitedPlan, returnedPlan}
 
 -- ---- what the code finds of an entry

@@ -15,16 +15,16 @@ use Rattle.rules.specs.Answer as Answer
 use Rattle.rules.specs.Answer.{named, noSuchObject}
 use Rattle.rules.specs.Laws.Absent.{present′}
 use Rattle.rules.specs.Laws.Directory.{Accepted}
-use Rattle.rules.specs.Numbers.{walk}
-use Rattle.rules.specs.Laws.Resolve.{named-walk, entryBy}
+use Rattle.tables.specs.Numbers.{walk}
+use Rattle.tables.specs.Laws.Resolve.{named-walk, entryBy}
 use Rattle.rules.specs.declared.Found.{Found}
 use Rattle.rules.specs.declared.Found.the-variants.{At, Nothing}
-use Rattle.answer_plan.specs.declared.Plan.{Plan}
-use Rattle.answer_plan.specs.Plan.{planned}
-use Rattle.answer_plan.specs.Sound.{Base, SoundPlan}
-use Rattle.answer_plan.specs.Laws.Sound.{Numbered}
-use Rattle.answer_plan.specs.Outcome.{absentPlan}
-use Rattle.answer_plan.specs.Laws.Outcome.{absent-planned, absent-sound}
+use Rattle.tables.specs.declared.plan.Plan.{Plan}
+use Rattle.tables.specs.Plan.{planned}
+use Rattle.tables.specs.Sound.{Base, SoundPlan}
+use Rattle.tables.specs.Laws.Sound.{Numbered}
+use Rattle.tables.specs.Outcome.{absentPlan}
+use Rattle.tables.specs.Laws.Outcome.{absent-planned, absent-sound}
 use Rattle.tables.specs.Sets.{grantedAt}
 use Rattle.answer_entry.specs.Passing.{Indices}
 use Rattle.answer_entry.specs.Returned.{returnedPlan}

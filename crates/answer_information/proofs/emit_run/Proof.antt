@@ -5,7 +5,7 @@ use Rattle.rules.specs.Directory.{nameAt}
 use Rattle.tables.specs.Book.{width}
 use Rattle.answer_information.specs.Laws.Runs.{returned-values, returned-type, returned-not}
 use Rattle.answer_information.specs.Laws.Rows.{there, ranked, type-number}
-use Rattle.answer_plan.specs.Laws.Choice.{known-choice}
+use Rattle.tables.specs.Laws.Choice.{known-choice}
 use Rattle.answer_line.specs.Laws.Emit.{emits-none, emits-same, emits-length}
 use Rattle.answer_information.specs.Information.{heldBy}
 use borrow.Author.Needs.{needs}

@@ -11,7 +11,7 @@ use Rattle.tables.specs.Book.{width, schema, firstAt}
 use Rattle.tables.specs.World.{World}
 use Rattle.answer_information.specs.Laws.Runs.{Sofar, sofar-start, sofar-on, sofar-end}
 use Rattle.answer_information.specs.Laws.Rows.{rows-of, row-rank}
-use Rattle.answer_plan.specs.Choice.{Chooses}
+use Rattle.tables.specs.Choice.{Chooses}
 use Rattle.answer_line.specs.Room.{lineRoom}
 use borrow.Author.Needs.{needs}
 use Rattle.answer_information.proofs.emit_runs.Statement.{statement}

@@ -6,7 +6,7 @@ use Rattle.tables.specs.Held.{typeAt}
 use mathlib.Core.Path.{sym, _∙_}
 use native.Mathlib.Omega.{arith}
 use Rattle.tables.specs.Laws.World.{types-most}
-use Rattle.answer_plan.specs.Laws.Choice.{choice-types}
+use Rattle.tables.specs.Laws.Choice.{choice-types}
 use Rattle.answer_information.specs.Laws.Runs.{shown-yes, shown-not}
 use Rattle.answer_information.specs.Laws.Rows.{granted-named}
 use Rattle.answer_information.proofs.shown.Statement.{statement}

@@ -22,7 +22,7 @@ use Rattle.tables.specs.Held.{rankAt, bytesAt, typeAt, HeldAt}
 use Rattle.tables.specs.World.{Entries}
 use Rattle.answer_line.specs.Emit.{Emits}
 use Rattle.answer_line.specs.Laws.Emit.{emits-none, emits-append}
-use Rattle.answer_plan.specs.Plan.{informationAt}
+use Rattle.tables.specs.Plan.{informationAt}
 use Rattle.answer_information.specs.Information.{EndsAt, rowValues, heldBy, readable, shown, returned}
 use Rattle.answer_information.specs.Laws.Rows.{index-suc, rows-of}
 

@@ -3,7 +3,7 @@ use native.Mathlib.Omega.{arith}
 use denote.Ref.{now}
 use Rattle.tables.specs.Book.{entries}
 use Rattle.tables.specs.Laws.World.{known-entry}
-use Rattle.answer_plan.specs.Laws.Sound.{base-known, base-numbered}
+use Rattle.tables.specs.Laws.Sound.{base-known, base-numbered}
 use Rattle.answer_entry.specs.Laws.Whole.{none-sound, some-sound}
 use Rattle.answer_list.specs.Laws.Whole.{list-none, list-some, list-unfound, list-found}
 use borrow.Author.Needs.{needs}

@@ -14,12 +14,12 @@ use Rattle.rules.specs.Decision.{Setting, entry, granted}
 use Rattle.rules.specs.Answer as Answer
 use Rattle.rules.specs.Laws.Directory.{Accepted}
 use Rattle.rules.specs.Laws.Tests.{and-left}
-use Rattle.rules.specs.Laws.Hits.{listed-number, child-hit}
-use Rattle.rules.specs.Laws.Targets.{aliased-number}
-use Rattle.rules.specs.Numbers.{walk}
+use Rattle.tables.specs.Laws.Hits.{listed-number, child-hit}
+use Rattle.tables.specs.Laws.Targets.{aliased-number}
+use Rattle.tables.specs.Numbers.{walk}
 use Rattle.rules.specs.declared.Found.the-variants.{At}
 use Rattle.tables.specs.Sets.{grantedAt}
-use Rattle.answer_plan.specs.Plan.{aliasesOf, childLines}
+use Rattle.tables.specs.Plan.{aliasesOf, childLines}
 use Rattle.answer_entry.specs.Returned.{browsableAt, returnableAt}
 use Rattle.answer_entry.specs.Passing.{passing}
 use Rattle.answer_entry.specs.Laws.Passing.{hits-passing}

@@ -8,8 +8,8 @@ use Rattle.rules.specs.Directory.{entryOf}
 use Rattle.rules.specs.Request.{Operation, compare, list}
 use Rattle.rules.specs.Answer.{answer}
 use Rattle.tables.specs.Book.{width, entries, schema}
-use Rattle.answer_plan.specs.Choice.{Chooses}
-use Rattle.answer_plan.specs.Plan.{aliasesOf, planned}
+use Rattle.tables.specs.Choice.{Chooses}
+use Rattle.tables.specs.Plan.{aliasesOf, planned}
 use Rattle.answer_choice.specs.Selected.{nothingSelected, selectionOf}
 use Rattle.answer_entry.specs.Passing.{over}
 use Rattle.answer_operation.specs.Hits.{foundBy}

@@ -6,10 +6,10 @@ use denote.Ref.{now}
 use Rattle.rules.specs.Answer.{outcome}
 use Rattle.rules.specs.declared.Outcome.the-variants.{AliasProblem}
 use Rattle.tables.specs.Book.{width, entries}
-use Rattle.answer_plan.specs.Plan.{planned}
-use Rattle.answer_plan.specs.Sound.{SoundPlan}
-use Rattle.answer_plan.specs.declared.Plan.{Plan}
-use Rattle.answer_plan.specs.Laws.Outcome.{refused-planned, refused-sound}
+use Rattle.tables.specs.Plan.{planned}
+use Rattle.tables.specs.Sound.{SoundPlan}
+use Rattle.tables.specs.declared.plan.Plan.{Plan}
+use Rattle.tables.specs.Laws.Outcome.{refused-planned, refused-sound}
 use Rattle.answer_choice.specs.Selected.{selectionOf}
 use Rattle.answer_entry.specs.Passing.{over}
 use Rattle.answer_operation.specs.Laws.Posed.{posed-full, to-target, to-problem, answer-named, answer-problem, found-named, found-none, operation-is}

@@ -18,10 +18,10 @@ use Rattle.rules.specs.declared.Outcome.the-variants.{AliasProblem}
 use Rattle.request_sheet.specs.Noted.{NotedOperation}
 use Rattle.request_sheet.specs.declared.Asked.{Asked}
 use Rattle.tables.specs.Book.{width, schema}
-use Rattle.answer_plan.specs.declared.Choice.{Choice}
-use Rattle.answer_plan.specs.Plan.{aliasesOf}
-use Rattle.answer_plan.specs.Choice.{KnownChoice}
-use Rattle.answer_plan.specs.Sound.{Base, KnownBase}
+use Rattle.tables.specs.declared.plan.Choice.{Choice}
+use Rattle.tables.specs.Plan.{aliasesOf}
+use Rattle.tables.specs.Choice.{KnownChoice}
+use Rattle.tables.specs.Sound.{Base, KnownBase}
 use Rattle.answer_choice.specs.Selected.{selectionOf}
 use Rattle.answer_entry.specs.declared.Target.{Target}
 use Rattle.answer_target.specs.Target.{Full, Resolves}

@@ -1,6 +1,6 @@
 use denote.Ref.{now}
 use Rattle.tables.specs.Book.{width}
-use Rattle.answer_plan.specs.Plan.{planned}
+use Rattle.tables.specs.Plan.{planned}
 use Rattle.answer_print.specs.Laws.Written.{run-refused, run-answered}
 use borrow.Author.Needs.{needs}
 use Rattle.answer_print.proofs.write.Statement.{statement}

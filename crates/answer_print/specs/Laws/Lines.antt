@@ -17,9 +17,9 @@ use Rattle.rules.specs.Answer.{outcomeNumber, entryLines}
 use Rattle.rules.specs.Laws.Loops.{gather-suc}
 use Rattle.answer_line.specs.Emit.{Emits}
 use Rattle.answer_line.specs.Laws.Emit.{emits-none, emits-append}
-use Rattle.answer_plan.specs.Plan.{childLines, informationAt, foundLines, successLines, followed, planned}
-use Rattle.answer_plan.specs.Sound.{SoundPlan}
-use Rattle.answer_plan.specs.declared.Plan.{Plan}
+use Rattle.tables.specs.Plan.{childLines, informationAt, foundLines, successLines, followed, planned}
+use Rattle.tables.specs.Sound.{SoundPlan}
+use Rattle.tables.specs.declared.plan.Plan.{Plan}
 use Rattle.answer_name.specs.Name.{namingLine}
 
 -- ---- the lines of some entries

@@ -11,8 +11,8 @@ use Rattle.tables.specs.World.{World}
 use Rattle.tables.specs.Laws.Book.{schema-length}
 use Rattle.tables.specs.Laws.World.{inside, rows-of, rows-within, rank-within}
 use Rattle.tables.specs.Laws.Held.{any-here, any-on, any-end}
-use Rattle.answer_plan.specs.Choice.{Chooses}
-use Rattle.answer_plan.specs.Laws.Choice.{known-choice}
+use Rattle.tables.specs.Choice.{Chooses}
+use Rattle.tables.specs.Laws.Choice.{known-choice}
 use Rattle.answer_read.specs.Read.{disclosing}
 use Rattle.rules.specs.Lists.{any}
 use Rattle.rules.specs.Directory.{Stored}

@@ -8,7 +8,7 @@ use Rattle.rules.specs.Permission.{DiscloseOnError}
 use Rattle.tables.specs.Book.{schema}
 use Rattle.tables.specs.Held.{typeAt}
 use Rattle.tables.specs.Laws.World.{types-most}
-use Rattle.answer_plan.specs.Laws.Choice.{choice-types}
+use Rattle.tables.specs.Laws.Choice.{choice-types}
 use Rattle.answer_read.specs.Laws.Read.{granted-next, undisclosing, disclosing-asked}
 use Rattle.answer_read.proofs.disclosing_rank.Statement.{statement}
 use Rattle.answer_read.proofs.disclosing_rank.Tie as tie

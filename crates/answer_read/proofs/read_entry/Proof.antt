@@ -5,14 +5,14 @@ use denote.Ref.{now}
 use mathlib.Core.Path.{subst}
 use Rattle.rules.specs.Permission.{Read}
 use Rattle.rules.specs.Answer.{answer, readEntry}
-use Rattle.answer_plan.specs.declared.Plan.{Plan}
-use Rattle.answer_plan.specs.Outcome.{isResult}
-use Rattle.answer_plan.specs.Plan.{planned}
-use Rattle.answer_plan.specs.Sound.{SoundPlan}
+use Rattle.tables.specs.declared.plan.Plan.{Plan}
+use Rattle.tables.specs.Outcome.{isResult}
+use Rattle.tables.specs.Plan.{planned}
+use Rattle.tables.specs.Sound.{SoundPlan}
 use Rattle.rules.specs.declared.Found.the-variants.{At}
 use Rattle.tables.specs.Laws.World.{known-entry}
-use Rattle.answer_plan.specs.Laws.Sound.{base-known, base-numbered}
-use Rattle.answer_plan.specs.Laws.Outcome.{absent-sound}
+use Rattle.tables.specs.Laws.Sound.{base-known, base-numbered}
+use Rattle.tables.specs.Laws.Outcome.{absent-sound}
 use Rattle.answer_entry.specs.Laws.Opening.{opens-entry, withheld-sound, opened-open, opened-withheld}
 use Rattle.tables.specs.Book.{entries}
 use borrow.Author.Tests.{not-true, not-false}

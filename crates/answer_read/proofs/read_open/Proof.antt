@@ -6,11 +6,11 @@ use denote.Ref.{now}
 use mathlib.Core.Path.{subst}
 use Rattle.rules.specs.Permission.{ReturnDN}
 use Rattle.rules.specs.Decision.{entry}
-use Rattle.answer_plan.specs.declared.Plan.{Plan}
-use Rattle.answer_plan.specs.Outcome.{isResult}
-use Rattle.answer_plan.specs.Plan.{planned}
-use Rattle.answer_plan.specs.Sound.{SoundPlan}
-use Rattle.answer_plan.specs.Laws.Outcome.{refused-sound}
+use Rattle.tables.specs.declared.plan.Plan.{Plan}
+use Rattle.tables.specs.Outcome.{isResult}
+use Rattle.tables.specs.Plan.{planned}
+use Rattle.tables.specs.Sound.{SoundPlan}
+use Rattle.tables.specs.Laws.Outcome.{refused-sound}
 use Rattle.tables.specs.Book.{entries}
 use Rattle.tables.specs.Laws.World.{known-entry, inside}
 use Rattle.answer_read.specs.Laws.Read.{granted-next, read-found, read-refused, read-sound}

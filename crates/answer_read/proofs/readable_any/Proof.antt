@@ -10,7 +10,7 @@ use Rattle.tables.specs.Book.{entries, schema, firstAt}
 use Rattle.tables.specs.World.{World}
 use Rattle.tables.specs.Laws.World.{rows-of, rows-within}
 use Rattle.tables.specs.Laws.Held.{any-here, any-on, any-end}
-use Rattle.answer_plan.specs.Choice.{Chooses}
+use Rattle.tables.specs.Choice.{Chooses}
 use Rattle.answer_read.specs.Read.{readable}
 use Rattle.rules.specs.Lists.{any}
 use Rattle.rules.specs.Directory.{Stored}

@@ -18,10 +18,10 @@ use Rattle.rules.specs.Laws.Held.{any-held, any-type}
 use Rattle.tables.specs.Sets.{grantedAt}
 use Rattle.rules.specs.declared.Outcome.{Outcome}
 use Rattle.rules.specs.declared.Outcome.the-variants.{Result, InsufficientAccessRights, NoSuchAttributeOrValue}
-use Rattle.answer_plan.specs.Plan.{planned, successLines, informationAt}
-use Rattle.answer_plan.specs.Sound.{SoundPlan}
-use Rattle.answer_plan.specs.Outcome.{isResult, refusedPlan}
-use Rattle.answer_plan.specs.Laws.Outcome.{refused-planned}
+use Rattle.tables.specs.Plan.{planned, successLines, informationAt}
+use Rattle.tables.specs.Sound.{SoundPlan}
+use Rattle.tables.specs.Outcome.{isResult, refusedPlan}
+use Rattle.tables.specs.Laws.Outcome.{refused-planned}
 use Rattle.answer_read.specs.Read.{readable, disclosing, asksNothing, readOutcome, readPlan}
 
 -- a permission on the entry of index `k`, by its number

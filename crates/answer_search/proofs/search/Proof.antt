@@ -8,7 +8,7 @@ use Rattle.rules.specs.declared.Found.{Found}
 use Rattle.rules.specs.declared.Found.the-variants.{At}
 use Rattle.tables.specs.Book.{width, entries}
 use Rattle.tables.specs.Laws.World.{known-entry}
-use Rattle.answer_plan.specs.Laws.Sound.{base-known, base-numbered}
+use Rattle.tables.specs.Laws.Sound.{base-known, base-numbered}
 use Rattle.answer_entry.specs.Passing.{over}
 use Rattle.answer_entry.specs.Laws.Passing.{over-found}
 use Rattle.answer_entry.specs.Laws.Whole.{none-sound, some-sound}

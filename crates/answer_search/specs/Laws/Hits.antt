@@ -15,12 +15,12 @@ use Rattle.rules.specs.Request.{Search}
 use Rattle.rules.specs.Arrange.{arranged}
 use Rattle.rules.specs.Answer as Answer
 use Rattle.rules.specs.Laws.Directory.{Accepted}
-use Rattle.rules.specs.Numbers.{climbs, withinNumber, walk}
-use Rattle.rules.specs.Laws.Hits.{candidate-number}
+use Rattle.tables.specs.Numbers.{climbs, withinNumber, walk}
+use Rattle.tables.specs.Laws.Hits.{candidate-number}
 use Rattle.rules.specs.declared.Edition.{Edition}
 use Rattle.rules.specs.declared.Found.the-variants.{At}
 use Rattle.tables.specs.Sets.{grantedAt}
-use Rattle.answer_plan.specs.Plan.{foundLines, informationAt}
+use Rattle.tables.specs.Plan.{foundLines, informationAt}
 use Rattle.answer_entry.specs.Returned.{browsableAt, returnableAt}
 use Rattle.answer_entry.specs.Passing.{passing}
 use Rattle.answer_entry.specs.Laws.Passing.{entries-passing}

@@ -13,8 +13,8 @@ use Rattle.rules.specs.Permission.{DiscloseOnError}
 use Rattle.rules.specs.Decision.{Setting, entry, granted}
 use Rattle.rules.specs.Answer.{orName, matchedName}
 use Rattle.rules.specs.Laws.Directory.{Accepted}
-use Rattle.rules.specs.Numbers.{onFound, childFrom, walk}
-use Rattle.rules.specs.Laws.Resolve.{walk-more, entryBy, numbered, filtered, matched-step}
+use Rattle.tables.specs.Numbers.{onFound, childFrom, walk}
+use Rattle.tables.specs.Laws.Resolve.{walk-more, entryBy, numbered, filtered, matched-step}
 use Rattle.tables.specs.Sets.{grantedAt}
 use Rattle.directory_lookup.specs.Find.{byChild}
 use Rattle.answer_target.specs.Target.{lastOf}

@@ -15,14 +15,14 @@ use Rattle.rules.specs.Directory.{Stored, blank, Directory, nameAt, underAlias,
 use Rattle.rules.specs.Decision.{Setting}
 use Rattle.rules.specs.Aliases.{replaced, leading, followed}
 use Rattle.rules.specs.Places.{linesAt, partsOf}
-use Rattle.rules.specs.Numbers.{lead, aliasBy}
+use Rattle.tables.specs.Numbers.{lead, aliasBy}
 use Rattle.rules.specs.Laws.Directory.{Accepted}
-use Rattle.rules.specs.Laws.Targets.{leading-walk, walk-depth}
+use Rattle.tables.specs.Laws.Targets.{leading-walk, walk-depth}
 use Rattle.rules.specs.declared.Found.{Found}
 use Rattle.rules.specs.declared.Found.the-variants.{At, Nothing}
 use Rattle.tables.specs.Book.{entries, width}
 use Rattle.tables.specs.World.{Entries, World, Known}
-use Rattle.answer_plan.specs.Plan.{aliasesOf}
+use Rattle.tables.specs.Plan.{aliasesOf}
 use Rattle.answer_entry.specs.declared.Target.{Target}
 use Rattle.answer_target.specs.Target.{alias, whole, wayDown, endingOf, Full, targetOf, HoldsName, Resolves}
 use Rattle.answer_target.specs.Laws.Way.{way-unled, way-led, way-unstopped, way-base}

@@ -13,7 +13,7 @@ use Rattle.rules.specs.Directory.{Stored, blank, underAlias, nameAt, entryOf}
 use Rattle.rules.specs.Decision.{Setting}
 use Rattle.rules.specs.Answer.{matchedName}
 use Rattle.rules.specs.Places.{linesAt, partsOf}
-use Rattle.rules.specs.Numbers.{onFound, childFrom, walk, lead}
+use Rattle.tables.specs.Numbers.{onFound, childFrom, walk, lead}
 use Rattle.rules.specs.Laws.Directory.{Accepted}
 use Rattle.tables.specs.Book.{entries, width, targetAt}
 use Rattle.tables.specs.World.{Entries, World}
@@ -25,7 +25,7 @@ use Rattle.sheet_line.specs.declared.Taken.the-variants as Taken
 use Rattle.directory_lookup.specs.Find.{byChild, stepFound, stepOf}
 use Rattle.directory_lookup.specs.Laws.Names.{parts-by}
 use Rattle.directory_lookup.specs.Laws.Find.{byStep, name-step}
-use Rattle.answer_plan.specs.Sound.{Base}
+use Rattle.tables.specs.Sound.{Base}
 use Rattle.answer_target.specs.Target.{lastOf, Ending, alias, whole, wayDown, endingOf, Full}
 use Rattle.answer_target.specs.Laws.Matched.{descend, descend-matched}
 use Rattle.answer_target.specs.declared.way.Way.{Way}

@@ -1,14 +1,14 @@
 -- Laws of `filled`: the counts and the columns of the book are the notes'.
 use Prim.Native.Nat.{ℕ, _+_, _*_, _≤_, _<_}
-use mathlib.Core.Path.{_≡_, sym, ap, _∙_}
-use mathlib.Core.List.{List}
+use mathlib.Core.Path.{_≡_, refl, sym, ap, _∙_}
+use mathlib.Core.List.{List, [], _∷_}
 use native.Mathlib.Omega.{arith}
 use lib.ListN.{length, getD, take, drop, set, length-set}
 use lib.Seq.{getD-set-same, getD-set-other}
 use Rattle.tables.specs.Book.{BOOK, FIRST-ROWS, width, types, entries, schema, placeAt, parentAt, namingAt, lengthAt, firstAt, targetAt}
 use Rattle.directory_sheet.specs.declared.Notes.{Notes}
 use Rattle.directory_book.specs.Filled.{put, placesOf, filled}
-use Rattle.directory_book.specs.Laws.Put.{put-length, put-here, put-before, number-at, number-of, places-length, place-of}
+use Rattle.directory_book.specs.Laws.Put.{put-on, put-skip, Column, entered, stored, entered-on, put-length, put-here, put-before, number-at, number-of, places-length, place-of}
 
 -- the notes' arrays have their lengths, and no more is counted than they hold
 pub record Fit (r : Notes) : Type 0 where
@@ -21,6 +21,23 @@ pub record Fit (r : Notes) : Type 0 where
   pub lengths : length (r .lengths) ≡ 256
   pub first : length (r .first) ≡ FIRST-ROWS
   pub targets : length (r .targets) ≡ 256
+
+-- ---- the columns of the entries, entry by entry
+
+abbrev later : Notes → List Column
+later r = record { place = 328; numbers = r .parents } ∷ record { place = 584; numbers = r .naming } ∷ record { place = 840; numbers = r .lengths } ∷ record { place = 1096; numbers = r .first } ∷ record { place = 1353; numbers = r .targets } ∷ []
+
+abbrev pub columns : ℕ → Notes → List Column
+columns w r = record { place = 72; numbers = placesOf w (r .at) } ∷ later r
+
+pub entry-on : (w : ℕ) (r : Notes) (b : List ℕ) → Fit r → length b ≡ BOOK → (k : ℕ) → k < r .count → {now : List ℕ} → now ≡ entered (columns w r) k b
+    → set (set (set (set (set (set now (72 + k) (getD (r .at) k 0 + 5 * w)) (328 + k) (getD (r .parents) k 0)) (584 + k) (getD (r .naming) k 0)) (840 + k) (getD (r .lengths) k 0)) (1096 + k) (getD (r .first) k 0)) (1353 + k) (getD (r .targets) k 0)
+    ≡ entered (columns w r) (k + 1) b
+entry-on w r b fit size k l e =
+    ap (λ (x : List ℕ). stored (later r) k (set x (72 + k) (getD (r .at) k 0 + 5 * w))) e
+    ∙ ap (λ (v : ℕ). stored (later r) k (set (entered (columns w r) k b) (72 + k) v)) (sym (place-of w (r .at) k (omega (arith, l, fit .at, fit .count))))
+    ∙ entered-on (columns w r) k b size
+    ((omega arith, omega (arith, places-length w (r .at))), omega arith, ((omega arith, omega arith), omega arith, ((omega arith, omega arith), omega arith, ((omega arith, omega arith), omega arith, ((omega arith, omega arith), omega arith, ((omega arith, omega arith), tt, tt))))))
 
 -- the numbers of the notes, in the book
 pub record Copied (w : ℕ) (r : Notes) (b : List ℕ) : Type 0 where
@@ -66,7 +83,7 @@ module _ (w : ℕ) (r : Notes) (b : List ℕ) (fit : Fit r) (size : length b ≡
   size₀ : length b₀ ≡ BOOK
   size₀ = simp length-set size
 
-  size₁ : length b₁ ≡ BOOK
+  pub size₁ : length b₁ ≡ BOOK
   size₁ = put-length b₀ 8 (r .schema) (r .types) (omega (arith, size₀)) (omega arith) ∙ size₀
 
   places : n ≤ length (placesOf w (r .at))
@@ -90,6 +107,15 @@ module _ (w : ℕ) (r : Notes) (b : List ℕ) (fit : Fit r) (size : length b ≡
   size₇ : length (filled w r b) ≡ BOOK
   unfolding filled
   size₇ = put-length b₆ 1353 (r .targets) n (omega (arith, size₆)) (omega arith) ∙ size₆
+
+  -- ---- the last row after the last entry
+
+  pub last-on : {now : List ℕ} → now ≡ entered (columns w r) n b₁ → set now (1096 + n) (getD (r .first) n 0) ≡ filled w r b
+  unfolding filled
+  last-on e =
+      ap (λ (x : List ℕ). set x (1096 + n) (getD (r .first) n 0)) e
+      ∙ put-skip (put b₅ 1096 (r .first) n) 1353 (r .targets) n (1096 + n) (getD (r .first) n 0) (omega arith) (omega (arith, size₅, put-length b₅ 1096 (r .first) n (omega (arith, size₅)) (omega arith)))
+      ∙ ap (λ (x : List ℕ). put x 1353 (r .targets) n) (put-on b₅ 1096 (r .first) n refl (omega (arith, size₅)) (omega arith))
 
   -- ---- a part before the columns that come later
 

@@ -5,8 +5,9 @@ use mathlib.Core.List.{List, [], _∷_, _++_, append-assoc}
 use native.Mathlib.Nat.{not-suc-le-zero, le-of-suc-le-suc}
 use native.Mathlib.Numerals.{add-one}
 use native.Mathlib.Omega.{arith}
-use lib.ListN.{length, getD, take, drop, set, length-drop, length-map, take-append-drop}
-use lib.Seq.{paste-zero, paste-suc, length-paste, length-take-le, take-append-le, drop-append-le, drop-at, take-at, getD-take, getD-drop}
+use lib.ListN.{length, getD, take, drop, set, length-append, length-drop, length-map, take-append-drop}
+use lib.Seq.{set-append-left, take-set-lt, drop-set-lt, paste-zero, paste-suc, length-paste, length-take-le, take-append-le, drop-append-le, drop-at, take-at, getD-take, getD-drop}
+use Rattle.tables.specs.Book.{BOOK}
 use Rattle.directory_book.specs.Filled.{put, placesOf}
 
 -- ---- the loop that copies
@@ -51,6 +52,66 @@ module _ (b : List ℕ) (at : ℕ) (column : List ℕ) (n : ℕ) (room : at + n 
       ∙ part-front (take at b) (take n column ++ drop (at + n) b) j m (omega (arith, front-length))
       ∙ sym (part-front (take at b) (drop at b) j m (omega (arith, front-length)))
       ∙ ap (λ (x : List ℕ). take m (drop j x)) (take-append-drop at b)
+
+-- ---- columns that are filled together, number by number
+
+-- a store before a column
+pub put-skip : (b : List ℕ) (at : ℕ) (column : List ℕ) (n j v : ℕ) → j < at → at ≤ length b → set (put b at column n) j v ≡ put (set b j v) at column n
+unfolding put
+put-skip b at column n j v h l =
+    let front = length-take-le at b l in
+    set-append-left (take at b ++ take n column) (drop (at + n) b) j v (simp length-append (omega (arith, front)))
+    ∙ ap (λ (x : List ℕ). x ++ drop (at + n) b) (set-append-left (take at b) (take n column) j v (omega (arith, front)))
+    ∙ ap (λ (x : List ℕ). (x ++ take n column) ++ drop (at + n) b) (sym (take-set-lt at b j v h))
+    ∙ ap (λ (x : List ℕ). (take at (set b j v) ++ take n column) ++ x) (sym (drop-set-lt (at + n) b j v (omega arith)))
+
+-- a column, with its place in the book
+pub record Column : Type 0 where
+  pub place : ℕ
+  pub numbers : List ℕ
+
+-- the first `i` numbers of each column
+abbrev pub entered : List Column → ℕ → List ℕ → List ℕ
+entered [] i b = b
+entered (x ∷ xs) i b = entered xs i (put b (x .place) (x .numbers) i)
+
+pub entered-start : (xs : List Column) (b : List ℕ) → b ≡ entered xs 0 b
+entered-start [] b = refl
+entered-start (x ∷ xs) b = put-start b (x .place) (x .numbers) ∙ entered-start xs (put b (x .place) (x .numbers) 0)
+
+-- number `i` of each column stored
+abbrev pub stored : List Column → ℕ → List ℕ → List ℕ
+stored [] i b = b
+stored (x ∷ xs) i b = stored xs i (set b (x .place + i) (getD (x .numbers) i 0))
+
+-- the first column is behind place `j`
+abbrev pub Behind : ℕ → List Column → Type 0
+Behind j [] = Unit {0}
+Behind j (x ∷ xs) = j < x .place
+
+behind-less : (xs : List Column) (i j : ℕ) → i ≤ j → Behind j xs → Behind i xs
+behind-less [] i j h l = tt
+behind-less (x ∷ xs) i j h l = omega (arith, h, l)
+
+-- each column has a number `i`, with room for it before the column that follows
+abbrev pub Apart : ℕ → List Column → Type 0
+Apart i [] = Unit {0}
+Apart i (x ∷ xs) = ((x .place + i < BOOK) × (i < length (x .numbers))) × Behind (x .place + i) xs × Apart i xs
+
+entered-skip : (xs : List Column) (i j v : ℕ) (b : List ℕ) → length b ≡ BOOK → Behind j xs → Apart i xs → set (entered xs i b) j v ≡ entered xs i (set b j v)
+entered-skip [] i j v b size h a = refl
+entered-skip (x ∷ xs) i j v b size h a =
+    entered-skip xs i j v (put b (x .place) (x .numbers) i) (put-length b (x .place) (x .numbers) i (omega (arith, a .0, size)) (omega (arith, a .0)) ∙ size) (behind-less xs j (x .place + i) (omega (arith, h)) (a .1)) (a .2)
+    ∙ ap (entered xs i) (put-skip b (x .place) (x .numbers) i j v h (omega (arith, a .0, size)))
+
+pub entered-on : (xs : List Column) (i : ℕ) (b : List ℕ) → length b ≡ BOOK → Apart i xs → stored xs i (entered xs i b) ≡ entered xs (i + 1) b
+entered-on [] i b size a = refl
+entered-on (x ∷ xs) i b size a =
+    let at = x .place in
+    let c = x .numbers in
+    ap (stored xs i) (entered-skip xs i (at + i) (getD c i 0) (put b at c i) (put-length b at c i (omega (arith, a .0, size)) (omega (arith, a .0)) ∙ size) (a .1) (a .2))
+    ∙ ap (λ (y : List ℕ). stored xs i (entered xs i y)) (put-on b at c i refl (omega (arith, a .0, size)) (a .0 .1))
+    ∙ entered-on xs i (put b at c (i + 1)) (put-length b at c (i + 1) (omega (arith, a .0, size)) (omega (arith, a .0)) ∙ size) (a .2)
 
 -- one number as a part
 pub number-at : (b : List ℕ) (k : ℕ) → getD (take 1 (drop k b)) 0 0 ≡ getD b k 0

@@ -10,7 +10,7 @@ use borrow.Author.Tests.{eq-eqb, ne-eqb, eqb-true, eqb-false}
 use Rattle.rules.specs.Sheet.{Bytes}
 use Rattle.rules.specs.Directory.{Stored, blank}
 use Rattle.rules.specs.Decision.{Setting}
-use Rattle.rules.specs.Numbers.{climbs}
+use Rattle.tables.specs.Numbers.{climbs}
 use Rattle.tables.specs.Book.{entries, parentAt}
 use Rattle.tables.specs.World.{Entries}
 use Rattle.tables.specs.Laws.World.{inside, parent-is}

@@ -16,7 +16,7 @@ use Rattle.rules.specs.Directory.{Stored, blank}
 use Rattle.rules.specs.Decision.{Setting}
 use Rattle.rules.specs.Places.{schemaOf, linesAt, partsOf}
 use Rattle.rules.specs.Laws.Directory.{Accepted}
-use Rattle.rules.specs.Numbers.{childFrom, walk, onFound}
+use Rattle.tables.specs.Numbers.{childFrom, walk, onFound}
 use Rattle.name.specs.Schema.{syntaxIn, equalBy}
 use Rattle.name.specs.Laws.Schema.{equal-at, equal-none}
 use Rattle.sheet_line.specs.Line.{takenAt, bytesOf}

@@ -1,6 +1,7 @@
 -- The entries before the position are noted, with their values and the rows of these; `taken` stands there.
 use Rattle.directory_schema.proofs.Lines.{not-line}
-use Rattle.directory_sheet.specs.Laws.Entries.{EntriesRead, answer-refused, standing-start, standing-refused, standing-room, standing-asked, standing-lost, standing-owed, standing-cut, standing-on, standing-further, standing-short, standing-ended}
+use Rattle.directory_sheet.specs.Laws.Entries.{EntriesRead, answer-refused, standing-start, standing-short, standing-ended}
+use Rattle.directory_sheet.specs.Laws.Entry.{standing-refused, standing-room, standing-asked, standing-lost, standing-owed, standing-cut, standing-on, standing-further}
 use Rattle.directory_ruling.specs.Mark.{Mark, Room, heads}
 use Rattle.directory_ruling.specs.Laws.Rulings.{line-within}
 use Rattle.sheet_line.specs.Laws.{taken-fits-line}

@@ -25,23 +25,10 @@ returns c = let A = c .before .before .before .before .before .before .before .b
     replies-refused (j .result .refusal) _ (now (A .out)) (c .refused .result) (c .refused .ensures)
     (permissions-refuse f k x (now (c .before .before .before .before .before .before .schema .result)) ((D .entries (settingOf x [] (record { level = 0; name = [] })) refl) .schema-is ∙ ap schemaOf (sym (c .before .before .before .before .before .before .schema .ensures))) p (now (A .q)) (length (now (A .out))) (j .result) _ _ (j .ensures) (c .before .if1 .taken))
 
-slice-aggregate-rank-items : tie.Need-slice-aggregate-rank-items
-slice-aggregate-rank-items c = let j = c .before .before .before .judge in let a = j .ensures .accepted (c .before .if1 .left) in let N = j .ensures .noted (a .0) (a .1) in omega (arith, N .table .rights-length)
-
 rank-items-requires : tie.Need-rank-items-requires
 rank-items-requires c κs = let A = c .before .before .before .before .before .before .before .before .before .before .before .before .before .args in let f = A .terms .format in let k = A .terms .limits in let W = width (now (A .book)) in let p = now (A .p) in let j = c .before .before .before .before .judge in let x = c .before .before .before .before .before .before .before .before .before .before .before .before .before .pre .0 in let D = c .before .before .before .before .before .before .before .before .before .before .before .before .before .pre .1 in
     let a = j .ensures .accepted (c .before .before .if1 .left) in let N = j .ensures .noted (a .0) (a .1) in
-    (search needs, omega (arith, N .count, N .table .few), omega (arith, N .count, N .table .few, N .table .rights-length))
-
-slice-aggregate-requested : tie.Need-slice-aggregate-requested
-slice-aggregate-requested c = let A = c .before .before .before .before .before .before .before .before .before .before .before .before .before .before .before .before .args in let f = A .terms .format in let k = A .terms .limits in let W = width (now (A .book)) in let p = now (A .p) in let j = c .before .before .before .before .before .before .before .judge in let x = c .before .before .before .before .before .before .before .before .before .before .before .before .before .before .before .before .pre .0 in let D = c .before .before .before .before .before .before .before .before .before .before .before .before .before .before .before .before .pre .1 in
-    let a = j .ensures .accepted (c .before .before .before .before .before .if1 .left) in let N = j .ensures .noted (a .0) (a .1) in
-    omega (arith, N .table .rights-length)
-
-slice-aggregate-requested-2 : tie.Need-slice-aggregate-requested-2
-slice-aggregate-requested-2 c = let A = c .before .before .before .before .before .before .before .before .before .before .before .before .before .before .before .before .before .args in let f = A .terms .format in let k = A .terms .limits in let W = width (now (A .book)) in let p = now (A .p) in let j = c .before .before .before .before .before .before .before .before .judge in let x = c .before .before .before .before .before .before .before .before .before .before .before .before .before .before .before .before .before .pre .0 in let D = c .before .before .before .before .before .before .before .before .before .before .before .before .before .before .before .before .before .pre .1 in
-    let a = j .ensures .accepted (c .before .before .before .before .before .before .if1 .left) in let N = j .ensures .noted (a .0) (a .1) in
-    omega (arith, N .table .scopes-length)
+    (search needs, omega (arith, N .count, N .table .few))
 
 part-requested-end : tie.Need-part-requested-end
 part-requested-end c = let A = c .before .before .before .before .before .before .before .before .before .before .before .before .before .before .before .before .before .before .args in let f = A .terms .format in let k = A .terms .limits in let W = width (now (A .book)) in let p = now (A .p) in let j = c .before .before .before .before .before .before .before .before .before .judge in let x = c .before .before .before .before .before .before .before .before .before .before .before .before .before .before .before .before .before .before .pre .0 in let D = c .before .before .before .before .before .before .before .before .before .before .before .before .before .before .before .before .before .before .pre .1 in
@@ -67,6 +54,5 @@ returns-2 c = let A = c .before .before .before .before .before .before .before 
 pub permitted-spec : {M : Type 1} → statement M
 permitted-spec =
     tie.close
-    (tie.spec schema-requires judge-requires (λ c κs. search needs) returns slice-aggregate-rank-items
-    rank-items-requires slice-aggregate-requested slice-aggregate-requested-2 (λ c. search needs) (λ c. search needs) part-requested-end
-    requested-requires (λ c. search needs) returns-2)
+    (tie.spec schema-requires judge-requires (λ c κs. search needs) returns rank-items-requires (λ c. search needs) (λ c. search needs)
+    part-requested-end requested-requires (λ c. search needs) returns-2)

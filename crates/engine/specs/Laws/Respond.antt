@@ -1,10 +1,10 @@
 -- Laws for an accepted request: from what is noted of it to the reply.
 use Prim.Native.Nat.{ℕ, _+_, _-_, _≤_}
-use mathlib.Core.Path.{_≡_, refl, sym, ap, ap₂, _∙_, subst}
+use mathlib.Core.Path.{_≡_, refl, sym, ap, _∙_, subst}
 use mathlib.Core.List.{List, [], _++_, map}
 use native.Mathlib.Omega.{arith}
 use lib.ListN.{length, getD, take, replicate, length-replicate, length-append}
-use lib.Seq.{take-append-seam, take-at, length-take-le}
+use lib.Seq.{take-at}
 use Rattle.rules.specs.Sheet.{Bytes, Usable, print}
 use Rattle.rules.specs.declared.Format.{Format}
 use Rattle.rules.specs.Name.{Schema}
@@ -17,7 +17,7 @@ use Rattle.rules.specs.Answer.{answerTo}
 use Rattle.rules.specs.Serve.{Ground, settingOf, fitting, respond}
 use Rattle.rules.specs.Places.{schemaOf}
 use Rattle.rules.specs.Laws.First.{Ranked}
-use Rattle.rules.specs.Numbers.{reachOf}
+use Rattle.tables.specs.Numbers.{reachOf}
 use Rattle.request_sheet.specs.Noted as Requests
 use Rattle.request_sheet.specs.declared.Asked.{Asked}
 use Rattle.permission_sheet.specs.Noted.{Table}
@@ -41,7 +41,7 @@ use Rattle.access_items.specs.Laws.Rank.{length-orderOf, ranked-order}
 use Rattle.access_covers.specs.Noted.{rightsNoted}
 use Rattle.access_covers.specs.Sources.{Sources}
 use Rattle.access_covers.specs.Laws.Covers.{rights-size, rights-noted}
-use Rattle.answer_plan.specs.Plan.{aliasesOf}
+use Rattle.tables.specs.Plan.{aliasesOf}
 use Rattle.engine.specs.Judges.{DirectoryAt}
 
 -- ---- the schema
@@ -65,7 +65,7 @@ asker-of σ G w q y a u n = record {
 -- ---- the items that are for the requester
 
 pub reached-of : {σ : Setting} {es : List Stored} {d : Bytes} {book held : List ℕ} → Entries σ es d book held → (w : ℕ) (p : Bytes) (rights scopes order parents : List ℕ) {reach : List ℕ}
-    → parents ≡ Book.parents book → Sorted w p (σ .items) rights scopes order → reach ≡ map (reachOf σ es) (σ .items) → Sources σ es reach order parents
+    → parents ≡ Book.parents book → Sorted w p (σ .items) rights scopes order → take (length (σ .items)) reach ≡ map (reachOf σ es) (σ .items) → Sources σ es reach order parents
 reached-of {σ} {es} {book = book} E w p rights scopes order parents q s r = record {
   accepted = E .accepted;
   few = omega (arith, E .count, E .fits .few-entries);
@@ -76,16 +76,6 @@ reached-of {σ} {es} {book = book} E w p rights scopes order parents q s r = rec
   parents-noted = ap length q ∙ parents-length (E .fits) ∙ E .count;
   parent = λ k l. ap (λ (x : List ℕ). getD x k 0) q ∙ parent-at book k (omega (arith, l, E .count)) ∙ parent-is E k (omega (arith, l, E .count));
 }
-
--- a part that was lent and given back, taken again
-pub front-again : (x rest : List ℕ) (n : ℕ) → length x ≡ n → take (n - 0) (x ++ rest) ≡ x
-front-again x rest n e = let z : n - 0 ≡ length x = omega (arith, e) in rw (z, take-append-seam x rest)
-
-pub front-within : (x rest : List ℕ) (n : ℕ) → length x ≡ n → n ≤ length (x ++ rest)
-front-within x rest n e = omega (arith, e, length-append x rest)
-
-pub cut-count : (n : ℕ) (l : List ℕ) → n ≤ length l → length (take (n - 0) l) ≡ n
-cut-count n l h = let z : n - 0 ≡ n = omega arith in rw z (length-take-le n l h)
 
 pub respond-is : (f : Format) (w : ℕ) (g : Ground) (y : Request) (room : ℕ) → w ≡ f .width
     → fitting room (print w (answerTo (settingOf (g .directory) (g .items) (y .requester)) (map entryOf (g .directory .entries)) (aliasesOf (settingOf (g .directory) (g .items) (y .requester)) (g .directory .entries)) (y .base) (y .operation))) ≡ respond f g y room
@@ -120,8 +110,9 @@ module _ {σ : Setting} {es : List Stored} {d p : Bytes} {book held : List ℕ} 
 
 -- the reaches of the setting's items
 pub reach-is : (σ : Setting) (es : List Stored) (w : ℕ) (p : Bytes) (rights scopes : List ℕ) (q : Bytes) (who : Scopes.Requester) → Asker σ w q who → Table w p (σ .items) rights scopes
-    → (reach : List ℕ) (n : ℕ) → n ≡ length (σ .items) → reach ≡ reachesBy (σ .schema) es w p rights scopes q who n → reach ≡ map (reachOf σ es) (σ .items)
-reach-is σ es w p rights scopes q who asker table reach n e h = h ∙ ap (reachesBy (σ .schema) es w p rights scopes q who) e ∙ reaches-are σ es w p rights scopes q who asker table
+    → (reach : List ℕ) (n : ℕ) → n ≡ length (σ .items) → take n reach ≡ reachesBy (σ .schema) es w p rights scopes q who n → take (length (σ .items)) reach ≡ map (reachOf σ es) (σ .items)
+reach-is σ es w p rights scopes q who asker table reach n e h =
+    ap (λ (m : ℕ). take m reach) (sym e) ∙ h ∙ ap (reachesBy (σ .schema) es w p rights scopes q who) e ∙ reaches-are σ es w p rights scopes q who asker table
 
 -- the numbers of the items in order, as far as there are items
 pub order-front : (w : ℕ) (p : Bytes) (is : List Item) (rights scopes order behind : List ℕ) (n : ℕ) → Table w p is rights scopes → n ≡ length is → order ≡ orderOf rights n ++ behind
@@ -132,7 +123,7 @@ order-front w p is rights scopes order behind n table e q =
     (subst (Ranked is) (sym front) (ranked-order w p is rights scopes table), ap length front ∙ length-orderOf rights (length is))
 
 pub order-room : (rights order behind : List ℕ) (n : ℕ) → order ≡ orderOf rights n ++ behind → n ≤ length order
-order-room rights order behind n q = omega (arith, ap length q, front-within (orderOf rights n) behind n (length-orderOf rights n))
+order-room rights order behind n q = omega (arith, ap length q, length-append (orderOf rights n) behind, length-orderOf rights n)
 
 -- the items in columns of the same width by another word
 pub sorted-in : {v w : ℕ} {p : Bytes} {is : List Item} {rights scopes order : List ℕ} → v ≡ w → Sorted w p is rights scopes order → Sorted v p is rights scopes order

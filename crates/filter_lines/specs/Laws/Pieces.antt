@@ -17,7 +17,7 @@ use Rattle.value_blank.specs.declared.Text.{Text}
 use Rattle.value_blank.specs.Blank.{isTidy, textOf}
 use Rattle.value_blank.specs.Laws.Blank.{tidy-tidied}
 use Rattle.value_blank.specs.Laws.Text.{text-bytes}
-use Rattle.rules.specs.FilterLines.{piecesOf, afterLines}
+use Rattle.tables.specs.FilterLines.{piecesOf, afterLines}
 use Rattle.filter_lines.specs.Lines.{LinesNoted, positionAt, firstAt, placeAt, nextAt, valueAt, piecesIn, piecesStand, lesser}
 use Rattle.filter_lines.specs.Laws.Lines.{row-lines}
 use Rattle.rules.specs.declared.Found.the-variants.{At, Nothing}

@@ -11,8 +11,8 @@ use Rattle.rules.specs.Filter.{Assertion, Filter, truth, negation, evaluate}
 use Rattle.rules.specs.Judge.{accept, Grammar}
 use Rattle.rules.specs.Request.{filter}
 use Rattle.rules.specs.Places.{linesAt}
-use Rattle.rules.specs.FilterLines.{bothIn, eitherIn, startIn, assertionOf, afterItem, Evaluated, evaluated, partsFrom, evaluateLine, evaluateSheet, evaluateLines}
-use Rattle.rules.specs.Laws.Filter.{filter-read}
+use Rattle.tables.specs.FilterLines.{bothIn, eitherIn, startIn, assertionOf, afterItem, Evaluated, evaluated, partsFrom, evaluateLine, evaluateSheet, evaluateLines}
+use Rattle.tables.specs.Laws.Filter.{filter-read}
 use Rattle.rules.specs.declared.Edition.{Edition}
 use Rattle.rules.specs.declared.Edition.the-variants.{FirstEdition}
 use Rattle.rules.specs.declared.Truth.{Truth}

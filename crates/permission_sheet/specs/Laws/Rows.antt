@@ -1,19 +1,28 @@
 -- Rows of numbers one after the other in an array: one more row, and what is read at a place of the array.
 use Prim.Native.Nat.{ℕ, zero, suc, _+_, _-_, _*_, _≤_, _<_}
-use mathlib.Core.Path.{_≡_, sym, ap, _∙_}
+use mathlib.Core.Path.{_≡_, refl, sym, ap, _∙_}
 use mathlib.Core.List.{List, [], _∷_, _++_, append-assoc, append-nil}
 use native.Mathlib.Omega.{arith}
-use native.Mathlib.Nat.{not-suc-le-zero, le-of-suc-le-suc, mul-le-mul-right}
-use lib.ListN.{length, getD, drop, replicate, length-append, length-replicate, replicate-append-replicate, List·getD-append}
-use lib.Seq.{paste, take-length, drop-at, take-append-seam, drop-append-add, getD-append-add}
+use native.Mathlib.Nat.{add-suc, add-zero, not-suc-le-zero, le-of-suc-le-suc, mul-le-mul-right}
+use lib.ListN.{length, getD, set, drop, replicate, length-append, length-replicate, replicate-append-replicate, List·getD-append}
+use lib.Seq.{sets, sets-eq, drop-at, take-append-seam, drop-append-add, getD-append-add}
 use Rattle.rules.specs.Lists.{gather}
 use Rattle.permission_sheet.specs.Rows.{putAt}
 
 -- ---- a row into an array
 
-pub put-done : (d : List ℕ) (at : ℕ) (s : List ℕ) (n : ℕ) → n ≡ length s → paste d at s n ≡ putAt d at s
+-- the numbers of `row` stored one by one, from place `j` of the row that begins at `at`
+abbrev pub stored : List ℕ → ℕ → ℕ → List ℕ → List ℕ
+stored rows at j [] = rows
+stored rows at j (x ∷ row) = stored (set rows (at + j) x) at (suc j) row
+
+stored-sets : (rows : List ℕ) (at j : ℕ) (row : List ℕ) → stored rows at j row ≡ sets rows (at + j) row
+stored-sets rows at j [] = refl
+stored-sets rows at j (x ∷ row) = stored-sets (set rows (at + j) x) at (suc j) row ∙ ap (λ (i : ℕ). sets (set rows (at + j) x) i row) (add-suc at j)
+
+pub put-stored : (rows : List ℕ) (at : ℕ) (row : List ℕ) → at + length row ≤ length rows → stored rows at 0 row ≡ putAt rows at row
 unfolding putAt
-put-done d at s n e = rw (e, take-length s)
+put-stored rows at row h = stored-sets rows at 0 row ∙ ap (λ (i : ℕ). sets rows i row) (add-zero at) ∙ sets-eq row rows at h
 
 put-seam : (p r s : List ℕ) (n : ℕ) → length p ≡ n → putAt (p ++ r) n s ≡ (p ++ s) ++ drop (length s) r
 unfolding putAt

@@ -24,12 +24,9 @@ returns-3 c = rw (eq-eqb _ 0 (c .before .before .before .before .before .before 
 sound-requires : tie.Need-sound-requires
 sound-requires c κs = let f = taken-fits-line (c .before .before .before .before .before .before .before .before .before .before .before .before .args .f .width) (now (c .before .before .before .before .before .before .before .before .before .before .before .before .args .s)) _ (sym (c .before .before .before .before .before .before .before .taken-at .ensures) ∙ c .before .before .before .before .before .line .given .1) in omega (arith, f .next, f .within)
 
-found-requires : tie.Need-found-requires
-found-requires c κs = taken-fits-line (c .before .before .before .before .before .before .before .before .before .before .before .before .before .before .args .f .width) (now (c .before .before .before .before .before .before .before .before .before .before .before .before .before .before .args .s)) _ (sym (c .before .before .before .before .before .before .before .before .before .taken-at .ensures) ∙ c .before .before .before .before .before .before .before .line .given .1) .next
-
 returns-4 : tie.Need-returns-4
 unfolding dueAt seenAt
-returns-4 c = rw (eq-eqb _ 0 (c .before .before .before .before .before .before .before .before .before .before .before .if1 .left), sym (c .before .before .before .before .before .before .before .before .before .before .taken-at .ensures) ∙ c .before .before .before .before .before .before .before .before .line .given .1, sym (c .before .before .before .before .before .before .in-form .ensures) ∙ not-false _ (c .before .before .before .before .before .if2 .left), sym (c .before .before .before .before .is .ensures) ∙ not-false _ (c .before .before .before .if3 .left), sym (c .before .before .sound .ensures) ∙ c .before .if4 .taken) (c .found .ensures)
+returns-4 c = rw (eq-eqb _ 0 (c .before .before .before .before .before .before .before .before .before .before .if1 .left), sym (c .before .before .before .before .before .before .before .before .before .taken-at .ensures) ∙ c .before .before .before .before .before .before .before .line .given .1, sym (c .before .before .before .before .before .in-form .ensures) ∙ not-false _ (c .before .before .before .before .if2 .left), sym (c .before .before .before .is .ensures) ∙ not-false _ (c .before .before .if3 .left), sym (c .before .sound .ensures) ∙ c .if4 .taken)
 
 returns-5 : tie.Need-returns-5
 unfolding dueAt seenAt
@@ -47,5 +44,5 @@ pub due-at-spec : {M : Type 1} → statement M
 due-at-spec =
     tie.close
     (tie.spec (λ c κs. search needs) returns (λ c κs. search needs) (λ c. search needs) (λ c κs. search needs) (λ c κs. search needs) (λ c κs. search needs) returns-2
-    (λ c κs. search needs) (λ c κs. search needs) (λ c κs. search needs) returns-3 sound-requires found-requires returns-4 (λ c κs. search needs) (λ c κs. search needs)
+    (λ c κs. search needs) (λ c κs. search needs) (λ c κs. search needs) returns-3 sound-requires returns-4 (λ c κs. search needs) (λ c κs. search needs)
     (λ c. search needs) (λ c κs. search needs) (λ c κs. search needs) (λ c. search needs) (λ c κs. search needs) (λ c κs. search needs) returns-5 returns-6 returns-7)

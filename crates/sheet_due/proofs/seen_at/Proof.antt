@@ -7,11 +7,11 @@ use Rattle.sheet_due.proofs.seen_at.Tie as tie
 
 returns : tie.Need-returns
 unfolding seenAt
-returns c = rw (sym (c .before .before .before .before .before .taken-at .ensures) ∙ c .before .before .before .line .given .1, sym (c .before .in-form .ensures) ∙ c .if1 .taken)
+returns c = rw (sym (c .before .before .before .before .before .taken-at .ensures) ∙ c .before .before .before .line .given .1, sym (c .before .request-columns .ensures) ∙ c .if1 .taken)
 
 returns-2 : tie.Need-returns-2
 unfolding seenAt
-returns-2 c = rw (sym (c .before .before .before .before .before .taken-at .ensures) ∙ c .before .before .before .line .given .1, sym (c .before .in-form .ensures) ∙ c .if1 .left)
+returns-2 c = rw (sym (c .before .before .before .before .before .taken-at .ensures) ∙ c .before .before .before .line .given .1, sym (c .before .request-columns .ensures) ∙ c .if1 .left)
 
 returns-3 : tie.Need-returns-3
 unfolding seenAt

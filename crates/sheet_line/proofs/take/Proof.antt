@@ -17,15 +17,12 @@ fits c = let A = c .before .before .before .before .before .args in taken-fits (
 add-place : tie.Need-add-place
 add-place c = omega (arith, fits c)
 
-add-t12 : tie.Need-add-t12
-add-t12 c = omega (arith, fits c)
-
-add-t13 : tie.Need-add-t13
-add-t13 c = omega (arith, fits c)
+after-requires : tie.Need-after-requires
+after-requires c κs = omega (arith, fits c)
 
 returns : tie.Need-returns
 unfolding takenAt
-returns c = rw (sym (c .before .before .before .front-at .ensures) ∙ c .before .kind .given .1)
+returns c = rw (sym (c .before .before .before .before .front-at .ensures) ∙ c .before .before .kind .given .1, c .after .ensures)
 
 returns-2 : tie.Need-returns-2
 unfolding takenAt
@@ -38,4 +35,4 @@ returns-3 c = rw (sym (c .before .before .front-at .ensures) ∙ c .enum-told2 .
 pub take-spec : {M : Type 1} → statement M
 take-spec =
     tie.close
-    (tie.spec (λ c κs. search needs) (λ c. search needs) (λ c. search needs) add-place add-t12 add-t13 (λ c. search needs) (λ c. search needs) returns returns-2 returns-3)
+    (tie.spec (λ c κs. search needs) (λ c. search needs) (λ c. search needs) add-place after-requires (λ c. search needs) (λ c. search needs) returns returns-2 returns-3)

@@ -20,7 +20,7 @@ const BYTES: usize = 4_000;
 /// Theorems to a file.
 const TO_A_FILE: usize = 25;
 /// Files that hold no definitions of the service.
-const NOT_OPENED: [&str; 5] = ["Lib", "Laws", "Secrecy", "Examples", "Places"];
+const NOT_OPENED: [&str; 6] = ["Lib", "Laws", "Secrecy", "Examples", "LaterExamples", "Places"];
 
 fn main() -> io::Result<()> {
     let arguments: Vec<String> = std::env::args().collect();

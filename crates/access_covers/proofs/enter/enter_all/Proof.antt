@@ -10,53 +10,45 @@ use Rattle.access_covers.proofs.enter.enter_all.Statement.{statement}
 use Rattle.access_covers.proofs.enter.enter_all.Tie as tie
 
 abbrev Inv-loop : tie.InvT-loop
-Inv-loop reach order alone₀ down₀ p₀ alone down p = (p ≤ length order) × (length alone ≡ length alone₀) × (length down ≡ length down₀) × (alone ≡ allEntered aloneEntered reach order p alone₀) × (down ≡ allEntered downEntered reach order p down₀)
+Inv-loop reach order alone₀ down₀ p₀ alone down p = (p ≤ length order) × (alone ≡ allEntered aloneEntered reach order p alone₀) × (down ≡ allEntered downEntered reach order p down₀)
 
 abbrev μ-loop : tie.MeasureT-loop
 μ-loop reach order alone₀ down₀ p₀ alone down p = length order - p
 
 loop-holds : tie.Need-loop-holds Inv-loop μ-loop
 unfolding allEntered
-loop-holds c = (omega arith, refl, refl, refl, refl)
+loop-holds c = (omega arith, refl, refl)
 
 mul-enter-2 : tie.Need-mul-enter-2 Inv-loop μ-loop
 mul-enter-2 c =
-    let A = c .before .before .before .before .before .before .before .before .before .args in
-    let f : getD (now (A .order)) (c .before .before .before .before .loop .p) 0 < length (now (A .reach)) = c .before .before .before .before .before .before .before .before .before .pre .3 (c .before .before .before .before .loop .p) (c .before .before .before .loop-test .taken) in
+    let A = c .before .before .before .before .before .before .args in
+    let f : getD (now (A .order)) (c .before .before .before .before .loop .p) 0 < 256 = c .before .before .before .before .before .before .pre .1 (c .before .before .before .before .loop .p) (c .before .before .before .loop-test .taken) in
     search needs
 
-shared-slice-read-enter-2 : tie.Need-shared-slice-read-enter-2 Inv-loop μ-loop
-shared-slice-read-enter-2 c = c .before .before .before .before .before .before .before .before .before .before .pre .3 (c .before .before .before .before .before .loop .p) (c .before .before .before .before .loop-test .taken)
-
-enter-requires : tie.Need-enter-requires Inv-loop μ-loop
-enter-requires c κs =
-    let L = c .before .before .before .before .before .loop in
-    let P = c .before .before .before .before .before .before .before .before .before .before .pre in
-    (omega (arith, L .inv .1, P .1), omega (arith, L .inv .2, P .2), omega (arith, c .before .before .before .before .loop-test .taken, P .0))
+element-copy-out-enter : tie.Need-element-copy-out-enter Inv-loop μ-loop
+element-copy-out-enter c = c .before .before .before .before .before .before .pre .1 (c .before .before .before .before .loop .p) (c .before .before .before .loop-test .taken)
 
 loop-again : tie.Need-loop-again Inv-loop μ-loop
 loop-again c =
-    let A = c .before .before .before .before .before .before .before .before .before .before .before .before .before .before .before .args in
-    let L = c .before .before .before .before .before .before .before .before .before .before .loop in
-    let E = c .before .before .before .before .enter in (
-      omega (arith, c .before .before .before .before .before .before .before .before .before .loop-test .taken),
-      E .kept .0 ∙ L .inv .1,
-      E .kept .1 .0 ∙ L .inv .2,
-      entered-more aloneEntered (now (A .reach)) (now (A .order)) (now (A .alone)) (L .alone) _ (L .p) (L .inv .3) (E .ensures .0),
-      entered-more downEntered (now (A .reach)) (now (A .order)) (now (A .down)) (L .down) _ (L .p) (L .inv .4) (E .ensures .1),
+    let A = c .before .before .before .before .before .before .before .before .args in
+    let L = c .before .before .before .before .before .before .loop in
+    let E = c .enter in (
+      omega (arith, c .before .before .before .before .before .loop-test .taken),
+      entered-more aloneEntered (now (A .reach)) (now (A .order)) (now (A .alone)) (L .alone) _ (L .p) (L .inv .1) (E .ensures .0),
+      entered-more downEntered (now (A .reach)) (now (A .order)) (now (A .down)) (L .down) _ (L .p) (L .inv .2) (E .ensures .1),
     )
 
 returns : tie.Need-returns Inv-loop μ-loop
 returns c =
-    let A = c .before .before .before .before .before .before .args in
+    let A = c .before .before .before .args in
     let L = c .before .loop in
     let e : L .p ≡ length (now (A .order)) = omega (arith, L .inv .0, c .loop-test .left) in (
-      L .inv .3 ∙ ap (λ (n : ℕ). allEntered aloneEntered (now (A .reach)) (now (A .order)) n (now (A .alone))) e,
-      L .inv .4 ∙ ap (λ (n : ℕ). allEntered downEntered (now (A .reach)) (now (A .order)) n (now (A .down))) e,
+      L .inv .1 ∙ ap (λ (n : ℕ). allEntered aloneEntered (now (A .reach)) (now (A .order)) n (now (A .alone))) e,
+      L .inv .2 ∙ ap (λ (n : ℕ). allEntered downEntered (now (A .reach)) (now (A .order)) n (now (A .down))) e,
     )
 
 pub enter-all-spec : {M : Type 1} → statement M
 enter-all-spec =
     tie.close
-    (tie.spec Inv-loop μ-loop loop-holds (λ c. search needs) (λ c. search needs) mul-enter-2 shared-slice-read-enter-2 enter-requires
-    (λ c. search needs) (λ c. search needs) loop-again (λ c. search needs) (λ c. search needs) returns)
+    (tie.spec Inv-loop μ-loop loop-holds (λ c. search needs) (λ c. search needs) mul-enter-2 element-copy-out-enter (λ c κs. search needs)
+    (λ c. search needs) (λ c. search needs) loop-again returns)

@@ -9,10 +9,10 @@ use Rattle.access_items.proofs.note.note_grants.Tie as tie
 
 returns : tie.Need-returns
 unfolding grantsNoted
-returns c = let A = c .before .before .before .before .before .before .before .before .before .before .before .before .args in c .before .before .note-permissions .ensures ∙ ap (permitted 6 (getD (now (A .rights)) (A .at + 5) 0) (A .place)) (c .before .before .before .before .before .before .before .mark .ensures)
+returns c = let A = c .before .before .before .before .before .before .args in c .note-permissions .ensures ∙ ap (permitted 6 (getD (now (A .rights)) (A .at + 5) 0) (A .place)) (c .before .before .before .mark .ensures)
 
 pub note-grants-spec : {M : Type 1} → statement M
 note-grants-spec =
     tie.close
     (tie.spec (λ c. search needs) (λ c. search needs) (λ c. search needs) (λ c κs. search needs) (λ c. search needs) (λ c. search needs)
-    (λ c. search needs) (λ c κs. search needs) (λ c. search needs) returns)
+    (λ c. search needs) (λ c κs. search needs) returns)

@@ -10,7 +10,7 @@ use Rattle.rules.specs.Decision.{Setting}
 use Rattle.tables.specs.Book.{width}
 use Rattle.tables.specs.World.{Entries}
 use Rattle.answer_line.specs.Emit.{Emits}
-use Rattle.answer_plan.specs.Plan.{childLines}
+use Rattle.tables.specs.Plan.{childLines}
 use Rattle.answer_print.specs.Laws.Lines.{run-start, run-on, run-end, child-by}
 use Rattle.answer_line.specs.Room.{lineRoom}
 use borrow.Author.Needs.{needs}

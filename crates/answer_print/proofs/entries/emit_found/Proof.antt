@@ -2,7 +2,7 @@ use denote.Ref.{now}
 use native.Mathlib.Omega.{arith}
 use Rattle.rules.specs.Directory.{nameAt}
 use Rattle.tables.specs.Book.{width}
-use Rattle.answer_plan.specs.Plan.{informationAt}
+use Rattle.tables.specs.Plan.{informationAt}
 use Rattle.rules.specs.Answer.{entryLines}
 use Rattle.answer_line.specs.Laws.Emit.{emits-append}
 use borrow.Author.Needs.{needs}

@@ -11,8 +11,8 @@ use Rattle.rules.specs.Request.{Selection}
 use Rattle.tables.specs.Book.{width, schema}
 use Rattle.tables.specs.World.{World}
 use Rattle.answer_line.specs.Emit.{Emits}
-use Rattle.answer_plan.specs.Plan.{foundLines}
-use Rattle.answer_plan.specs.Choice.{Chooses}
+use Rattle.tables.specs.Plan.{foundLines}
+use Rattle.tables.specs.Choice.{Chooses}
 use Rattle.answer_print.specs.Laws.Lines.{run-start, run-on, run-end, found-by}
 use Rattle.answer_line.specs.Room.{foundRoom}
 use borrow.Author.Needs.{needs}

@@ -15,16 +15,16 @@ matchable-row-requires : tie.Need-matchable-row-requires
 matchable-row-requires c κs = let r = c .before .before .pre .0 .room in (c .before .before .pre .1, omega (arith, r, c .before .before .pre .2))
 
 bytes-requires : tie.Need-bytes-requires
-bytes-requires c κs = let r = c .before .before .before .before .before .before .pre .0 .room in (omega (arith, r, c .before .before .before .before .before .before .pre .2), c .before .before .before .before .before .before .pre .0 .part (c .before .before .before .before .before .before .args .i) (c .before .before .before .before .before .before .pre .1) (c .before .before .before .before .before .before .pre .2))
+bytes-requires c κs = let r = c .before .before .before .before .before .pre .0 .room in (omega (arith, r, c .before .before .before .before .before .pre .2), c .before .before .before .before .before .pre .0 .part (c .before .before .before .before .before .args .i) (c .before .before .before .before .before .pre .1) (c .before .before .before .before .before .pre .2))
 
 substrings-requires : tie.Need-substrings-requires
 substrings-requires c κs =
-    let A = c .before .before .before .before .before .before .before .args in
-    let P = c .before .before .before .before .before .before .before .pre in
+    let A = c .before .before .before .before .before .before .args in
+    let P = c .before .before .before .before .before .before .pre in
     (P .3, omega (arith, P .4), row-short (P .0) (A .i) (P .1) (P .2) _ (c .bytes .ensures))
 
 returns : tie.Need-returns
-returns c = c .substrings .ensures ∙ ap (λ (u : Bytes). contains text (piecesAt (now (c .before .before .before .before .before .before .before .before .args .q)) (now (c .before .before .before .before .before .before .before .before .args .rows)) (c .before .before .before .before .before .before .before .before .args .lines) (c .before .before .before .before .before .before .before .before .args .k)) u) (c .before .bytes .ensures) ∙ ap (λ (b : Bool). b && contains text (piecesAt (now (c .before .before .before .before .before .before .before .before .args .q)) (now (c .before .before .before .before .before .before .before .before .args .rows)) (c .before .before .before .before .before .before .before .before .args .lines) (c .before .before .before .before .before .before .before .before .args .k)) (bytesAt (now (c .before .before .before .before .before .before .before .before .args .d)) (now (c .before .before .before .before .before .before .before .before .args .held)) (c .before .before .before .before .before .before .before .before .args .i))) (sym (c .before .before .before .before .if1 .taken) ∙ c .before .before .before .before .before .matchable-row .ensures)
+returns c = c .substrings .ensures ∙ ap (λ (u : Bytes). contains text (piecesAt (now (c .before .before .before .before .before .before .before .args .q)) (now (c .before .before .before .before .before .before .before .args .rows)) (c .before .before .before .before .before .before .before .args .lines) (c .before .before .before .before .before .before .before .args .k)) u) (c .before .bytes .ensures) ∙ ap (λ (b : Bool). b && contains text (piecesAt (now (c .before .before .before .before .before .before .before .args .q)) (now (c .before .before .before .before .before .before .before .args .rows)) (c .before .before .before .before .before .before .before .args .lines) (c .before .before .before .before .before .before .before .args .k)) (bytesAt (now (c .before .before .before .before .before .before .before .args .d)) (now (c .before .before .before .before .before .before .before .args .held)) (c .before .before .before .before .before .before .before .args .i))) (sym (c .before .before .before .if1 .taken) ∙ c .before .before .before .before .matchable-row .ensures)
 
 returns-2 : tie.Need-returns-2
 returns-2 c = ap (λ (b : Bool). b && contains text (piecesAt (now (c .before .before .before .before .args .q)) (now (c .before .before .before .before .args .rows)) (c .before .before .before .before .args .lines) (c .before .before .before .before .args .k)) (bytesAt (now (c .before .before .before .before .args .d)) (now (c .before .before .before .before .args .held)) (c .before .before .before .before .args .i))) (sym (c .if1 .left) ∙ c .before .matchable-row .ensures)

@@ -43,7 +43,7 @@ room c =
     room-left (5 * a .w + 1) (L .n) LINES (L .j) (x .length) (length (now (a .q))) (omega arith) (L .inv .2) (omega (arith, f .place, f .next, f .within)) (c .before .before .before .before .before .before .before .pre .1)
 
 note-line-requires : tie.Need-note-line-requires Inv-loop μ-loop
-note-line-requires c κs = omega (arith, room (c .before .before), c .before .before .before .before .before .before .loop .inv .0)
+note-line-requires c κs = omega (arith, room (c .before .before))
 
 loop-less : tie.Need-loop-less Inv-loop μ-loop
 loop-less c = let f = fits (c .before .before .before) in omega (arith, f .place, f .next, f .within)

@@ -21,52 +21,43 @@ abbrev μ-loop : tie.MeasureT-loop
 
 loop-holds : tie.Need-loop-holds Inv-loop μ-loop
 unfolding piecesStand
-loop-holds c = let a = c .before .before .before .args in (c .before .before .before .pre .1, omega arith, refl)
+loop-holds c = let a = c .before .before .args in (c .before .before .pre .1, omega arith, refl)
 
 returns : tie.Need-returns Inv-loop μ-loop
 returns c =
-    let a = c .before .before .before .before .before .before .args in
+    let a = c .before .before .before .before .before .args in
     let L = c .before .before .loop in
     sym (stand-none (now (a .v)) (L .from) (from-over (now (a .q)) (now (a .rows)) (a .lines) (L .j) (L .left) (c .if1 .taken))) ∙ L .inv .2
 
-mul-piece-end : tie.Need-mul-piece-end Inv-loop μ-loop
-mul-piece-end c = omega (arith, c .if1 .left, c .before .before .before .before .before .before .pre .0 .room)
-
-add-piece-end : tie.Need-add-piece-end Inv-loop μ-loop
-add-piece-end c = omega (arith, c .if1 .left, c .before .before .before .before .before .before .pre .0 .room)
-
-shared-slice-read-piece-end : tie.Need-shared-slice-read-piece-end Inv-loop μ-loop
-shared-slice-read-piece-end c = omega (arith, c .before .if1 .left, c .before .before .before .before .before .before .before .pre .0 .room)
-
 value-of-requires : tie.Need-value-of-requires Inv-loop μ-loop
 value-of-requires c κs =
-    let h = c .before .before .before .before .before .before .before .pre .0 in
+    let h = c .before .before .before .before .before .before .pre .0 in
     let j = c .before .before .before .loop .j in
     let l = c .before .if1 .left in
-    (omega (arith, l, h .room), h .begins j l, h .within j l)
+    (omega (arith, l, h .few), h .begins j l, h .within j l)
 
 piece-end-requires : tie.Need-piece-end-requires Inv-loop μ-loop
 piece-end-requires c κs =
-    let a = c .before .before .before .before .before .before .before .before .args in
+    let a = c .before .before .before .before .before .before .before .args in
     let L = c .before .before .before .before .loop in
-    (L .inv .1, rw (c .value-of .ensures) (value-short (now (a .q)) (now (a .rows)) (L .j) (c .before .before .before .before .before .before .before .before .pre .0 .short (L .j) (c .before .before .if1 .left))))
+    (L .inv .1, rw (c .value-of .ensures) (value-short (now (a .q)) (now (a .rows)) (L .j) (c .before .before .before .before .before .before .before .pre .0 .short (L .j) (c .before .before .if1 .left))))
 
 returns-2 : tie.Need-returns-2 Inv-loop μ-loop
 returns-2 c =
-    let a = c .before .before .before .before .before .before .before .before .before .before .before .args in
+    let a = c .before .before .before .before .before .before .before .before .before .before .args in
     let L = c .before .before .before .before .before .before .before .loop in
     let e = from-on (now (a .q)) (now (a .rows)) (a .lines) (L .j) (L .left) (c .before .before .before .before .before .if1 .left) (c .before .before .before .before .before .before .loop-test .taken) _ (c .before .before .before .value-of .ensures) in
     sym (stand-lost (now (a .v)) (L .from) _ _ e (sym (c .before .before .piece-end .ensures) ∙ c .enum-told .given .1)) ∙ L .inv .2
 
 add-from : tie.Need-add-from Inv-loop μ-loop
 add-from c =
-    let a = c .before .before .before .before .before .before .before .before .before .before .before .before .args in
+    let a = c .before .before .before .before .before .before .before .before .before .before .before .args in
     let L = c .before .before .before .before .before .before .before .before .loop in
     omega (arith, used-fits _ _ text (now (a .v)) (L .from) _ (L .inv .1) (sym (c .before .before .before .piece-end .ensures) ∙ c .before .used .given .1))
 
 loop-again : tie.Need-loop-again Inv-loop μ-loop
 loop-again c =
-    let a = c .before .before .before .before .before .before .before .before .before .before .before .before .args in
+    let a = c .before .before .before .before .before .before .before .before .before .before .before .args in
     let L = c .before .before .before .before .before .before .before .before .loop in
     let u = sym (c .before .before .before .piece-end .ensures) ∙ c .before .used .given .1 in
     let e = from-on (now (a .q)) (now (a .rows)) (a .lines) (L .j) (L .left) (c .before .before .before .before .before .before .if1 .left) (c .before .before .before .before .before .before .before .loop-test .taken) _ (c .before .before .before .before .value-of .ensures) in
@@ -74,13 +65,13 @@ loop-again c =
 
 returns-3 : tie.Need-returns-3 Inv-loop μ-loop
 returns-3 c =
-    let a = c .before .before .before .before .before .args in
+    let a = c .before .before .before .before .args in
     let L = c .before .loop in
     sym (stand-none (now (a .v)) (L .from) (from-none (now (a .q)) (now (a .rows)) (a .lines) (L .j) (L .left) (c .loop-test .left))) ∙ L .inv .2
 
 pub pieces-stand-spec : {M : Type 1} → statement M
 pieces-stand-spec =
     tie.close
-    (tie.spec Inv-loop μ-loop loop-holds returns mul-piece-end add-piece-end (λ c. search needs) shared-slice-read-piece-end value-of-requires
+    (tie.spec Inv-loop μ-loop loop-holds returns (λ c. search needs) (λ c. search needs) (λ c. search needs) (λ c. search needs) value-of-requires
     piece-end-requires (λ c. search needs) (λ c. search needs) returns-2 add-from (λ c. search needs) (λ c. search needs) (λ c. search needs)
     loop-again returns-3)

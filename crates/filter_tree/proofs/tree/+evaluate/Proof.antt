@@ -6,7 +6,7 @@ use denote.Ref.{now}
 use Rattle.rules.specs.Sheet.{Bytes}
 use Rattle.rules.specs.Filter.{Assertion, negation}
 use Rattle.rules.specs.Places.{linesAt}
-use Rattle.rules.specs.FilterLines.{Evaluated, evaluated, partsFrom, evaluateLines}
+use Rattle.tables.specs.FilterLines.{Evaluated, evaluated, partsFrom, evaluateLines}
 use Rattle.sheet_kind.specs.Laws.Kinds.{is-kind, not-kind}
 use Rattle.filter_lines.specs.Lines.{LinesNoted, positionAt}
 use Rattle.filter_truth.specs.Join.{joinBy}

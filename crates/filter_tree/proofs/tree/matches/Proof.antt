@@ -6,7 +6,7 @@ use Rattle.rules.specs.Directory.{blank, entryOf}
 use Rattle.rules.specs.Filter.{isTrue}
 use Rattle.rules.specs.FilterItem.{itemTruth}
 use Rattle.rules.specs.Places.{linesAt}
-use Rattle.rules.specs.FilterLines.{Evaluated}
+use Rattle.tables.specs.FilterLines.{Evaluated}
 use Rattle.tables.specs.Book.{width}
 use Rattle.filter_lines.specs.Lines.{positionAt}
 use Rattle.filter_tree.specs.Tree.{matchesAt}

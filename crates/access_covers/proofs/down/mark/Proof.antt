@@ -1,0 +1,21 @@
+use Prim.Native.Nat.{ℕ, _+_, _*_, _/_}
+use mathlib.Core.Path.{ap}
+use native.Mathlib.Omega.{arith}
+use denote.Ref.{now}
+use lib.ListN.{getD, set}
+use lib.Bits.{bitOr}
+use Rattle.access_items.specs.Mark.{marked}
+use Rattle.access_items.specs.Laws.Mark.{shifted}
+use borrow.Author.Needs.{needs}
+use Rattle.access_covers.proofs.down.mark.Statement.{statement}
+use Rattle.access_covers.proofs.down.mark.Tie as tie
+
+returns : tie.Need-returns
+unfolding marked
+returns c = let A = c .before .args in ap (λ (x : ℕ). set (now (A .down)) (A .r * 4 + A .place / 64) (bitOr (getD (now (A .down)) (A .r * 4 + A .place / 64) 0) x)) (shifted 1 (A .place) (omega arith))
+
+pub mark-spec : {M : Type 1} → statement M
+mark-spec =
+    tie.close
+    (tie.spec (λ c. search needs) (λ c. search needs) (λ c. search needs) (λ c. search needs) (λ c. search needs) (λ c. search needs)
+    (λ c. search needs) returns)

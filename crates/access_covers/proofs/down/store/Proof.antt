@@ -1,0 +1,15 @@
+use mathlib.Core.Path.{refl}
+use Rattle.access_covers.specs.Row.{stored}
+use borrow.Author.Needs.{needs}
+use Rattle.access_covers.proofs.down.store.Statement.{statement}
+use Rattle.access_covers.proofs.down.store.Tie as tie
+
+returns : tie.Need-returns
+unfolding stored
+returns c = refl
+
+pub store-spec : {M : Type 1} → statement M
+store-spec =
+    tie.close
+    (tie.spec (λ c. search needs) (λ c. search needs) (λ c. search needs) (λ c. search needs) (λ c. search needs) (λ c. search needs)
+    (λ c. search needs) (λ c. search needs) (λ c. search needs) (λ c. search needs) (λ c. search needs) (λ c. search needs) returns)
