@@ -10,7 +10,7 @@ use denote.Ref.{now}
 use Rattle.tables.specs.Book.{BOOK}
 use Rattle.directory_book.specs.Filled.{put}
 use Rattle.directory_book.specs.Laws.Put.{put-start, put-on, entered, entered-start}
-use Rattle.directory_book.specs.Laws.Filled.{Fit, columns, entry-on, last-on, size₁}
+use Rattle.directory_book.specs.Laws.Filled.{Fit, bookColumns, entry-on, last-on, size₁}
 use Rattle.directory_book.specs.Laws.Entries.{fit-of, lines-within, filled-stands}
 use borrow.Author.Needs.{needs, scaled-fits, fits-under}
 use Rattle.directory_book.proofs.note.Statement.{statement}
@@ -41,7 +41,7 @@ abbrev μ-loop : tie.MeasureT-loop
 μ-loop f book₀ notes types count i₀ book i = types - i
 
 abbrev Inv-loop2 : tie.InvT-loop2
-Inv-loop2 f book₀ notes types count i k₀ book k = (count ≤ 256) × (k ≤ count) × (book ≡ entered (columns (f .width) notes) k book₀)
+Inv-loop2 f book₀ notes types count i k₀ book k = (count ≤ 256) × (k ≤ count) × (book ≡ entered (bookColumns (f .width) notes) k book₀)
 
 abbrev μ-loop2 : tie.MeasureT-loop2
 μ-loop2 f book₀ notes types count i k₀ book k = count - k
@@ -82,7 +82,7 @@ types-size : (c : tie.After-loop Inv-loop μ-loop Inv-loop2 μ-loop2) → length
 types-size c = let s = c .before .before in ap length (types-put c) ∙ size₁ (s .args .f .width) (s .args .t2) (now (s .args .book)) (fit s) (s .pre .2)
 
 loop2-holds : tie.Need-loop2-holds Inv-loop μ-loop Inv-loop2 μ-loop2
-loop2-holds c = let s = c .before .before in (fit s .count, omega arith, entered-start (columns (s .args .f .width) (s .args .t2)) (c .before .loop .book))
+loop2-holds c = let s = c .before .before in (fit s .count, omega arith, entered-start (bookColumns (s .args .f .width) (s .args .t2)) (c .before .loop .book))
 
 add-book-2 : tie.Need-add-book-2 Inv-loop μ-loop Inv-loop2 μ-loop2
 add-book-2 c =
@@ -103,7 +103,7 @@ returns c =
     let r = A .t2 in
     let L = c .before .before .loop2 in
     let e : L .k ≡ r .count = omega (arith, L .inv .1, c .before .loop2-test .left) in
-    let all = L .inv .2 ∙ ap (λ (k : ℕ). entered (columns (A .f .width) r) k (c .before .before .before .before .loop .book)) e ∙ ap (entered (columns (A .f .width) r) (r .count)) (types-put (c .before .before .before)) in
+    let all = L .inv .2 ∙ ap (λ (k : ℕ). entered (bookColumns (A .f .width) r) k (c .before .before .before .before .loop .book)) e ∙ ap (entered (bookColumns (A .f .width) r) (r .count)) (types-put (c .before .before .before)) in
     let is = last-on (A .f .width) r (now (A .book)) (fit s) (s .pre .2) all in
     (is, rw is (filled-stands (A .f) r (now (A .book)) (s .pre .0) (s .pre .2)))
 

@@ -8,7 +8,7 @@ use lib.Seq.{getD-set-same, getD-set-other}
 use Rattle.tables.specs.Book.{BOOK, FIRST-ROWS, width, types, entries, schema, placeAt, parentAt, namingAt, lengthAt, firstAt, targetAt}
 use Rattle.directory_sheet.specs.declared.Notes.{Notes}
 use Rattle.directory_book.specs.Filled.{put, placesOf, filled}
-use Rattle.directory_book.specs.Laws.Put.{put-on, put-skip, Column, entered, stored, entered-on, put-length, put-here, put-before, number-at, number-of, places-length, place-of}
+use Rattle.directory_book.specs.Laws.Put.{put-on, put-skip, BookColumn, entered, storedEach, entered-on, put-length, put-here, put-before, number-at, number-of, places-length, place-of}
 
 -- the notes' arrays have their lengths, and no more is counted than they hold
 pub record Fit (r : Notes) : Type 0 where
@@ -24,19 +24,19 @@ pub record Fit (r : Notes) : Type 0 where
 
 -- ---- the columns of the entries, entry by entry
 
-abbrev later : Notes → List Column
+abbrev later : Notes → List BookColumn
 later r = record { place = 328; numbers = r .parents } ∷ record { place = 584; numbers = r .naming } ∷ record { place = 840; numbers = r .lengths } ∷ record { place = 1096; numbers = r .first } ∷ record { place = 1353; numbers = r .targets } ∷ []
 
-abbrev pub columns : ℕ → Notes → List Column
-columns w r = record { place = 72; numbers = placesOf w (r .at) } ∷ later r
+abbrev pub bookColumns : ℕ → Notes → List BookColumn
+bookColumns w r = record { place = 72; numbers = placesOf w (r .at) } ∷ later r
 
-pub entry-on : (w : ℕ) (r : Notes) (b : List ℕ) → Fit r → length b ≡ BOOK → (k : ℕ) → k < r .count → {now : List ℕ} → now ≡ entered (columns w r) k b
+pub entry-on : (w : ℕ) (r : Notes) (b : List ℕ) → Fit r → length b ≡ BOOK → (k : ℕ) → k < r .count → {now : List ℕ} → now ≡ entered (bookColumns w r) k b
     → set (set (set (set (set (set now (72 + k) (getD (r .at) k 0 + 5 * w)) (328 + k) (getD (r .parents) k 0)) (584 + k) (getD (r .naming) k 0)) (840 + k) (getD (r .lengths) k 0)) (1096 + k) (getD (r .first) k 0)) (1353 + k) (getD (r .targets) k 0)
-    ≡ entered (columns w r) (k + 1) b
+    ≡ entered (bookColumns w r) (k + 1) b
 entry-on w r b fit size k l e =
-    ap (λ (x : List ℕ). stored (later r) k (set x (72 + k) (getD (r .at) k 0 + 5 * w))) e
-    ∙ ap (λ (v : ℕ). stored (later r) k (set (entered (columns w r) k b) (72 + k) v)) (sym (place-of w (r .at) k (omega (arith, l, fit .at, fit .count))))
-    ∙ entered-on (columns w r) k b size
+    ap (λ (x : List ℕ). storedEach (later r) k (set x (72 + k) (getD (r .at) k 0 + 5 * w))) e
+    ∙ ap (λ (v : ℕ). storedEach (later r) k (set (entered (bookColumns w r) k b) (72 + k) v)) (sym (place-of w (r .at) k (omega (arith, l, fit .at, fit .count))))
+    ∙ entered-on (bookColumns w r) k b size
     ((omega arith, omega (arith, places-length w (r .at))), omega arith, ((omega arith, omega arith), omega arith, ((omega arith, omega arith), omega arith, ((omega arith, omega arith), omega arith, ((omega arith, omega arith), omega arith, ((omega arith, omega arith), tt, tt))))))
 
 -- the numbers of the notes, in the book
@@ -110,7 +110,7 @@ module _ (w : ℕ) (r : Notes) (b : List ℕ) (fit : Fit r) (size : length b ≡
 
   -- ---- the last row after the last entry
 
-  pub last-on : {now : List ℕ} → now ≡ entered (columns w r) n b₁ → set now (1096 + n) (getD (r .first) n 0) ≡ filled w r b
+  pub last-on : {now : List ℕ} → now ≡ entered (bookColumns w r) n b₁ → set now (1096 + n) (getD (r .first) n 0) ≡ filled w r b
   unfolding filled
   last-on e =
       ap (λ (x : List ℕ). set x (1096 + n) (getD (r .first) n 0)) e

@@ -66,51 +66,51 @@ put-skip b at column n j v h l =
     ∙ ap (λ (x : List ℕ). (take at (set b j v) ++ take n column) ++ x) (sym (drop-set-lt (at + n) b j v (omega arith)))
 
 -- a column, with its place in the book
-pub record Column : Type 0 where
+pub record BookColumn : Type 0 where
   pub place : ℕ
   pub numbers : List ℕ
 
 -- the first `i` numbers of each column
-abbrev pub entered : List Column → ℕ → List ℕ → List ℕ
+abbrev pub entered : List BookColumn → ℕ → List ℕ → List ℕ
 entered [] i b = b
 entered (x ∷ xs) i b = entered xs i (put b (x .place) (x .numbers) i)
 
-pub entered-start : (xs : List Column) (b : List ℕ) → b ≡ entered xs 0 b
+pub entered-start : (xs : List BookColumn) (b : List ℕ) → b ≡ entered xs 0 b
 entered-start [] b = refl
 entered-start (x ∷ xs) b = put-start b (x .place) (x .numbers) ∙ entered-start xs (put b (x .place) (x .numbers) 0)
 
 -- number `i` of each column stored
-abbrev pub stored : List Column → ℕ → List ℕ → List ℕ
-stored [] i b = b
-stored (x ∷ xs) i b = stored xs i (set b (x .place + i) (getD (x .numbers) i 0))
+abbrev pub storedEach : List BookColumn → ℕ → List ℕ → List ℕ
+storedEach [] i b = b
+storedEach (x ∷ xs) i b = storedEach xs i (set b (x .place + i) (getD (x .numbers) i 0))
 
 -- the first column is behind place `j`
-abbrev pub Behind : ℕ → List Column → Type 0
+abbrev pub Behind : ℕ → List BookColumn → Type 0
 Behind j [] = Unit {0}
 Behind j (x ∷ xs) = j < x .place
 
-behind-less : (xs : List Column) (i j : ℕ) → i ≤ j → Behind j xs → Behind i xs
+behind-less : (xs : List BookColumn) (i j : ℕ) → i ≤ j → Behind j xs → Behind i xs
 behind-less [] i j h l = tt
 behind-less (x ∷ xs) i j h l = omega (arith, h, l)
 
 -- each column has a number `i`, with room for it before the column that follows
-abbrev pub Apart : ℕ → List Column → Type 0
+abbrev pub Apart : ℕ → List BookColumn → Type 0
 Apart i [] = Unit {0}
 Apart i (x ∷ xs) = ((x .place + i < BOOK) × (i < length (x .numbers))) × Behind (x .place + i) xs × Apart i xs
 
-entered-skip : (xs : List Column) (i j v : ℕ) (b : List ℕ) → length b ≡ BOOK → Behind j xs → Apart i xs → set (entered xs i b) j v ≡ entered xs i (set b j v)
+entered-skip : (xs : List BookColumn) (i j v : ℕ) (b : List ℕ) → length b ≡ BOOK → Behind j xs → Apart i xs → set (entered xs i b) j v ≡ entered xs i (set b j v)
 entered-skip [] i j v b size h a = refl
 entered-skip (x ∷ xs) i j v b size h a =
     entered-skip xs i j v (put b (x .place) (x .numbers) i) (put-length b (x .place) (x .numbers) i (omega (arith, a .0, size)) (omega (arith, a .0)) ∙ size) (behind-less xs j (x .place + i) (omega (arith, h)) (a .1)) (a .2)
     ∙ ap (entered xs i) (put-skip b (x .place) (x .numbers) i j v h (omega (arith, a .0, size)))
 
-pub entered-on : (xs : List Column) (i : ℕ) (b : List ℕ) → length b ≡ BOOK → Apart i xs → stored xs i (entered xs i b) ≡ entered xs (i + 1) b
+pub entered-on : (xs : List BookColumn) (i : ℕ) (b : List ℕ) → length b ≡ BOOK → Apart i xs → storedEach xs i (entered xs i b) ≡ entered xs (i + 1) b
 entered-on [] i b size a = refl
 entered-on (x ∷ xs) i b size a =
     let at = x .place in
     let c = x .numbers in
-    ap (stored xs i) (entered-skip xs i (at + i) (getD c i 0) (put b at c i) (put-length b at c i (omega (arith, a .0, size)) (omega (arith, a .0)) ∙ size) (a .1) (a .2))
-    ∙ ap (λ (y : List ℕ). stored xs i (entered xs i y)) (put-on b at c i refl (omega (arith, a .0, size)) (a .0 .1))
+    ap (storedEach xs i) (entered-skip xs i (at + i) (getD c i 0) (put b at c i) (put-length b at c i (omega (arith, a .0, size)) (omega (arith, a .0)) ∙ size) (a .1) (a .2))
+    ∙ ap (λ (y : List ℕ). storedEach xs i (entered xs i y)) (put-on b at c i refl (omega (arith, a .0, size)) (a .0 .1))
     ∙ entered-on xs i (put b at c (i + 1)) (put-length b at c (i + 1) (omega (arith, a .0, size)) (omega (arith, a .0)) ∙ size) (a .2)
 
 -- one number as a part
