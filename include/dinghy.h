@@ -61,7 +61,7 @@ enum dinghy_refusal {
    - out overlaps none of the sheets, and nobody changes a sheet or touches out during the call.
 
    Sheets of any bytes and any length are allowed. The function keeps no state and allocates nothing, so it may be called from several
-   threads at a time. A thread that calls it needs 256 KB of stack: the call uses some 195,000 bytes (measured, with a filter at depth 16). */
+   threads at a time. A thread that calls it needs 256 KB of stack: the call uses some 190,000 bytes (measured, with a filter at depth 16). */
 struct dinghy_reply dinghy_serve(const uint8_t *directory, size_t directory_length,
                                  const uint8_t *permissions, size_t permissions_length,
                                  const uint8_t *request, size_t request_length,

@@ -5,8 +5,7 @@ use mathlib.Core.List.{List, map}
 use lib.ListN.{length, getD, take}
 use Rattle.rules.specs.Directory.{Stored, blank}
 use Rattle.rules.specs.Decision.{Setting}
-use Rattle.rules.specs.Laws.Directory.{Accepted}
-use Rattle.rules.specs.Laws.First.{Ranked}
+use Rattle.rules.specs.Derived.{Ranked, Accepted}
 use Rattle.tables.specs.Numbers.{reachOf}
 
 -- of the setting's items and the accepted entries `es`

@@ -1,34 +1,33 @@
 // The items that cover each entry and fit the requester, for all entries in one pass in directory order; and with them all that the requester may.
-mod down;
 mod enter;
 mod row;
 
-use down::DOWN;
+use permission_sheet::ALL_RIGHTS;
 use tables::sets::SETS;
 ghost use mathlib.Core.Path.{_≡_};
 ghost use Prim.Native.Nat.{ℕ, _≤_, _<_};
 ghost use lib.ListN.{length, getD};
-ghost use Rattle.directory_schema.specs.Schema.{Rising};
+ghost use Rattle.name.specs.Schema.{Rising};
 ghost use Rattle.access_items.specs.Note.{Rows};
 ghost use Rattle.access_covers.specs.Noted.{coversNoted, rightsNoted};
 
-// The items that cover each entry, into its row; none into the root's. `reach` says which entries each item is for, by its number.
+// The items that cover each entry, into its row, none into the root's; those that also cover what is below, into the row for that. `reach` says which
+// entries each item is for, by its number.
 pub fn note_covers(reach: &[usize; 256], order: &[usize], parents: &[u64], sets: &mut [u64; SETS])
     requires { ⌜ (length (now order) ≤ 256) × (length (now parents) ≤ 256) × ((p : ℕ) → p < length (now order) → getD (now order) p 0 < 256) × ((k : ℕ) → k < length (now parents) → getD (now parents) k 0 ≤ k) ⌝ }
     ensures { λ _. ⌜ now (sets .exit) ≡ coversNoted (now (reach .entry)) (now (order .entry)) (now (parents .entry)) (now (sets .entry)) ⌝ }
 {
-    let mut down: [u64; DOWN] = [0; DOWN];
-    enter::enter_all(reach, order, sets, &mut down);
+    enter::enter_all(reach, order, sets);
     let mut k: usize = 0;
     while k < parents.len() {
-        row::inherit(sets, &mut down, k + 1, parents[k] as usize);
+        row::inherit(sets, k + 1, parents[k] as usize);
         k += 1;
     }
 }
 
 // What the requester may, into the table.
 pub fn note_rights(
-    rights: &[u64; 2048],
+    rights: &[u64; ALL_RIGHTS],
     schema: &[u64],
     order: &[usize],
     reach: &[usize; 256],

@@ -10,5 +10,5 @@ unfoldable pub scoresOf : List ℕ → ℕ → List ℕ
 scoresOf rights n = map (λ k. getD rights (k * RIGHTS + SCORE) 0) (upTo n)
 
 -- their numbers, those with higher scores first
-unfoldable pub orderOf : List ℕ → ℕ → List ℕ
-orderOf rights n = inOrder (scoresOf rights n)
+unfoldable pub weightOrder : List ℕ → ℕ → List ℕ
+weightOrder rights n = inOrder (scoresOf rights n)

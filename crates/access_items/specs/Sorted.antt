@@ -5,7 +5,7 @@ use mathlib.Core.List.{List}
 use lib.ListN.{length}
 use Rattle.rules.specs.Sheet.{Bytes}
 use Rattle.rules.specs.Permission.{Item}
-use Rattle.rules.specs.Laws.First.{Ranked}
+use Rattle.rules.specs.Derived.{Ranked}
 use Rattle.permission_sheet.specs.Noted.{Table}
 
 -- of the items `is` of the sheet `p`, in columns of `w` bytes

@@ -2,12 +2,12 @@
 use tables::sets::SETS;
 ghost use mathlib.Core.Path.{_≡_};
 ghost use Prim.Native.Nat.{_<_};
-ghost use Rattle.tables.specs.Sets.{rows};
+ghost use Rattle.tables.specs.Sets.{setRows};
 ghost use Rattle.access_items.specs.Mark.{marked};
 
 // The item at `place` enters the set in `row` if `bit` is 1.
 pub fn mark(sets: &mut [u64; SETS], row: usize, place: usize, bit: u64)
-    requires { ⌜ (row < rows) × (place < 256) × (bit < 2) ⌝ }
+    requires { ⌜ (row < setRows) × (place < 256) × (bit < 2) ⌝ }
     ensures { λ _. ⌜ now (sets .exit) ≡ marked (now (sets .entry)) row place bit ⌝ }
 {
     let at = row * 4 + place / 64;

@@ -1,10 +1,11 @@
 // One item: the rows that it enters, and the numbers of its value.
 use super::mark::mark;
+use permission_sheet::ALL_RIGHTS;
 use tables::sets::SETS;
 ghost use mathlib.Core.Path.{_≡_};
 ghost use Prim.Native.Nat.{_≤_, _<_};
 ghost use lib.ListN.{length};
-ghost use Rattle.directory_schema.specs.Schema.{Rising};
+ghost use Rattle.name.specs.Schema.{Rising};
 ghost use Rattle.access_items.specs.Note.{Small, permitted, grantsNoted, aboutNoted, typeNoted, valueNoted, itemNoted};
 
 // The permissions of the item, each by its row.
@@ -20,7 +21,7 @@ fn note_permissions(mask: u64, place: usize, sets: &mut [u64; SETS])
 }
 
 // Whether it grants, and what.
-fn note_grants(rights: &[u64; 2048], at: usize, place: usize, sets: &mut [u64; SETS])
+fn note_grants(rights: &[u64; ALL_RIGHTS], at: usize, place: usize, sets: &mut [u64; SETS])
     requires { ⌜ (place < 256) × Small (now rights) at ⌝ }
     ensures { λ _. ⌜ now (sets .exit) ≡ grantsNoted (now (rights .entry)) at place (now (sets .entry)) ⌝ }
 {
@@ -34,7 +35,7 @@ fn note_grants(rights: &[u64; 2048], at: usize, place: usize, sets: &mut [u64; S
 }
 
 // What it is about: the kind, and the slots of the value's digest.
-fn note_about(rights: &[u64; 2048], at: usize, place: usize, sets: &mut [u64; SETS])
+fn note_about(rights: &[u64; ALL_RIGHTS], at: usize, place: usize, sets: &mut [u64; SETS])
     requires { ⌜ (place < 256) × Small (now rights) at ⌝ }
     ensures { λ _. ⌜ now (sets .exit) ≡ aboutNoted (now (rights .entry)) at place (now (sets .entry)) ⌝ }
 {
@@ -51,7 +52,7 @@ fn note_type(schema: &[u64], t: u64, place: usize, sets: &mut [u64; SETS])
     ensures { λ _. ⌜ now (sets .exit) ≡ typeNoted (now (schema .entry)) t place (now (sets .entry)) ⌝ }
 {
     if t != 0 {
-        let rank = name::rank(schema, t);
+        let rank = name::rank(schema, 0, t);
         if rank < schema.len() {
             mark(sets, tables::sets::TYPE + rank, place, 1);
         }
@@ -59,7 +60,7 @@ fn note_type(schema: &[u64], t: u64, place: usize, sets: &mut [u64; SETS])
 }
 
 // The digest, the place and the length of its value.
-fn note_value(rights: &[u64; 2048], at: usize, place: usize, sets: &mut [u64; SETS])
+fn note_value(rights: &[u64; ALL_RIGHTS], at: usize, place: usize, sets: &mut [u64; SETS])
     requires { ⌜ (place < 256) × Small (now rights) at ⌝ }
     ensures { λ _. ⌜ now (sets .exit) ≡ valueNoted (now (rights .entry)) at place (now (sets .entry)) ⌝ }
 {
@@ -70,7 +71,7 @@ fn note_value(rights: &[u64; 2048], at: usize, place: usize, sets: &mut [u64; SE
 
 // The item whose row of rights begins at `at`, at its place in the order.
 pub fn note_item(
-    rights: &[u64; 2048],
+    rights: &[u64; ALL_RIGHTS],
     at: usize,
     schema: &[u64],
     place: usize,

@@ -6,13 +6,13 @@ use mathlib.Core.List.{List}
 use Rattle.rules.specs.Value.{byFound}
 use Rattle.rules.specs.declared.Found.{Found}
 use Rattle.access_set.specs.Member.{Least}
-use Rattle.tables.specs.Sets.{inRow}
+use Rattle.tables.specs.Sets.{grantsRow, inRow}
 
 -- `r` is whether the first item asked grants; false where none is asked
 pub record Decided (sets : List ℕ) (asked : ℕ → Bool) (r : Bool) : Type 0 where
   pub first : Found
   pub least : Least asked first
-  pub verdict : r ≡ byFound first (inRow sets 257)
+  pub verdict : r ≡ byFound first (inRow sets grantsRow)
 
 -- `i` is the first number below `end` that passes; `end` where none does
 pub record First (p : ℕ → Bool) (end i : ℕ) : Type 0 where

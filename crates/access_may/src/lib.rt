@@ -23,9 +23,9 @@ ghost use Rattle.rules.specs.Sheet.{Bytes};
 ghost use Rattle.rules.specs.Directory.{Stored};
 ghost use Rattle.rules.specs.Decision.{Setting, entry, ofType, ofValue};
 ghost use Rattle.access_set.specs.Member.{member};
-ghost use Rattle.tables.specs.Book.{types, entries, schema};
+ghost use Rattle.tables.specs.Book.{typeCount, entryCount, schema};
 ghost use Rattle.tables.specs.Held.{typeAt};
-ghost use Rattle.tables.specs.Sets.{inRow, grantedAt};
+ghost use Rattle.tables.specs.Sets.{permissionRow, whatRow, typeRow, inRow, grantedAt};
 ghost use Rattle.tables.specs.World.{World, Known, KnownEntry, KnownTypes};
 ghost use Rattle.access_may.specs.Decided.{Decided};
 
@@ -45,7 +45,7 @@ const ONE_VALUE: usize = WHAT + what::ONE_VALUE as usize;
 // The items that cover entry `e`, fit the requester and name the permission.
 fn naming(sets: &[u64; SETS], e: usize, q: usize) -> Bits
     requires { ⌜ (e ≤ 256) × (q < 6) ⌝ }
-    ensures { λ r. ⌜ ((j : ℕ) → member r j ≡ (inRow (now (sets .entry)) e j && inRow (now (sets .entry)) (258 + q) j)) ⌝ }
+    ensures { λ r. ⌜ ((j : ℕ) → member r j ≡ (inRow (now (sets .entry)) e j && inRow (now (sets .entry)) (permissionRow + q) j)) ⌝ }
 {
     row(sets, e).and(row(sets, PERMISSION + q))
 }
@@ -71,7 +71,7 @@ pub fn may_entry(sets: &[u64; SETS], e: usize, q: usize) -> bool
 // The items about types that are about the type of this rank.
 fn about_type(sets: &[u64; SETS], rank: usize) -> Bits
     requires { ⌜ rank < 64 ⌝ }
-    ensures { λ r. ⌜ ((j : ℕ) → member r j ≡ (inRow (now (sets .entry)) 265 j || (inRow (now (sets .entry)) 266 j || inRow (now (sets .entry)) 267 j && inRow (now (sets .entry)) (270 + rank) j))) ⌝ }
+    ensures { λ r. ⌜ ((j : ℕ) → member r j ≡ (inRow (now (sets .entry)) (whatRow + 1) j || (inRow (now (sets .entry)) (whatRow + 2) j || inRow (now (sets .entry)) (whatRow + 3) j && inRow (now (sets .entry)) (typeRow + rank) j))) ⌝ }
 {
     let one = row(sets, ONE_TYPE).and(row(sets, TYPE + rank));
     row(sets, ALL_TYPES).or(row(sets, ALL_TYPES_AND_VALUES).or(one))
@@ -88,7 +88,7 @@ pub fn may_type(sets: &[u64; SETS], e: usize, rank: usize, q: usize) -> bool
 // Of the items asked, those about all values, or all values of the type of this rank.
 fn about_all(sets: &[u64; SETS], asked: Bits, rank: usize) -> Bits
     requires { ⌜ rank < 64 ⌝ }
-    ensures { λ r. ⌜ ((j : ℕ) → member r j ≡ (member asked j && (inRow (now (sets .entry)) 266 j || inRow (now (sets .entry)) (270 + rank) j && inRow (now (sets .entry)) 268 j))) ⌝ }
+    ensures { λ r. ⌜ ((j : ℕ) → member r j ≡ (member asked j && (inRow (now (sets .entry)) (whatRow + 2) j || inRow (now (sets .entry)) (typeRow + rank) j && inRow (now (sets .entry)) (whatRow + 4) j))) ⌝ }
 {
     let typed = row(sets, TYPE + rank).and(row(sets, VALUES_OF_TYPE));
     asked.and(row(sets, ALL_TYPES_AND_VALUES).or(typed))
@@ -97,7 +97,7 @@ fn about_all(sets: &[u64; SETS], asked: Bits, rank: usize) -> Bits
 // Of the items asked, those about one value of the type of this rank.
 fn about_one(sets: &[u64; SETS], asked: Bits, rank: usize) -> Bits
     requires { ⌜ rank < 64 ⌝ }
-    ensures { λ r. ⌜ ((j : ℕ) → member r j ≡ (member asked j && (inRow (now (sets .entry)) (270 + rank) j && inRow (now (sets .entry)) 269 j))) ⌝ }
+    ensures { λ r. ⌜ ((j : ℕ) → member r j ≡ (member asked j && (inRow (now (sets .entry)) (typeRow + rank) j && inRow (now (sets .entry)) (whatRow + 5) j))) ⌝ }
 {
     asked.and(row(sets, TYPE + rank).and(row(sets, ONE_VALUE)))
 }
@@ -112,7 +112,7 @@ pub fn may_value(
     v: &[u8],
     q: usize,
 ) -> bool
-    requires { ⌜ (e ≤ entries (now book)) × (rank < types (now book)) × (q < 6) × ((d : Bytes) × (held : List ℕ) × Known d (now p) (now book) held (now sets)) ⌝ }
+    requires { ⌜ (e ≤ entryCount (now book)) × (rank < typeCount (now book)) × (q < 6) × ((d : Bytes) × (held : List ℕ) × Known d (now p) (now book) held (now sets)) ⌝ }
     ensures { λ r. ⌜ ((σ : Setting) (es : List Stored) (d : Bytes) (held : List ℕ) → World σ es d (now (p .entry)) (now (book .entry)) held (now (sets .entry)) → r ≡ grantedAt σ es e (ofValue (typeAt (schema (now (book .entry))) rank) (now (v .entry))) (2 ^ q)) ⌝ }
 {
     let asked = naming(sets, e, q);

@@ -15,8 +15,9 @@ ghost use mathlib.Core.Path.{_≡_};
 ghost use mathlib.Core.Bool.{_&&_, _||_};
 ghost use Prim.Native.Nat.{_+_, _≤_, _<_};
 ghost use Rattle.access_set.specs.Member.{member};
+ghost use Rattle.tables.specs.Sets.{ValuesWithin};
 ghost use Rattle.access_may.specs.Decided.{Decided, First};
-ghost use Rattle.access_may.specs.Single.{ValuesWithin, agreesAt, sameAt};
+ghost use Rattle.access_may.specs.Single.{agreesAt, sameAt};
 
 // Is the value of the item at place `i` the value `v`, by digest and bytes?
 fn agrees(sets: &[u64; SETS], p: &[u8], syntax: u64, digest: u64, v: &[u8], i: usize) -> bool

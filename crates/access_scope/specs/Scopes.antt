@@ -10,6 +10,7 @@ use Rattle.rules.specs.Name.{Schema, covers}
 use Rattle.rules.specs.Directory.{Stored}
 use Rattle.rules.specs.Decision.{Setting}
 use Rattle.rules.specs.Places.{linesAt, partsOf}
+use Rattle.permission_sheet.specs.Noted.{GRANTS, RIGHTS, BELOW, BASE, BASE-PARTS, WHO, USER, USER-PARTS, LEVEL, SCOPES}
 use Rattle.tables.specs.Numbers.{walk, numberOr0, baseReach, ownReach}
 use Rattle.access_scope.specs.declared.Requester.{Requester}
 use Rattle.access_scope.specs.declared.Scope.{Scope}
@@ -25,14 +26,14 @@ pub record Asker (σ : Setting) (w : ℕ) (q : Bytes) (who : Requester) : Type 0
 -- the scope of the item of index `k`
 abbrev pub scopeAt : List ℕ → List ℕ → ℕ → Scope
 scopeAt rights scopes k = record {
-  grants = getD rights (k * 8 + 2) 0;
-  level = getD scopes (k * 7 + 6) 0;
-  who = getD scopes (k * 7 + 3) 0;
-  user = getD scopes (k * 7 + 4) 0;
-  «user_parts» = getD scopes (k * 7 + 5) 0;
-  below = getD scopes (k * 7 + 0) 0;
-  base = getD scopes (k * 7 + 1) 0;
-  «base_parts» = getD scopes (k * 7 + 2) 0;
+  grants = getD rights (k * RIGHTS + GRANTS) 0;
+  level = getD scopes (k * SCOPES + LEVEL) 0;
+  who = getD scopes (k * SCOPES + WHO) 0;
+  user = getD scopes (k * SCOPES + USER) 0;
+  «user_parts» = getD scopes (k * SCOPES + USER-PARTS) 0;
+  below = getD scopes (k * SCOPES + BELOW) 0;
+  base = getD scopes (k * SCOPES + BASE) 0;
+  «base_parts» = getD scopes (k * SCOPES + BASE-PARTS) 0;
 }
 
 -- ---- is the item for the requester?

@@ -4,6 +4,8 @@ mod asked;
 use asked::asked;
 use directory_lookup::climb::climbs;
 use directory_lookup::find::resolve;
+use permission_sheet::ALL_RIGHTS;
+use permission_sheet::ALL_SCOPES;
 use permission_sheet::BASE;
 use permission_sheet::BASE_PARTS;
 use permission_sheet::BELOW;
@@ -27,7 +29,7 @@ ghost use Rattle.rules.specs.Directory.{Stored};
 ghost use Rattle.rules.specs.Decision.{Setting};
 ghost use Rattle.rules.specs.Places.{linesAt, partsOf};
 ghost use Rattle.tables.specs.Numbers.{walk, baseReach, ownReach};
-ghost use Rattle.tables.specs.Book.{entries, width};
+ghost use Rattle.tables.specs.Book.{entryCount, width};
 ghost use Rattle.tables.specs.World.{Entries, Listed};
 ghost use Rattle.access_scope.specs.Scopes.{scopeAt, spreadBy, spreadFrom, itemBy, ownNumber, reachesBy};
 
@@ -51,7 +53,7 @@ pub struct Scope {
 }
 
 // The scope of the item of index `k`, from its rows.
-fn scope_at(rights: &[u64; 2048], scopes: &[u64; 1792], k: usize) -> Scope
+fn scope_at(rights: &[u64; ALL_RIGHTS], scopes: &[u64; ALL_SCOPES], k: usize) -> Scope
     requires { ⌜ k < 256 ⌝ }
     ensures { λ r. ⌜ r ≡ scopeAt (now (rights .entry)) (now (scopes .entry)) k ⌝ }
 {
@@ -85,7 +87,7 @@ fn base_reach(below: u64, b: usize) -> usize
 
 // The requester's own entry `o`, if the base `b` has it in it.
 fn own_reach(book: &[u64; BOOK], below: u64, b: usize, o: usize) -> usize
-    requires { ⌜ ((d : Bytes) × Listed d (now book)) × (o ≤ entries (now book)) ⌝ }
+    requires { ⌜ ((d : Bytes) × Listed d (now book)) × (o ≤ entryCount (now book)) ⌝ }
     ensures { λ r. ⌜ ((σ : Setting) (es : List Stored) (d : Bytes) (held : List ℕ) → Entries σ es d (now (book .entry)) held → r ≡ ownReach es (eqb below 1) b o) ⌝ }
 {
     if o == 0 {
@@ -105,7 +107,7 @@ fn own_reach(book: &[u64; BOOK], below: u64, b: usize, o: usize) -> usize
 
 // The reach of an item with the base `b`, by what it says of users.
 fn spread(book: &[u64; BOOK], who: u64, below: u64, b: usize, o: usize) -> usize
-    requires { ⌜ ((d : Bytes) × Listed d (now book)) × (b ≤ 256) × (o ≤ entries (now book)) ⌝ }
+    requires { ⌜ ((d : Bytes) × Listed d (now book)) × (b ≤ 256) × (o ≤ entryCount (now book)) ⌝ }
     ensures { λ r. ⌜ ((σ : Setting) (es : List Stored) (d : Bytes) (held : List ℕ) → Entries σ es d (now (book .entry)) held → r ≡ spreadBy es who below b o) ⌝ }
 {
     if who != ENTRY_ITSELF {
@@ -116,7 +118,7 @@ fn spread(book: &[u64; BOOK], who: u64, below: u64, b: usize, o: usize) -> usize
 
 // The reach of an item that is for the requester: its base resolved.
 fn reach_base(book: &[u64; BOOK], d: &[u8], p: &[u8], x: Scope, o: usize) -> usize
-    requires { ⌜ Listed (now d) (now book) × (o ≤ entries (now book)) ⌝ }
+    requires { ⌜ Listed (now d) (now book) × (o ≤ entryCount (now book)) ⌝ }
     ensures { λ r. ⌜ ((σ : Setting) (es : List Stored) (held : List ℕ) → Entries σ es (now (d .entry)) (now (book .entry)) held → r ≡ spreadFrom es (x .who) (x .below) o (walk (σ .schema) es 0 (partsOf (x .«base_parts») (linesAt (width (now (book .entry))) (now (p .entry)) (x .base))))) ⌝ }
 {
     match resolve(book, d, p, x.base, x.base_parts) {
@@ -135,7 +137,7 @@ fn reach_item(
     who: Requester,
     o: usize,
 ) -> usize
-    requires { ⌜ Listed (now d) (now book) × (o ≤ entries (now book)) ⌝ }
+    requires { ⌜ Listed (now d) (now book) × (o ≤ entryCount (now book)) ⌝ }
     ensures { λ r. ⌜ ((σ : Setting) (es : List Stored) (held : List ℕ) → Entries σ es (now (d .entry)) (now (book .entry)) held → r ≡ itemBy (σ .schema) es (width (now (book .entry))) (now (p .entry)) x (now (q .entry)) who o) ⌝ }
 {
     if asked(book, p, x, q, who) {
@@ -147,7 +149,7 @@ fn reach_item(
 // The number of the entry that the requester's name names, 0 where there is none.
 fn own_number(book: &[u64; BOOK], d: &[u8], q: &[u8], who: Requester) -> usize
     requires { ⌜ Listed (now d) (now book) ⌝ }
-    ensures { λ r. ⌜ (r ≤ entries (now (book .entry))) × ((σ : Setting) (es : List Stored) (held : List ℕ) → Entries σ es (now (d .entry)) (now (book .entry)) held → r ≡ ownNumber (σ .schema) es (width (now (book .entry))) (now (q .entry)) who) ⌝ }
+    ensures { λ r. ⌜ (r ≤ entryCount (now (book .entry))) × ((σ : Setting) (es : List Stored) (held : List ℕ) → Entries σ es (now (d .entry)) (now (book .entry)) held → r ≡ ownNumber (σ .schema) es (width (now (book .entry))) (now (q .entry)) who) ⌝ }
 {
     match resolve(book, d, q, who.place, who.parts) {
         Found::At(b) => b,
@@ -160,8 +162,8 @@ pub fn reach_all(
     book: &[u64; BOOK],
     d: &[u8],
     p: &[u8],
-    rights: &[u64; 2048],
-    scopes: &[u64; 1792],
+    rights: &[u64; ALL_RIGHTS],
+    scopes: &[u64; ALL_SCOPES],
     q: &[u8],
     who: Requester,
     count: usize,

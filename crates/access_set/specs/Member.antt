@@ -9,14 +9,14 @@ use Rattle.rules.specs.declared.Found.{Found}
 use Rattle.rules.specs.declared.Found.the-variants.{At, Nothing}
 
 -- bit `i` of `x`
-unfoldable pub bit : ℕ → ℕ → Bool
-bit x i = eqb (x / 2 ^ i % 2) 1
+unfoldable pub bitOf : ℕ → ℕ → Bool
+bitOf x i = eqb (x / 2 ^ i % 2) 1
 
 -- `i` is the place of the lowest bit of a word that is set
 pub record Lowest (x i : ℕ) : Type 0 where
   pub within : i < 64
-  pub set : bit x i ≡ true
-  pub below : (j : ℕ) → j < i → bit x j ≡ false
+  pub set : bitOf x i ≡ true
+  pub below : (j : ℕ) → j < i → bitOf x j ≡ false
 
 -- word `k`
 unfoldable pub wordOf : Bits → ℕ → ℕ
@@ -24,7 +24,7 @@ wordOf s k = cond (eqb k 0) (s .a) (cond (eqb k 1) (s .b) (cond (eqb k 2) (s .c)
 
 -- is `i` in the set?
 unfoldable pub member : Bits → ℕ → Bool
-member s i = bit (wordOf s (i / 64)) (i % 64)
+member s i = bitOf (wordOf s (i / 64)) (i % 64)
 
 -- an operation on each word
 abbrev pub each : (ℕ → ℕ → ℕ) → Bits → Bits → Bits

@@ -12,7 +12,7 @@ ghost use lib.ListN.{length};
 ghost use Rattle.rules.specs.Lists.{any};
 ghost use Rattle.rules.specs.Places.{linesAt, typesOf};
 ghost use Rattle.rules.specs.Request.{Selection};
-ghost use Rattle.access_set.specs.Member.{bit};
+ghost use Rattle.access_set.specs.Member.{bitOf};
 ghost use Rattle.tables.specs.Book.{BookFits, width, schema};
 ghost use Rattle.tables.specs.Held.{typeAt, Distinct};
 ghost use Rattle.tables.specs.Choice.{Chooses};
@@ -24,9 +24,9 @@ const ALL: u64 = 18446744073709551615;
 // The ranks with that of the type `t`, if the schema has it.
 fn with_type(types: &[u64], ranks: u64, t: u64) -> u64
     requires { ⌜ (length (now types) ≤ 64) × Distinct (now types) ⌝ }
-    ensures { λ r. ⌜ ((i : ℕ) → i < length (now (types .entry)) → bit r i ≡ (eqb (typeAt (now (types .entry)) i) t || bit ranks i)) ⌝ }
+    ensures { λ r. ⌜ ((i : ℕ) → i < length (now (types .entry)) → bitOf r i ≡ (eqb (typeAt (now (types .entry)) i) t || bitOf ranks i)) ⌝ }
 {
-    let i = name::rank(types, t);
+    let i = name::rank(types, 0, t);
     if i < types.len() {
         return ranks | (1u64 << i);
     }
@@ -36,7 +36,7 @@ fn with_type(types: &[u64], ranks: u64, t: u64) -> u64
 // The ranks of the types of the `n` K 13 lines at position `i` of the request.
 fn ranks_listed(book: &[u64; BOOK], q: &[u8], i: usize, n: usize) -> u64
     requires { ⌜ BookFits (now book) × Distinct (schema (now book)) ⌝ }
-    ensures { λ r. ⌜ ((k : ℕ) → k < length (schema (now (book .entry))) → bit r k ≡ any (eqb (typeAt (schema (now (book .entry))) k)) (typesOf n (linesAt (width (now (book .entry))) (now (q .entry)) i))) ⌝ }
+    ensures { λ r. ⌜ ((k : ℕ) → k < length (schema (now (book .entry))) → bitOf r k ≡ any (eqb (typeAt (schema (now (book .entry))) k)) (typesOf n (linesAt (width (now (book .entry))) (now (q .entry)) i))) ⌝ }
 {
     let types = tables::book::schema(book);
     let w = book[WIDTH] as usize;

@@ -1,7 +1,7 @@
 // Compare: is a value of a type of an entry equal to the one given?
 use access_may::may_type;
 use access_may::may_value;
-use answer_entry::Target;
+use answer_entry::Sought;
 use answer_entry::opening;
 use answer_entry::withheld;
 use name::equal_by;
@@ -38,7 +38,7 @@ ghost use Rattle.rules.specs.Request as Request;
 ghost use Rattle.rules.specs.Answer as Answer;
 ghost use Rattle.rules.specs.declared.Found.{Found};
 ghost use Rattle.rules.specs.declared.Found.the-variants.{At};
-ghost use Rattle.tables.specs.Book.{types, entries, schema, firstAt};
+ghost use Rattle.tables.specs.Book.{typeCount, entryCount, schema, firstAt};
 ghost use Rattle.tables.specs.Held.{rankAt, bytesAt, typeAt};
 ghost use Rattle.tables.specs.World.{World, Known};
 ghost use Rattle.tables.specs.Plan.{aliasesOf, planned};
@@ -47,7 +47,7 @@ ghost use Rattle.answer_compare.specs.Compare.{counts, heldOutcome, comp
 
 // The first row of the type `t` among the values of the entry of index `k`; the row after the last if it does not hold the type.
 fn row_of(book: &[u64; BOOK], held: &[u64; HELD], k: usize, t: u64) -> usize
-    requires { ⌜ ((d p : Bytes) × (sets : List ℕ) × Known d p (now book) (now held) sets) × (k < entries (now book)) ⌝ }
+    requires { ⌜ ((d p : Bytes) × (sets : List ℕ) × Known d p (now book) (now held) sets) × (k < entryCount (now book)) ⌝ }
     ensures { λ r. ⌜ (firstAt (now (book .entry)) k ≤ r) × (r < firstAt (now (book .entry)) (suc k) → typeAt (schema (now (book .entry))) (rankAt (now (held .entry)) r) ≡ t) × ((σ : Setting) (es : List Stored) (d p : Bytes) (sets : List ℕ) → World σ es d p (now (book .entry)) (now (held .entry)) sets → holds (entryOf (getD es k blank)) t ≡ ltb r (firstAt (now (book .entry)) (suc k))) ⌝ }
 {
     let end = book[FIRST + 1 + k] as usize;
@@ -64,7 +64,7 @@ fn row_of(book: &[u64; BOOK], held: &[u64; HELD], k: usize, t: u64) -> usize
 
 // The outcome for an open entry, that of index `k`, which holds the type of this rank; Compare on the type is asked first.
 fn outcome_of(book: &[u64; BOOK], sets: &[u64; SETS], k: usize, rank: usize, v: &[u8]) -> Outcome
-    requires { ⌜ ((d p : Bytes) × (held : List ℕ) × Known d p (now book) held (now sets)) × (k < entries (now book)) × (rank < types (now book)) ⌝ }
+    requires { ⌜ ((d p : Bytes) × (held : List ℕ) × Known d p (now book) held (now sets)) × (k < entryCount (now book)) × (rank < typeCount (now book)) ⌝ }
     ensures { λ r. ⌜ ((σ : Setting) (es : List Stored) (d p : Bytes) (held : List ℕ) → World σ es d p (now (book .entry)) held (now (sets .entry)) → r ≡ heldOutcome σ (typeAt (schema (now (book .entry))) rank) (now (v .entry)) (getD es k blank .name)) ⌝ }
 {
     if may_type(sets, k + 1, rank, COMPARE) {
@@ -91,7 +91,7 @@ fn equal_row(
     v: &[u8],
     i: usize,
 ) -> bool
-    requires { ⌜ Known (now d) (now p) (now book) (now held) (now sets) × (k < entries (now book)) × (rank < types (now book)) × (firstAt (now book) k ≤ i) × (i < firstAt (now book) (suc k)) ⌝ }
+    requires { ⌜ Known (now d) (now p) (now book) (now held) (now sets) × (k < entryCount (now book)) × (rank < typeCount (now book)) × (firstAt (now book) k ≤ i) × (i < firstAt (now book) (suc k)) ⌝ }
     ensures { λ r. ⌜ ((σ : Setting) (es : List Stored) → World σ es (now (d .entry)) (now (p .entry)) (now (book .entry)) (now (held .entry)) (now (sets .entry)) → r ≡ counts σ (getD es k blank .name) (typeAt (schema (now (book .entry))) rank) (now (v .entry)) (part (typeAt (schema (now (book .entry))) (rankAt (now (held .entry)) i)) (bytesAt (now (d .entry)) (now (held .entry)) i))) ⌝ }
 {
     if held[i] as usize != rank {
@@ -115,7 +115,7 @@ fn equal_any(
     rank: usize,
     v: &[u8],
 ) -> bool
-    requires { ⌜ Known (now d) (now p) (now book) (now held) (now sets) × (k < entries (now book)) × (rank < types (now book)) ⌝ }
+    requires { ⌜ Known (now d) (now p) (now book) (now held) (now sets) × (k < entryCount (now book)) × (rank < typeCount (now book)) ⌝ }
     ensures { λ r. ⌜ ((σ : Setting) (es : List Stored) → World σ es (now (d .entry)) (now (p .entry)) (now (book .entry)) (now (held .entry)) (now (sets .entry)) → r ≡ someValue σ (entryOf (getD es k blank)) (typeAt (schema (now (book .entry))) rank) Compare (equal (σ .schema) (typeAt (schema (now (book .entry))) rank) (now (v .entry)))) ⌝ }
 {
     let end = book[FIRST + 1 + k] as usize;
@@ -166,8 +166,8 @@ fn compare_open(
     t: u64,
     v: &[u8],
 ) -> Plan
-    requires { ⌜ Known (now d) (now p) (now book) (now held) (now sets) × (k < entries (now book)) ⌝ }
-    ensures { λ r. ⌜ ((hits : List ℕ) → SoundPlan (entries (now (book .entry))) r hits) × ((σ : Setting) (es : List Stored) (s : Selection) (hits : List ℕ) → World σ es (now (d .entry)) (now (p .entry)) (now (book .entry)) (now (held .entry)) (now (sets .entry)) → planned σ es s r hits ≡ Answer.compareEntry σ t (now (v .entry)) (entryOf (getD es k blank))) ⌝ }
+    requires { ⌜ Known (now d) (now p) (now book) (now held) (now sets) × (k < entryCount (now book)) ⌝ }
+    ensures { λ r. ⌜ ((hits : List ℕ) → SoundPlan (entryCount (now (book .entry))) r hits) × ((σ : Setting) (es : List Stored) (s : Selection) (hits : List ℕ) → World σ es (now (d .entry)) (now (p .entry)) (now (book .entry)) (now (held .entry)) (now (sets .entry)) → planned σ es s r hits ≡ Answer.compareEntry σ t (now (v .entry)) (entryOf (getD es k blank))) ⌝ }
 {
     let i = row_of(book, held, k, t);
     if book[FIRST + 1 + k] as usize <= i {
@@ -194,7 +194,7 @@ fn compare_entry(
     missing: usize,
 ) -> Plan
     requires { ⌜ KnownBase (now d) (now p) (now book) (now held) (now sets) (At b) missing ⌝ }
-    ensures { λ r. ⌜ ((hits : List ℕ) → SoundPlan (entries (now (book .entry))) r hits) × ((σ : Setting) (es : List Stored) (n : Name) (s : Selection) (hits : List ℕ) → World σ es (now (d .entry)) (now (p .entry)) (now (book .entry)) (now (held .entry)) (now (sets .entry)) → Base σ es n (At b) missing → planned σ es s r hits ≡ Answer.answer σ (map entryOf es) (aliasesOf σ es) n (Request.compare t (now (v .entry)))) ⌝ }
+    ensures { λ r. ⌜ ((hits : List ℕ) → SoundPlan (entryCount (now (book .entry))) r hits) × ((σ : Setting) (es : List Stored) (n : Name) (s : Selection) (hits : List ℕ) → World σ es (now (d .entry)) (now (p .entry)) (now (book .entry)) (now (held .entry)) (now (sets .entry)) → Base σ es n (At b) missing → planned σ es s r hits ≡ Answer.answer σ (map entryOf es) (aliasesOf σ es) n (Request.compare t (now (v .entry)))) ⌝ }
 {
     let opened = opening(sets, b, READ);
     if !is_result(opened) {
@@ -215,14 +215,14 @@ pub fn compare(
     p: &[u8],
     t: u64,
     v: &[u8],
-    target: Target,
+    sought: Sought,
 ) -> Plan
-    requires { ⌜ KnownBase (now d) (now p) (now book) (now held) (now sets) (target .base) (target .missing) ⌝ }
-    ensures { λ r. ⌜ ((hits : List ℕ) → SoundPlan (entries (now (book .entry))) r hits) × ((σ : Setting) (es : List Stored) (n : Name) (s : Selection) (hits : List ℕ) → World σ es (now (d .entry)) (now (p .entry)) (now (book .entry)) (now (held .entry)) (now (sets .entry)) → Base σ es n (target .base) (target .missing) → planned σ es s r hits ≡ Answer.answer σ (map entryOf es) (aliasesOf σ es) n (Request.compare t (now (v .entry)))) ⌝ }
+    requires { ⌜ KnownBase (now d) (now p) (now book) (now held) (now sets) (sought .base) (sought .missing) ⌝ }
+    ensures { λ r. ⌜ ((hits : List ℕ) → SoundPlan (entryCount (now (book .entry))) r hits) × ((σ : Setting) (es : List Stored) (n : Name) (s : Selection) (hits : List ℕ) → World σ es (now (d .entry)) (now (p .entry)) (now (book .entry)) (now (held .entry)) (now (sets .entry)) → Base σ es n (sought .base) (sought .missing) → planned σ es s r hits ≡ Answer.answer σ (map entryOf es) (aliasesOf σ es) n (Request.compare t (now (v .entry)))) ⌝ }
 {
-    let base = target.base;
+    let base = sought.base;
     match base {
-        Found::At(b) => compare_entry(book, held, sets, d, p, t, v, b, target.missing),
-        Found::Nothing => absent(operation::COMPARE, target.missing),
+        Found::At(b) => compare_entry(book, held, sets, d, p, t, v, b, sought.missing),
+        Found::Nothing => absent(operation::COMPARE, sought.missing),
     }
 }

@@ -23,7 +23,7 @@ ghost use Rattle.answer_entry.specs.Opening.{openingAt, withheldPlan};
 ghost use Rattle.answer_entry.specs.Returned.{browsableAt, returnableAt, successPlan, limitedPlan, returnedPlan};
 
 // The entry that a request names: its number, if there is one, and the number of the entry with the matched name.
-pub struct Target {
+pub struct Sought {
     pub base: Found,
     pub missing: usize,
 }

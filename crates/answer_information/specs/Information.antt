@@ -12,7 +12,7 @@ use Rattle.rules.specs.Permission.{Read}
 use Rattle.rules.specs.Decision.{Setting, ofType, ofValue, granted}
 use Rattle.rules.specs.Request.{Selection}
 use Rattle.rules.specs.Answer.{selected, typeLines}
-use Rattle.tables.specs.Book.{types, entries, firstAt, schema}
+use Rattle.tables.specs.Book.{typeCount, entryCount, firstAt, schema}
 use Rattle.tables.specs.Held.{rankAt, bytesAt, typeAt}
 use Rattle.answer_line.specs.Emit.{Emits}
 use Rattle.answer_information.specs.declared.Run.{Run}
@@ -34,8 +34,8 @@ pub record EndsAt (held : List ℕ) (i end r : ℕ) : Type 0 where
 -- the rows of a run are rows of entry number `e`, and its rank is that of a type
 pub record RunOf (book : List ℕ) (e : ℕ) (run : Run) : Type 0 where
   pub some : 1 ≤ e
-  pub entry : e ≤ entries book
-  pub rank : run .rank < types book
+  pub entry : e ≤ entryCount book
+  pub rank : run .rank < typeCount book
   pub from : firstAt book (e - 1) ≤ run .first
   pub rising : run .first ≤ run .end
   pub until : run .end ≤ firstAt book e
@@ -56,12 +56,12 @@ abbrev pub readable : Setting → Name → ℕ → List Bytes → List Bytes
 readable σ n t vs = keep (λ v. granted σ n (ofValue t v) Read) vs
 
 -- the type is selected, and may be read
-abbrev pub shown : Setting → Selection → Name → ℕ → Bool
-shown σ s n t = selected s t && granted σ n (ofType t) Read
+abbrev pub shownType : Setting → Selection → Name → ℕ → Bool
+shownType σ s n t = selected s t && granted σ n (ofType t) Read
 
 -- what is returned of a type that the entry with the full name `n` holds
 abbrev pub returned : Setting → Selection → Name → Held → List Line
-returned σ s n h = given (shown σ s n (h .type)) (typeLines σ s n h)
+returned σ s n h = given (shownType σ s n (h .type)) (typeLines σ s n h)
 
 -- the values `vs` as K 35 lines, from the one place and count to the other
 pub record Counted (w : ℕ) (out : Bytes) (from : Written) (vs : List Bytes) (out′ : Bytes) (to : Written) : Type 0 where

@@ -22,7 +22,7 @@ ghost use Rattle.rules.specs.Sheet.{Bytes};
 ghost use Rattle.rules.specs.Directory.{Stored, nameAt};
 ghost use Rattle.rules.specs.Decision.{Setting};
 ghost use Rattle.rules.specs.Request.{Selection};
-ghost use Rattle.tables.specs.Book.{width, types, entries};
+ghost use Rattle.tables.specs.Book.{width, entryCount};
 ghost use Rattle.tables.specs.Book as Book;
 ghost use Rattle.tables.specs.Held.{ROWS, typeAt};
 ghost use Rattle.tables.specs.World.{World, Known};
@@ -43,7 +43,7 @@ pub struct Run {
 // Is it selected, with Read on it in entry number `e`?
 fn shown(sets: &[u64; SETS], choice: Choice, e: usize, rank: usize) -> bool
     requires { ⌜ (1 ≤ e) × KnownChoiceAt (now sets) e rank choice ⌝ }
-    ensures { λ r. ⌜ ((σ : Setting) (es : List Stored) (d p : Bytes) (book held : List ℕ) (s : Selection) → World σ es d p book held (now (sets .entry)) → Chooses (Book.schema book) s choice → e ≤ length es → rank < length (Book.schema book) → r ≡ Information.shown σ s (nameAt es e) (typeAt (Book.schema book) rank)) ⌝ }
+    ensures { λ r. ⌜ ((σ : Setting) (es : List Stored) (d p : Bytes) (book held : List ℕ) (s : Selection) → World σ es d p book held (now (sets .entry)) → Chooses (Book.schema book) s choice → e ≤ length es → rank < length (Book.schema book) → r ≡ Information.shownType σ s (nameAt es e) (typeAt (Book.schema book) rank)) ⌝ }
 {
     if chosen(choice, rank) {
         return may_type(sets, e, rank, READ);
@@ -114,7 +114,7 @@ fn emit_runs(
     choice: Choice,
     e: usize,
 ) -> usize
-    requires { ⌜ Known (now d) (now p) (now book) (now held) (now sets) × (1 ≤ e) × (e ≤ entries (now book)) × (at + informationRoom ≤ answerRoom) × KnownChoice (Book.schema (now book)) choice ⌝ }
+    requires { ⌜ Known (now d) (now p) (now book) (now held) (now sets) × (1 ≤ e) × (e ≤ entryCount (now book)) × (at + informationRoom ≤ answerRoom) × KnownChoice (Book.schema (now book)) choice ⌝ }
     ensures { λ r. ⌜ (r ≤ at + informationRoom) × ((σ : Setting) (es : List Stored) (s : Selection) → World σ es (now (d .entry)) (now (p .entry)) (now (book .entry)) (now (held .entry)) (now (sets .entry)) → Chooses (Book.schema (now (book .entry))) s choice → Emits (width (now (book .entry))) (now (out .entry)) at (informationAt σ es s e) (now (out .exit)) r) ⌝ }
 {
     let end = book[FIRST + e] as usize;
@@ -144,7 +144,7 @@ pub fn emit_information(
     choice: Choice,
     e: usize,
 ) -> usize
-    requires { ⌜ Known (now d) (now p) (now book) (now held) (now sets) × (e ≤ entries (now book)) × (at + informationRoom ≤ answerRoom) × KnownChoice (Book.schema (now book)) choice ⌝ }
+    requires { ⌜ Known (now d) (now p) (now book) (now held) (now sets) × (e ≤ entryCount (now book)) × (at + informationRoom ≤ answerRoom) × KnownChoice (Book.schema (now book)) choice ⌝ }
     ensures { λ r. ⌜ (r ≤ at + informationRoom) × ((σ : Setting) (es : List Stored) (s : Selection) → World σ es (now (d .entry)) (now (p .entry)) (now (book .entry)) (now (held .entry)) (now (sets .entry)) → Chooses (Book.schema (now (book .entry))) s choice → Emits (width (now (book .entry))) (now (out .entry)) at (informationAt σ es s e) (now (out .exit)) r) ⌝ }
 {
     if e == 0 {

@@ -3,6 +3,7 @@ use super::Run;
 use access_may::may_value;
 use answer_line::emit;
 use sheet_kind::Kind;
+use sheet_write::size;
 use tables::book::BOOK;
 use tables::book::SCHEMA;
 use tables::book::WIDTH;
@@ -17,7 +18,7 @@ ghost use Rattle.rules.specs.Sheet.{Bytes};
 ghost use Rattle.rules.specs.Directory.{Stored, nameAt};
 ghost use Rattle.rules.specs.Decision.{Setting};
 ghost use Rattle.rules.specs.Answer.{valueLines};
-ghost use Rattle.tables.specs.Book.{width, types, entries, schema};
+ghost use Rattle.tables.specs.Book.{width, typeCount, entryCount, schema};
 ghost use Rattle.tables.specs.Held.{ROWS, typeAt};
 ghost use Rattle.tables.specs.World.{World, Known};
 ghost use Rattle.answer_line.specs.Emit.{Emits};
@@ -41,7 +42,7 @@ fn emit_value(
     rank: usize,
     v: &[u8],
 ) -> Written
-    requires { ⌜ ((d : Bytes) × (held : List ℕ) × Known d (now p) (now book) held (now sets)) × (1 ≤ e) × (e ≤ entries (now book)) × (rank < types (now book)) × (length (now v) ≤ 65536) × (st .next + lineRoom ≤ answerRoom) × (st .count ≤ ROWS) ⌝ }
+    requires { ⌜ ((d : Bytes) × (held : List ℕ) × Known d (now p) (now book) held (now sets)) × (1 ≤ e) × (e ≤ entryCount (now book)) × (rank < typeCount (now book)) × (length (now v) ≤ 65536) × (st .next + lineRoom ≤ answerRoom) × (st .count ≤ ROWS) ⌝ }
     ensures { λ r. ⌜ (r .next ≤ st .next + lineRoom) × (r .count ≤ st .count + 1) × ((σ : Setting) (es : List Stored) (d : Bytes) (held : List ℕ) → World σ es d (now (p .entry)) (now (book .entry)) held (now (sets .entry)) → Counted (width (now (book .entry))) (now (out .entry)) st (readable σ (nameAt es e) (typeAt (schema (now (book .entry))) rank) (now (v .entry) ∷ [])) (now (out .exit)) r) ⌝ }
 {
     if may_value(book, sets, p, e, rank, v, READ) {
@@ -96,7 +97,7 @@ pub(crate) fn emit_readable(
     ensures { λ r. ⌜ (r ≤ at + (run .end - run .first + 1) * lineRoom) × ((σ : Setting) (es : List Stored) → World σ es (now (d .entry)) (now (p .entry)) (now (book .entry)) (now (held .entry)) (now (sets .entry)) → Emits (width (now (book .entry))) (now (out .entry)) at (valueLines (typeAt (schema (now (book .entry))) (run .rank)) (readable σ (nameAt es e) (typeAt (schema (now (book .entry))) (run .rank)) (rowValues (now (d .entry)) (now (held .entry)) (run .first) (run .end - run .first)))) (now (out .exit)) r) ⌝ }
 {
     let w = book[WIDTH] as usize;
-    let st = emit_values(out, at + (5 * w + 1), book, held, sets, d, p, e, run);
+    let st = emit_values(out, at + size(w, 0), book, held, sets, d, p, e, run);
     if st.count == 0 {
         return at;
     }

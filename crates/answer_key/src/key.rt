@@ -17,8 +17,8 @@ ghost use lib.ListN.{length, getD};
 ghost use Rattle.rules.specs.Name.{part};
 ghost use Rattle.rules.specs.Directory.{Stored, blank};
 ghost use Rattle.rules.specs.Decision.{Setting};
-ghost use Rattle.rules.specs.Laws.Each.{Each};
-ghost use Rattle.tables.specs.Book.{types, entries, schema, firstAt};
+ghost use Rattle.rules.specs.Derived.{Each};
+ghost use Rattle.tables.specs.Book.{typeCount, entryCount, schema, firstAt};
 ghost use Rattle.tables.specs.Held.{rankAt, bytesAt, typeAt};
 ghost use Rattle.tables.specs.World.{World, Known};
 ghost use Rattle.answer_key.specs.Keys.{KeyOf, readableAs};
@@ -34,7 +34,7 @@ fn readable(
     k: usize,
     i: usize,
 ) -> bool
-    requires { ⌜ Known (now d) (now p) (now book) (now held) (now sets) × (k < entries (now book)) × (rank < types (now book)) × (firstAt (now book) k ≤ i) × (i < firstAt (now book) (suc k)) ⌝ }
+    requires { ⌜ Known (now d) (now p) (now book) (now held) (now sets) × (k < entryCount (now book)) × (rank < typeCount (now book)) × (firstAt (now book) k ≤ i) × (i < firstAt (now book) (suc k)) ⌝ }
     ensures { λ r. ⌜ ((σ : Setting) (es : List Stored) → World σ es (now (d .entry)) (now (p .entry)) (now (book .entry)) (now (held .entry)) (now (sets .entry)) → r ≡ readableAs σ (getD es k blank .name) (typeAt (schema (now (book .entry))) rank) (part (typeAt (schema (now (book .entry))) (rankAt (now (held .entry)) i)) (bytesAt (now (d .entry)) (now (held .entry)) i))) ⌝ }
 {
     if held[i] as usize != rank {
@@ -56,7 +56,7 @@ fn key_of(
     rank: usize,
     k: usize,
 ) -> usize
-    requires { ⌜ Known (now d) (now p) (now book) (now held) (now sets) × (k < entries (now book)) × (rank < types (now book)) ⌝ }
+    requires { ⌜ Known (now d) (now p) (now book) (now held) (now sets) × (k < entryCount (now book)) × (rank < typeCount (now book)) ⌝ }
     ensures { λ r. ⌜ KeyOf (now (d .entry)) (now (p .entry)) (now (book .entry)) (now (held .entry)) (now (sets .entry)) (typeAt (schema (now (book .entry))) rank) k r ⌝ }
 {
     let syntax = book[SCHEMA + rank] % 4;
@@ -83,7 +83,7 @@ pub fn note_keys(
     found: &[usize],
     keys: &mut [usize; 256],
 )
-    requires { ⌜ Known (now d) (now p) (now book) (now held) (now sets) × (rank < types (now book)) × Each (λ k. k < entries (now book)) (now found) × (length (now keys) ≡ 256) ⌝ }
+    requires { ⌜ Known (now d) (now p) (now book) (now held) (now sets) × (rank < typeCount (now book)) × Each (λ k. k < entryCount (now book)) (now found) × (length (now keys) ≡ 256) ⌝ }
     ensures { λ _. ⌜ (length (now (keys .exit)) ≡ 256) × Each (λ k. KeyOf (now (d .entry)) (now (p .entry)) (now (book .entry)) (now (held .entry)) (now (sets .entry)) (typeAt (schema (now (book .entry))) rank) k (getD (now (keys .exit)) k 0)) (now (found .entry)) ⌝ }
 {
     let mut j: usize = 0;

@@ -7,7 +7,7 @@ use mathlib.Core.List.{List, [], _∷_}
 use lib.Dec.{ltb}
 use lib.ListN.{length}
 use Rattle.rules.specs.Sheet.{Bytes, Line, lineBytes, print}
-use Rattle.sheet_write.specs.Put.{putAt}
+use Rattle.rules.specs.Derived.{putAt}
 
 -- `s` in `d` from `at` on where it fits, else `d` unchanged
 unfoldable pub emitAt : Bytes → ℕ → Bytes → Bytes

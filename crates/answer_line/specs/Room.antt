@@ -1,10 +1,11 @@
 -- The most bytes that each part of an answer has, and the whole of it. A function that writes a part is called where the part ends within the room of the
 -- whole, which is below 2 ^ 64: so every place is a number of 64 bits.
 use Prim.Native.Nat.{ℕ, _+_, _*_, _/_}
+use Rattle.rules.specs.Sheet.{lineSize}
 
--- a line: five columns of at most 18 bytes, bytes that stand on a sheet of at most 65,536, and its end
+-- a line: its columns have at most 18 bytes each, and its bytes stand on a sheet of at most 65,536
 abbrev pub lineRoom : ℕ
-lineRoom = 5 * 18 + 65536 + 1
+lineRoom = lineSize 18 65536
 
 -- an entry and its full name: K 33, and K 9 for it and what is above it, of 256 entries
 abbrev pub nameRoom : ℕ

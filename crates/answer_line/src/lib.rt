@@ -23,7 +23,7 @@ pub fn emit(
     requires { ⌜ (1 ≤ w) × (w ≤ 18) × (at + length (now bytes) ≤ answerRoom) ⌝ }
     ensures { λ r. ⌜ Emits w (now (out .entry)) at (line (numberOf kind) a b c (now (bytes .entry)) ∷ []) (now (out .exit)) r ⌝ }
 {
-    let end = at + (5 * w + 1 + bytes.len());
+    let end = at + sheet_write::size(w, bytes.len());
     if out.len() < end {
         return end;
     }

@@ -19,7 +19,7 @@ ghost use Rattle.rules.specs.Judge.{nameLines};
 ghost use Rattle.rules.specs.Answer.{entryLines};
 ghost use Rattle.sheet_kind.specs.Kinds.{numberOf};
 ghost use Rattle.sheet_kind.specs.declared.Kind.the-variants.{Child};
-ghost use Rattle.tables.specs.Book.{width, entries};
+ghost use Rattle.tables.specs.Book.{width, entryCount};
 ghost use Rattle.tables.specs.World.{Entries, Listed};
 ghost use Rattle.answer_line.specs.Emit.{Emits};
 ghost use Rattle.answer_line.specs.Room.{answerRoom, lineRoom, nameRoom};
@@ -35,7 +35,7 @@ fn emit_part(
     kind: Kind,
     c: u64,
 ) -> usize
-    requires { ⌜ Listed (now d) (now book) × (at + lineRoom ≤ answerRoom) × (k < entries (now book)) ⌝ }
+    requires { ⌜ Listed (now d) (now book) × (at + lineRoom ≤ answerRoom) × (k < entryCount (now book)) ⌝ }
     ensures { λ r. ⌜ (r ≤ at + lineRoom) × ((σ : Setting) (es : List Stored) (held : List ℕ) → Entries σ es (now (d .entry)) (now (book .entry)) held → Emits (width (now (book .entry))) (now (out .entry)) at (namingLine (numberOf kind) c (getD es k blank) ∷ []) (now (out .exit)) r) ⌝ }
 {
     let w = book[WIDTH] as usize;
@@ -53,7 +53,7 @@ fn emit_part(
 
 // The mark of the entry of index `k`: 1 for an alias.
 fn mark(book: &[u64; BOOK], k: usize) -> u64
-    requires { ⌜ (k < entries (now book)) × (entries (now book) ≤ 256) ⌝ }
+    requires { ⌜ (k < entryCount (now book)) × (entryCount (now book) ≤ 256) ⌝ }
     ensures { λ r. ⌜ ((σ : Setting) (es : List Stored) (d : Bytes) (held : List ℕ) → Entries σ es d (now (book .entry)) held → r ≡ bit (isAlias (getD es k blank .target))) ⌝ }
 {
     if book[TARGET + k] == 0 {
@@ -64,7 +64,7 @@ fn mark(book: &[u64; BOOK], k: usize) -> u64
 
 // The K 32 line of the entry of index `k`: its naming part, and the mark of an alias.
 pub fn emit_child(out: &mut [u8], at: usize, book: &[u64; BOOK], d: &[u8], k: usize) -> usize
-    requires { ⌜ Listed (now d) (now book) × (at + lineRoom ≤ answerRoom) × (k < entries (now book)) ⌝ }
+    requires { ⌜ Listed (now d) (now book) × (at + lineRoom ≤ answerRoom) × (k < entryCount (now book)) ⌝ }
     ensures { λ r. ⌜ (r ≤ at + lineRoom) × ((σ : Setting) (es : List Stored) (held : List ℕ) → Entries σ es (now (d .entry)) (now (book .entry)) held → Emits (width (now (book .entry))) (now (out .entry)) at (namingLine (numberOf Child) (bit (isAlias (getD es k blank .target))) (getD es k blank) ∷ []) (now (out .exit)) r) ⌝ }
 {
     let c = mark(book, k);
@@ -73,7 +73,7 @@ pub fn emit_child(out: &mut [u8], at: usize, book: &[u64; BOOK], d: &[u8], k: us
 
 // The number of parts of the name of entry number `e`: its ancestors and itself.
 pub fn depth(book: &[u64; BOOK], e: usize) -> usize
-    requires { ⌜ ((d : Bytes) × Listed d (now book)) × (e ≤ entries (now book)) ⌝ }
+    requires { ⌜ ((d : Bytes) × Listed d (now book)) × (e ≤ entryCount (now book)) ⌝ }
     ensures { λ r. ⌜ ((σ : Setting) (es : List Stored) (d : Bytes) (held : List ℕ) → Entries σ es d (now (book .entry)) held → r ≡ length (nameAt es e)) ⌝ }
 {
     let mut n: usize = 0;
@@ -87,7 +87,7 @@ pub fn depth(book: &[u64; BOOK], e: usize) -> usize
 
 // The K 9 lines of the full name of entry number `e`, from depth 1 down; the root has none.
 pub fn emit_name(out: &mut [u8], at: usize, book: &[u64; BOOK], d: &[u8], e: usize) -> usize
-    requires { ⌜ Listed (now d) (now book) × (at + e * lineRoom ≤ answerRoom) × (e ≤ entries (now book)) ⌝ }
+    requires { ⌜ Listed (now d) (now book) × (at + e * lineRoom ≤ answerRoom) × (e ≤ entryCount (now book)) ⌝ }
     ensures { λ r. ⌜ (r ≤ at + e * lineRoom) × ((σ : Setting) (es : List Stored) (held : List ℕ) → Entries σ es (now (d .entry)) (now (book .entry)) held → Emits (width (now (book .entry))) (now (out .entry)) at (nameLines (nameAt es e)) (now (out .exit)) r) ⌝ }
 {
     if e == 0 {
@@ -100,7 +100,7 @@ pub fn emit_name(out: &mut [u8], at: usize, book: &[u64; BOOK], d: &[u8], e: usi
 
 // The K 33 line of entry number `e`, with the number of parts of its full name, and the name.
 pub fn emit_entry(out: &mut [u8], at: usize, book: &[u64; BOOK], d: &[u8], e: usize) -> usize
-    requires { ⌜ Listed (now d) (now book) × (at + nameRoom ≤ answerRoom) × (e ≤ entries (now book)) ⌝ }
+    requires { ⌜ Listed (now d) (now book) × (at + nameRoom ≤ answerRoom) × (e ≤ entryCount (now book)) ⌝ }
     ensures { λ r. ⌜ (r ≤ at + nameRoom) × ((σ : Setting) (es : List Stored) (held : List ℕ) → Entries σ es (now (d .entry)) (now (book .entry)) held → Emits (width (now (book .entry))) (now (out .entry)) at (entryLines (nameAt es e)) (now (out .exit)) r) ⌝ }
 {
     let parts = depth(book, e);

@@ -15,7 +15,7 @@ use Rattle.tables.specs.declared.plan.Choice.{Choice}
 use Rattle.tables.specs.Choice.{Chooses}
 use Rattle.tables.specs.Sound.{Base}
 use Rattle.answer_choice.specs.Selected.{selectionOf}
-use Rattle.answer_entry.specs.declared.Target.{Target}
+use Rattle.answer_entry.specs.declared.Sought.{Sought}
 
 -- the request `x` in a world, `G` being the grammar of requests
 pub record Posed (σ : Setting) (es : List Stored) (G : Grammar) (x : Request) (d p q : Bytes) (book held sets : List ℕ) (asked : Asked) (choice : Choice) : Type 0 where
@@ -28,6 +28,6 @@ abbrev pub KnownRequest : Bytes → Bytes → Bytes → List ℕ → List ℕ �
 KnownRequest d p q book held sets asked choice = (σ : Setting) × (es : List Stored) × (G : Grammar) × (x : Request) × Posed σ es G x d p q book held sets asked choice
 
 -- about some name
-abbrev pub KnownTarget : Bytes → Bytes → Bytes → List ℕ → List ℕ → List ℕ → Asked → Target → Choice → Type 0
-KnownTarget d p q book held sets asked target choice =
-    (σ : Setting) × (es : List Stored) × (G : Grammar) × (x : Request) × (n : Name) × Posed σ es G x d p q book held sets asked choice × Base σ es n (target .base) (target .missing)
+abbrev pub KnownSought : Bytes → Bytes → Bytes → List ℕ → List ℕ → List ℕ → Asked → Sought → Choice → Type 0
+KnownSought d p q book held sets asked sought choice =
+    (σ : Setting) × (es : List Stored) × (G : Grammar) × (x : Request) × (n : Name) × Posed σ es G x d p q book held sets asked choice × Base σ es n (sought .base) (sought .missing)

@@ -14,7 +14,7 @@ ghost use Rattle.rules.specs.Directory.{Stored, nameAt};
 ghost use Rattle.rules.specs.Decision.{Setting};
 ghost use Rattle.rules.specs.Request.{Selection};
 ghost use Rattle.rules.specs.Answer.{entryLines};
-ghost use Rattle.tables.specs.Book.{width, entries, schema};
+ghost use Rattle.tables.specs.Book.{width, entryCount, schema};
 ghost use Rattle.tables.specs.World.{Entries, Listed, World, Known};
 ghost use Rattle.answer_line.specs.Emit.{Emits};
 ghost use Rattle.answer_line.specs.Room.{answerRoom, lineRoom, foundRoom};
@@ -29,7 +29,7 @@ pub(crate) fn emit_children(
     d: &[u8],
     hits: &[usize],
 ) -> usize
-    requires { ⌜ Listed (now d) (now book) × (at + 256 * lineRoom ≤ answerRoom) × (length (now hits) ≤ 256) × ((i : ℕ) → i < length (now hits) → getD (now hits) i 0 < entries (now book)) ⌝ }
+    requires { ⌜ Listed (now d) (now book) × (at + 256 * lineRoom ≤ answerRoom) × (length (now hits) ≤ 256) × ((i : ℕ) → i < length (now hits) → getD (now hits) i 0 < entryCount (now book)) ⌝ }
     ensures { λ r. ⌜ ((σ : Setting) (es : List Stored) (held : List ℕ) → Entries σ es (now (d .entry)) (now (book .entry)) held → Emits (width (now (book .entry))) (now (out .entry)) at (gather (childLines es) (now (hits .entry))) (now (out .exit)) r) ⌝ }
 {
     let mut next = at;
@@ -54,7 +54,7 @@ pub(crate) fn emit_found(
     name: usize,
     e: usize,
 ) -> usize
-    requires { ⌜ Known (now d) (now p) (now book) (now held) (now sets) × (at + foundRoom ≤ answerRoom) × (name ≤ entries (now book)) × (e ≤ entries (now book)) × KnownChoice (schema (now book)) choice ⌝ }
+    requires { ⌜ Known (now d) (now p) (now book) (now held) (now sets) × (at + foundRoom ≤ answerRoom) × (name ≤ entryCount (now book)) × (e ≤ entryCount (now book)) × KnownChoice (schema (now book)) choice ⌝ }
     ensures { λ r. ⌜ (r ≤ at + foundRoom) × ((σ : Setting) (es : List Stored) (s : Selection) → World σ es (now (d .entry)) (now (p .entry)) (now (book .entry)) (now (held .entry)) (now (sets .entry)) → Chooses (schema (now (book .entry))) s choice → Emits (width (now (book .entry))) (now (out .entry)) at (entryLines (nameAt es name) ++ informationAt σ es s e) (now (out .exit)) r) ⌝ }
 {
     let next = emit_entry(out, at, book, d, name);
@@ -73,7 +73,7 @@ pub(crate) fn emit_matches(
     choice: Choice,
     hits: &[usize],
 ) -> usize
-    requires { ⌜ Known (now d) (now p) (now book) (now held) (now sets) × (at + 256 * foundRoom ≤ answerRoom) × (length (now hits) ≤ 256) × ((i : ℕ) → i < length (now hits) → getD (now hits) i 0 < entries (now book)) × KnownChoice (schema (now book)) choice ⌝ }
+    requires { ⌜ Known (now d) (now p) (now book) (now held) (now sets) × (at + 256 * foundRoom ≤ answerRoom) × (length (now hits) ≤ 256) × ((i : ℕ) → i < length (now hits) → getD (now hits) i 0 < entryCount (now book)) × KnownChoice (schema (now book)) choice ⌝ }
     ensures { λ r. ⌜ ((σ : Setting) (es : List Stored) (s : Selection) → World σ es (now (d .entry)) (now (p .entry)) (now (book .entry)) (now (held .entry)) (now (sets .entry)) → Chooses (schema (now (book .entry))) s choice → Emits (width (now (book .entry))) (now (out .entry)) at (gather (foundLines σ es s) (now (hits .entry))) (now (out .exit)) r) ⌝ }
 {
     let mut next = at;

@@ -65,7 +65,7 @@ fn emit_success(
     hits: &[usize; 256],
     choice: Choice,
 ) -> usize
-    requires { ⌜ Known (now d) (now p) (now book) (now held) (now sets) × SoundPlan (Book.entries (now book)) plan (now hits) × (at + 256 * foundRoom ≤ answerRoom) × KnownChoice (Book.schema (now book)) choice ⌝ }
+    requires { ⌜ Known (now d) (now p) (now book) (now held) (now sets) × SoundPlan (Book.entryCount (now book)) plan (now hits) × (at + 256 * foundRoom ≤ answerRoom) × KnownChoice (Book.schema (now book)) choice ⌝ }
     ensures { λ r. ⌜ ((σ : Setting) (es : List Stored) (s : Selection) → World σ es (now (d .entry)) (now (p .entry)) (now (book .entry)) (now (held .entry)) (now (sets .entry)) → Chooses (Book.schema (now (book .entry))) s choice → Emits (width (now (book .entry))) (now (out .entry)) at (successLines σ es s plan (now (hits .entry))) (now (out .exit)) r) ⌝ }
 {
     if plan.operation == operation::READ {
@@ -106,7 +106,7 @@ pub fn print(
     hits: &[usize; 256],
     choice: Choice,
 ) -> usize
-    requires { ⌜ Known (now d) (now p) (now book) (now held) (now sets) × SoundPlan (Book.entries (now book)) plan (now hits) × KnownChoice (Book.schema (now book)) choice ⌝ }
+    requires { ⌜ Known (now d) (now p) (now book) (now held) (now sets) × SoundPlan (Book.entryCount (now book)) plan (now hits) × KnownChoice (Book.schema (now book)) choice ⌝ }
     ensures { λ r. ⌜ ((σ : Setting) (es : List Stored) (s : Selection) → World σ es (now (d .entry)) (now (p .entry)) (now (book .entry)) (now (held .entry)) (now (sets .entry)) → Chooses (Book.schema (now (book .entry))) s choice → Emits (width (now (book .entry))) (now (out .entry)) 0 (planned σ es s plan (now (hits .entry))) (now (out .exit)) r) ⌝ }
 {
     let w = book[WIDTH] as usize;
@@ -143,7 +143,7 @@ pub fn write(
     hits: &[usize; 256],
     choice: Choice,
 ) -> Reply
-    requires { ⌜ Known (now d) (now p) (now book) (now held) (now sets) × SoundPlan (Book.entries (now book)) plan (now hits) × KnownChoice (Book.schema (now book)) choice ⌝ }
+    requires { ⌜ Known (now d) (now p) (now book) (now held) (now sets) × SoundPlan (Book.entryCount (now book)) plan (now hits) × KnownChoice (Book.schema (now book)) choice ⌝ }
     ensures { λ r. ⌜ ((σ : Setting) (es : List Stored) (s : Selection) → World σ es (now (d .entry)) (now (p .entry)) (now (book .entry)) (now (held .entry)) (now (sets .entry)) → Chooses (Book.schema (now (book .entry))) s choice → Replies (fitting (length (now (out .entry))) (Sheet.print (width (now (book .entry))) (planned σ es s plan (now (hits .entry))))) (now (out .entry)) r (now (out .exit))) ⌝ }
 {
     let n = print(&mut out[0..0], book, held, sets, d, p, plan, hits, choice);

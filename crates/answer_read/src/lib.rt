@@ -2,7 +2,7 @@
 use access_may::may_entry;
 use access_may::may_type;
 use access_may::may_value;
-use answer_entry::Target;
+use answer_entry::Sought;
 use answer_entry::opening;
 use answer_entry::withheld;
 use rules::Found;
@@ -31,14 +31,13 @@ ghost use Rattle.rules.specs.Lists.{any};
 ghost use Rattle.rules.specs.Sheet.{Bytes};
 ghost use Rattle.rules.specs.Name.{part, Name};
 ghost use Rattle.rules.specs.Directory.{Stored, blank, entryOf};
-ghost use Rattle.rules.specs.Permission.{DiscloseOnError};
 ghost use Rattle.rules.specs.Decision.{Setting};
 ghost use Rattle.rules.specs.Request.{Selection};
 ghost use Rattle.rules.specs.Request as Request;
 ghost use Rattle.rules.specs.Answer as Answer;
 ghost use Rattle.rules.specs.declared.Found.{Found};
 ghost use Rattle.rules.specs.declared.Found.the-variants.{At};
-ghost use Rattle.tables.specs.Book.{entries, schema, firstAt};
+ghost use Rattle.tables.specs.Book.{entryCount, schema, firstAt};
 ghost use Rattle.tables.specs.Held.{rankAt, bytesAt, typeAt};
 ghost use Rattle.tables.specs.World.{World, Known};
 ghost use Rattle.tables.specs.Choice.{Chooses, KnownChoice, KnownChoiceAt};
@@ -57,7 +56,7 @@ fn readable_row(
     k: usize,
     i: usize,
 ) -> bool
-    requires { ⌜ Known (now d) (now p) (now book) (now held) (now sets) × (k < entries (now book)) × (firstAt (now book) k ≤ i) × (i < firstAt (now book) (suc k)) × KnownChoice (schema (now book)) choice ⌝ }
+    requires { ⌜ Known (now d) (now p) (now book) (now held) (now sets) × (k < entryCount (now book)) × (firstAt (now book) k ≤ i) × (i < firstAt (now book) (suc k)) × KnownChoice (schema (now book)) choice ⌝ }
     ensures { λ r. ⌜ ((σ : Setting) (es : List Stored) (s : Selection) → World σ es (now (d .entry)) (now (p .entry)) (now (book .entry)) (now (held .entry)) (now (sets .entry)) → Chooses (schema (now (book .entry))) s choice → r ≡ readable σ s (getD es k blank .name) (part (typeAt (schema (now (book .entry))) (rankAt (now (held .entry)) i)) (bytesAt (now (d .entry)) (now (held .entry)) i))) ⌝ }
 {
     let rank = held[i] as usize;
@@ -83,7 +82,7 @@ fn readable_any(
     choice: Choice,
     k: usize,
 ) -> bool
-    requires { ⌜ Known (now d) (now p) (now book) (now held) (now sets) × (k < entries (now book)) × KnownChoice (schema (now book)) choice ⌝ }
+    requires { ⌜ Known (now d) (now p) (now book) (now held) (now sets) × (k < entryCount (now book)) × KnownChoice (schema (now book)) choice ⌝ }
     ensures { λ r. ⌜ ((σ : Setting) (es : List Stored) (s : Selection) → World σ es (now (d .entry)) (now (p .entry)) (now (book .entry)) (now (held .entry)) (now (sets .entry)) → Chooses (schema (now (book .entry))) s choice → r ≡ any (readable σ s (getD es k blank .name)) (getD es k blank .values)) ⌝ }
 {
     let end = book[FIRST + 1 + k] as usize;
@@ -116,7 +115,7 @@ fn discloses(
     choice: Choice,
     k: usize,
 ) -> bool
-    requires { ⌜ ((d p : Bytes) × Known d p (now book) (now held) (now sets)) × (k < entries (now book)) × KnownChoice (schema (now book)) choice ⌝ }
+    requires { ⌜ ((d p : Bytes) × Known d p (now book) (now held) (now sets)) × (k < entryCount (now book)) × KnownChoice (schema (now book)) choice ⌝ }
     ensures { λ r. ⌜ ((σ : Setting) (es : List Stored) (s : Selection) (d p : Bytes) → World σ es d p (now (book .entry)) (now (held .entry)) (now (sets .entry)) → Chooses (schema (now (book .entry))) s choice → r ≡ any (λ v. disclosing σ s (getD es k blank .name) (v .type)) (getD es k blank .values)) ⌝ }
 {
     let end = book[FIRST + 1 + k] as usize;
@@ -141,7 +140,7 @@ fn outcome_of(
     choice: Choice,
     k: usize,
 ) -> Outcome
-    requires { ⌜ Known (now d) (now p) (now book) (now held) (now sets) × (k < entries (now book)) × KnownChoice (schema (now book)) choice ⌝ }
+    requires { ⌜ Known (now d) (now p) (now book) (now held) (now sets) × (k < entryCount (now book)) × KnownChoice (schema (now book)) choice ⌝ }
     ensures { λ r. ⌜ ((σ : Setting) (es : List Stored) (s : Selection) → World σ es (now (d .entry)) (now (p .entry)) (now (book .entry)) (now (held .entry)) (now (sets .entry)) → Chooses (schema (now (book .entry))) s choice → r ≡ readOutcome σ s (entryOf (getD es k blank))) ⌝ }
 {
     if choice.nothing {
@@ -193,8 +192,8 @@ fn read_open(
     choice: Choice,
     k: usize,
 ) -> Plan
-    requires { ⌜ Known (now d) (now p) (now book) (now held) (now sets) × (k < entries (now book)) × KnownChoice (schema (now book)) choice ⌝ }
-    ensures { λ r. ⌜ ((hits : List ℕ) → SoundPlan (entries (now (book .entry))) r hits) × ((σ : Setting) (es : List Stored) (s : Selection) (hits : List ℕ) → World σ es (now (d .entry)) (now (p .entry)) (now (book .entry)) (now (held .entry)) (now (sets .entry)) → Chooses (schema (now (book .entry))) s choice → planned σ es s r hits ≡ Answer.readEntry σ s (entryOf (getD es k blank))) ⌝ }
+    requires { ⌜ Known (now d) (now p) (now book) (now held) (now sets) × (k < entryCount (now book)) × KnownChoice (schema (now book)) choice ⌝ }
+    ensures { λ r. ⌜ ((hits : List ℕ) → SoundPlan (entryCount (now (book .entry))) r hits) × ((σ : Setting) (es : List Stored) (s : Selection) (hits : List ℕ) → World σ es (now (d .entry)) (now (p .entry)) (now (book .entry)) (now (held .entry)) (now (sets .entry)) → Chooses (schema (now (book .entry))) s choice → planned σ es s r hits ≡ Answer.readEntry σ s (entryOf (getD es k blank))) ⌝ }
 {
     let outcome = outcome_of(book, held, sets, d, p, choice, k);
     if !is_result(outcome) {
@@ -215,7 +214,7 @@ fn read_entry(
     missing: usize,
 ) -> Plan
     requires { ⌜ KnownBase (now d) (now p) (now book) (now held) (now sets) (At b) missing × KnownChoice (schema (now book)) choice ⌝ }
-    ensures { λ r. ⌜ ((hits : List ℕ) → SoundPlan (entries (now (book .entry))) r hits) × ((σ : Setting) (es : List Stored) (n : Name) (s : Selection) (hits : List ℕ) → World σ es (now (d .entry)) (now (p .entry)) (now (book .entry)) (now (held .entry)) (now (sets .entry)) → Chooses (schema (now (book .entry))) s choice → Base σ es n (At b) missing → planned σ es s r hits ≡ Answer.answer σ (map entryOf es) (aliasesOf σ es) n (Request.read s)) ⌝ }
+    ensures { λ r. ⌜ ((hits : List ℕ) → SoundPlan (entryCount (now (book .entry))) r hits) × ((σ : Setting) (es : List Stored) (n : Name) (s : Selection) (hits : List ℕ) → World σ es (now (d .entry)) (now (p .entry)) (now (book .entry)) (now (held .entry)) (now (sets .entry)) → Chooses (schema (now (book .entry))) s choice → Base σ es n (At b) missing → planned σ es s r hits ≡ Answer.answer σ (map entryOf es) (aliasesOf σ es) n (Request.read s)) ⌝ }
 {
     let opened = opening(sets, b, READ);
     if !is_result(opened) {
@@ -235,14 +234,14 @@ pub fn read(
     d: &[u8],
     p: &[u8],
     choice: Choice,
-    target: Target,
+    sought: Sought,
 ) -> Plan
-    requires { ⌜ KnownBase (now d) (now p) (now book) (now held) (now sets) (target .base) (target .missing) × KnownChoice (schema (now book)) choice ⌝ }
-    ensures { λ r. ⌜ ((hits : List ℕ) → SoundPlan (entries (now (book .entry))) r hits) × ((σ : Setting) (es : List Stored) (n : Name) (s : Selection) (hits : List ℕ) → World σ es (now (d .entry)) (now (p .entry)) (now (book .entry)) (now (held .entry)) (now (sets .entry)) → Chooses (schema (now (book .entry))) s choice → Base σ es n (target .base) (target .missing) → planned σ es s r hits ≡ Answer.answer σ (map entryOf es) (aliasesOf σ es) n (Request.read s)) ⌝ }
+    requires { ⌜ KnownBase (now d) (now p) (now book) (now held) (now sets) (sought .base) (sought .missing) × KnownChoice (schema (now book)) choice ⌝ }
+    ensures { λ r. ⌜ ((hits : List ℕ) → SoundPlan (entryCount (now (book .entry))) r hits) × ((σ : Setting) (es : List Stored) (n : Name) (s : Selection) (hits : List ℕ) → World σ es (now (d .entry)) (now (p .entry)) (now (book .entry)) (now (held .entry)) (now (sets .entry)) → Chooses (schema (now (book .entry))) s choice → Base σ es n (sought .base) (sought .missing) → planned σ es s r hits ≡ Answer.answer σ (map entryOf es) (aliasesOf σ es) n (Request.read s)) ⌝ }
 {
-    let base = target.base;
+    let base = sought.base;
     match base {
-        Found::At(b) => read_entry(book, held, sets, d, p, choice, b, target.missing),
-        Found::Nothing => absent(operation::READ, target.missing),
+        Found::At(b) => read_entry(book, held, sets, d, p, choice, b, sought.missing),
+        Found::Nothing => absent(operation::READ, sought.missing),
     }
 }

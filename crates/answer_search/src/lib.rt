@@ -2,7 +2,7 @@
 // permissions on the entry, as `matches` demands.
 use access_may::may_entry;
 use answer_arrange::arrange;
-use answer_entry::Target;
+use answer_entry::Sought;
 use answer_entry::returnable;
 use answer_entry::returned;
 use directory_lookup::climb::climbs;
@@ -39,10 +39,10 @@ ghost use Rattle.rules.specs.Judge.{Grammar};
 ghost use Rattle.rules.specs.Request as Request;
 ghost use Rattle.rules.specs.Request.{Search};
 ghost use Rattle.rules.specs.Places.{orderingBy};
-ghost use Rattle.rules.specs.Laws.Each.{Each};
+ghost use Rattle.rules.specs.Derived.{Each};
 ghost use Rattle.rules.specs.Answer.{answer};
 ghost use Rattle.tables.specs.Numbers.{withinNumber};
-ghost use Rattle.tables.specs.Book.{width, entries};
+ghost use Rattle.tables.specs.Book.{width, entryCount};
 ghost use Rattle.tables.specs.Book as Book;
 ghost use Rattle.tables.specs.World.{World, Known, Entries};
 ghost use Rattle.tables.specs.Plan.{aliasesOf, planned};
@@ -69,7 +69,7 @@ pub struct Query {
 
 // Is the entry of index `k` in the subset of base number `b`?
 fn within(book: &[u64; BOOK], b: usize, subset: u64, k: usize) -> bool
-    requires { ⌜ (k < entries (now book)) × ((σ : Setting) × (es : List Stored) × (d : Bytes) × (held : List ℕ) × Entries σ es d (now book) held) ⌝ }
+    requires { ⌜ (k < entryCount (now book)) × ((σ : Setting) × (es : List Stored) × (d : Bytes) × (held : List ℕ) × Entries σ es d (now book) held) ⌝ }
     ensures { λ r. ⌜ ((σ : Setting) (es : List Stored) (d : Bytes) (held : List ℕ) → Entries σ es d (now (book .entry)) held → r ≡ withinNumber es subset b (suc k)) ⌝ }
 {
     if subset == BASE {
@@ -93,7 +93,7 @@ fn found_at(
     extent: Extent,
     k: usize,
 ) -> bool
-    requires { ⌜ Searched (now d) (now p) (now book) (now held) (now sets) extent × (k < entries (now book)) × LinesNoted (width (now book)) (now q) (now rows) (extent .lines) × Typed (Book.schema (now book)) (now rows) (extent .lines) × Masks (now rows) (extent .lines) (extent .ranks) × KnownFilter (width (now book)) (now q) (positionAt (now rows) 0) ⌝ }
+    requires { ⌜ Searched (now d) (now p) (now book) (now held) (now sets) extent × (k < entryCount (now book)) × LinesNoted (width (now book)) (now q) (now rows) (extent .lines) × Typed (Book.schema (now book)) (now rows) (extent .lines) × Masks (now rows) (extent .lines) (extent .ranks) × KnownFilter (width (now book)) (now q) (positionAt (now rows) 0) ⌝ }
     ensures { λ r. ⌜ ((σ : Setting) (es : List Stored) (g : Grammar) (f : Filter) → World σ es (now (d .entry)) (now (p .entry)) (now (book .entry)) (now (held .entry)) (now (sets .entry)) → FilterAt g (width (now (book .entry))) (now (q .entry)) (positionAt (now (rows .entry)) 0) f → r ≡ foundAt σ es (extent .base) (extent .subset) (extent .edition) f k) ⌝ }
 {
     if !within(book, extent.base, extent.subset, k) {
@@ -118,7 +118,7 @@ fn found(
     hits: &mut [usize; 256],
 ) -> usize
     requires { ⌜ Searched (now d) (now p) (now book) (now held) (now sets) extent × (length (now hits) ≡ 256) × LinesNoted (width (now book)) (now q) (now rows) (extent .lines) × Typed (Book.schema (now book)) (now rows) (extent .lines) × Masks (now rows) (extent .lines) (extent .ranks) × KnownFilter (width (now book)) (now q) (positionAt (now rows) 0) ⌝ }
-    ensures { λ n. ⌜ Indices (entries (now (book .entry))) n (now (hits .entry)) (now (hits .exit)) × ((σ : Setting) (es : List Stored) (g : Grammar) (f : Filter) → World σ es (now (d .entry)) (now (p .entry)) (now (book .entry)) (now (held .entry)) (now (sets .entry)) → FilterAt g (width (now (book .entry))) (now (q .entry)) (positionAt (now (rows .entry)) 0) f → take n (now (hits .exit)) ≡ passing (foundAt σ es (extent .base) (extent .subset) (extent .edition) f) (length es)) ⌝ }
+    ensures { λ n. ⌜ Indices (entryCount (now (book .entry))) n (now (hits .entry)) (now (hits .exit)) × ((σ : Setting) (es : List Stored) (g : Grammar) (f : Filter) → World σ es (now (d .entry)) (now (p .entry)) (now (book .entry)) (now (held .entry)) (now (sets .entry)) → FilterAt g (width (now (book .entry))) (now (q .entry)) (positionAt (now (rows .entry)) 0) f → take n (now (hits .exit)) ≡ passing (foundAt σ es (extent .base) (extent .subset) (extent .edition) f) (length es)) ⌝ }
 {
     let count = book[ENTRIES] as usize;
     let mut n: usize = 0;
@@ -144,7 +144,7 @@ fn in_order(
     hits: &mut [usize],
     n: usize,
 )
-    requires { ⌜ Known (now d) (now p) (now book) (now held) (now sets) × (n ≤ length (now hits)) × Each (λ k. k < entries (now book)) (take n (now hits)) ⌝ }
+    requires { ⌜ Known (now d) (now p) (now book) (now held) (now sets) × (n ≤ length (now hits)) × Each (λ k. k < entryCount (now book)) (take n (now hits)) ⌝ }
     ensures { λ _. ⌜ ((σ : Setting) (es : List Stored) → World σ es (now (d .entry)) (now (p .entry)) (now (book .entry)) (now (held .entry)) (now (sets .entry)) → now (hits .exit) ≡ arrangedAt σ es (orderingBy (query .«order_type») (query .falling)) (take n (now (hits .entry))) ++ drop n (now (hits .entry))) ⌝ }
 {
     arrange(
@@ -167,16 +167,16 @@ pub fn search(
     d: &[u8],
     p: &[u8],
     q: &[u8],
-    target: Target,
+    sought: Sought,
     query: Query,
     hits: &mut [usize; 256],
 ) -> Plan
-    requires { ⌜ KnownBase (now d) (now p) (now book) (now held) (now sets) (target .base) (target .missing) × (length (now hits) ≡ 256) × (length (now q) ≤ (5 * width (now book) + 1) * LINES) × KnownQuery (width (now book)) (now q) query ⌝ }
-    ensures { λ r. ⌜ SoundPlan (entries (now (book .entry))) r (now (hits .exit)) × ((σ : Setting) (es : List Stored) (g : Grammar) (n : Name) (s : Search) → World σ es (now (d .entry)) (now (p .entry)) (now (book .entry)) (now (held .entry)) (now (sets .entry)) → Base σ es n (target .base) (target .missing) → Seeks g (width (now (book .entry))) (now (q .entry)) s query → planned σ es (s .selection) r (now (hits .exit)) ≡ answer σ (map entryOf es) (aliasesOf σ es) n (Request.search s)) × ((σ : Setting) (es : List Stored) (g : Grammar) (s : Search) → World σ es (now (d .entry)) (now (p .entry)) (now (book .entry)) (now (held .entry)) (now (sets .entry)) → Seeks g (width (now (book .entry))) (now (q .entry)) s query → now (hits .exit) ≡ over (searchFound σ es s (target .base)) (now (hits .entry))) ⌝ }
+    requires { ⌜ KnownBase (now d) (now p) (now book) (now held) (now sets) (sought .base) (sought .missing) × (length (now hits) ≡ 256) × (length (now q) ≤ (5 * width (now book) + 1) * LINES) × KnownQuery (width (now book)) (now q) query ⌝ }
+    ensures { λ r. ⌜ SoundPlan (entryCount (now (book .entry))) r (now (hits .exit)) × ((σ : Setting) (es : List Stored) (g : Grammar) (n : Name) (s : Search) → World σ es (now (d .entry)) (now (p .entry)) (now (book .entry)) (now (held .entry)) (now (sets .entry)) → Base σ es n (sought .base) (sought .missing) → Seeks g (width (now (book .entry))) (now (q .entry)) s query → planned σ es (s .selection) r (now (hits .exit)) ≡ answer σ (map entryOf es) (aliasesOf σ es) n (Request.search s)) × ((σ : Setting) (es : List Stored) (g : Grammar) (s : Search) → World σ es (now (d .entry)) (now (p .entry)) (now (book .entry)) (now (held .entry)) (now (sets .entry)) → Seeks g (width (now (book .entry))) (now (q .entry)) s query → now (hits .exit) ≡ over (searchFound σ es s (sought .base)) (now (hits .entry))) ⌝ }
 {
-    let base = target.base;
+    let base = sought.base;
     let Found::At(b) = base else {
-        return absent(operation::SEARCH, target.missing);
+        return absent(operation::SEARCH, sought.missing);
     };
     let mut rows: [u64; FILTER] = [0; FILTER];
     let lines = note(
@@ -197,5 +197,5 @@ pub fn search(
     let count = found(book, held, sets, d, p, q, &rows, extent, hits);
     in_order(book, held, sets, d, p, query, hits, count);
     let open = may_entry(sets, b, DISCLOSE_ON_ERROR);
-    returned(operation::SEARCH, target.missing, open, query.limit, count)
+    returned(operation::SEARCH, sought.missing, open, query.limit, count)
 }

@@ -2,7 +2,7 @@
 -- give; and what is proved of these verdicts: demand 3 in either form, what #105 claims of aliases, #109 of moves and of the two forms,
 -- and #106 of the order of what a search finds.
 use mathlib.Core.Bool.{Bool}
-use Rattle.rules.specs.Sheet.{narrow, formatOf}
+use Rattle.rules.specs.Sheet.{formatOf}
 use Rattle.rules.specs.Serve.{exchange, panel}
 use Rattle.rules.specs.Theorems.{PrintedBack, RoundTrip, MovedAccepted, BackAgain, FormsAlike, ResolvedAlike, LongAbsent, Permuted, InOrder, Stable, SmallestKey}
 use Rattle.rules.specs.Laws.Theorems.{printed-back, round-trip, moved-accepted, back-again, forms-alike, resolved-alike, long-absent, permuted, in-order, stable, smallest-key}

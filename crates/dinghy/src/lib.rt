@@ -7,7 +7,7 @@ use engine::Terms;
 use rules::Limits;
 ghost use mathlib.Core.Path.{_≡_};
 ghost use lib.ListN.{length};
-ghost use Rattle.rules.specs.Sheet.{narrow, formatOf, Usable};
+ghost use Rattle.rules.specs.Sheet.{narrow, formatOf};
 ghost use Rattle.rules.specs.Serve as Rules;
 ghost use Rattle.rules.specs.Move.{widened, narrowed};
 ghost use Rattle.answer_reply.specs.Reply.{replyOf, leftOf, Replies};

@@ -2,6 +2,7 @@
 // lines of the entries begin, the book where their naming values do. Of a column no more is copied than there are types or entries.
 use directory_sheet::Notes;
 use rules::Format;
+use sheet_line::place;
 use tables::book::BOOK;
 use tables::book::ENTRIES;
 use tables::book::FIRST;
@@ -36,7 +37,7 @@ pub fn note(f: Format, notes: Notes, book: &mut [u64; BOOK])
     }
     let mut k: usize = 0;
     while k < count {
-        book[PLACE + k] = (notes.at[k] + 5 * f.width) as u64;
+        book[PLACE + k] = place(notes.at[k], f.width) as u64;
         book[PARENT + k] = notes.parents[k] as u64;
         book[NAMING + k] = notes.naming[k];
         book[LENGTH + k] = notes.lengths[k] as u64;

@@ -7,10 +7,11 @@ use lib.ListN.{length, getD}
 use Rattle.rules.specs.Sheet.{Bytes}
 use Rattle.rules.specs.Directory.{Stored, nameAt, underAlias}
 use Rattle.sheet_line.specs.declared.Line.{Line}
+use Rattle.name.specs.Schema.{rankIn}
 use Rattle.directory_schema.specs.Lines.{columnsFit}
-use Rattle.directory_ruling.specs.Mark.{Mark}
-use Rattle.directory_ruling.specs.declared.Ruling.{Ruling}
-use Rattle.directory_ruling.specs.Rulings.{refusing, ruledOf}
+use Rattle.directory_duplicates.specs.Mark.{Mark}
+use Rattle.directory_duplicates.specs.declared.Ruling.{Ruling}
+use Rattle.directory_duplicates.specs.Rulings.{refusing, ruledOf}
 
 -- how many depths are kept: of the root, which is 0, and of 256 entries
 abbrev pub depthCount : ℕ
@@ -33,6 +34,6 @@ unfoldable pub entryRuling : ℕ → List ℕ → ℕ → Bool → Line → Byte
 entryRuling top depths count lacks x s ks table ms =
     cond (columnsFit top x)
     (cond (eqb (x .kind) 2)
-    (cond (eqb (placeRefusal depths count lacks (x .a)) 0) (ruledOf (x .a) (x .b) (x .place) (x .length) s ks table ms) (refusing (placeRefusal depths count lacks (x .a))))
+    (cond (eqb (placeRefusal depths count lacks (x .a)) 0) (ruledOf (x .a) (rankIn ks (x .b)) (x .place) (x .length) s ks table ms) (refusing (placeRefusal depths count lacks (x .a))))
     (refusing 3))
     (refusing 2)

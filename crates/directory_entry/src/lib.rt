@@ -1,9 +1,9 @@
 // An entry line, K 2: its place below its parent, and the ruling on its naming value.
-use directory_ruling::Claim;
-use directory_ruling::MARKS;
-use directory_ruling::Ruling;
-use directory_ruling::refusing;
-use directory_ruling::ruled;
+use directory_duplicates::Claim;
+use directory_duplicates::MARKS;
+use directory_duplicates::Ruling;
+use directory_duplicates::refusing;
+use directory_duplicates::ruled;
 use rules::refusal;
 use sheet_form::columns::directory_columns;
 use sheet_kind::Kind;
@@ -12,7 +12,7 @@ use sheet_line::Line;
 ghost use mathlib.Core.Path.{_≡_};
 ghost use Prim.Native.Nat.{_≤_};
 ghost use lib.ListN.{length};
-ghost use Rattle.directory_ruling.specs.Rulings.{ValueSought, Decides};
+ghost use Rattle.directory_duplicates.specs.Rulings.{ValueSought, Decides};
 ghost use Rattle.directory_entry.specs.EntryLine.{depthCount, placeRefusal, entryRuling};
 
 // How many depths are kept: of the root, which is 0, and of 256 entries.
@@ -63,10 +63,9 @@ pub fn entry_line(
     if refusal != 0 {
         return refusing(refusal);
     }
-    let rank = directory_schema::rank(schema, 0, line.b);
+    let rank = name::rank(schema, 0, line.b);
     let c = Claim {
         owner: line.a as usize,
-        attribute: line.b,
         rank,
         place: line.place,
         length: line.length,

@@ -8,12 +8,12 @@ ghost use Rattle.rules.specs.Sheet.{Bytes};
 ghost use Rattle.rules.specs.Directory.{Stored};
 ghost use Rattle.rules.specs.Decision.{Setting};
 ghost use Rattle.tables.specs.Numbers as Numbers;
-ghost use Rattle.tables.specs.Book.{entries};
+ghost use Rattle.tables.specs.Book.{entryCount};
 ghost use Rattle.tables.specs.World.{Entries, Listed};
 
 // Is entry number `e` number `b` or below it?
 pub fn climbs(book: &[u64; BOOK], b: usize, e: usize) -> bool
-    requires { ⌜ ((d : Bytes) × Listed d (now book)) × (e ≤ entries (now book)) ⌝ }
+    requires { ⌜ ((d : Bytes) × Listed d (now book)) × (e ≤ entryCount (now book)) ⌝ }
     ensures { λ r. ⌜ ((σ : Setting) (es : List Stored) (d : Bytes) (held : List ℕ) → Entries σ es d (now (book .entry)) held → r ≡ Numbers.climbs es e b e) ⌝ }
 {
     let mut k = e;

@@ -23,7 +23,7 @@ ghost use Rattle.rules.specs.declared.Found.the-variants.{At};
 ghost use Rattle.sheet_line.specs.Line.{takenAt};
 ghost use Rattle.name.specs.Schema.{syntaxIn};
 ghost use Rattle.tables.specs.Book as Book;
-ghost use Rattle.tables.specs.Book.{entries, width};
+ghost use Rattle.tables.specs.Book.{entryCount, width};
 ghost use Rattle.tables.specs.World.{Entries, Listed};
 ghost use Rattle.directory_lookup.specs.Find.{UpTo, LeadsWithin, isChild, stepOf};
 
@@ -36,7 +36,7 @@ pub enum Descent {
 
 // Is the entry of index `k` the child of `parent` with the naming part `t`, `v`? The type's syntax is `s`. Numbers are compared before bytes.
 fn is_child(book: &[u64; BOOK], d: &[u8], k: usize, parent: usize, t: u64, s: u64, v: &[u8]) -> bool
-    requires { ⌜ Listed (now d) (now book) × (k < entries (now book)) ⌝ }
+    requires { ⌜ Listed (now d) (now book) × (k < entryCount (now book)) ⌝ }
     ensures { λ r. ⌜ r ≡ isChild (now (book .entry)) (now (d .entry)) k parent t s (now (v .entry)) ⌝ }
 {
     if book[PARENT + k] as usize != parent {
@@ -55,7 +55,7 @@ fn is_child(book: &[u64; BOOK], d: &[u8], k: usize, parent: usize, t: u64, s: u6
 // The number of the child of entry `parent` with the naming part `t`, `v`. The type's syntax is `s`. A child stands after its parent.
 fn child_by(book: &[u64; BOOK], d: &[u8], parent: usize, t: u64, s: u64, v: &[u8]) -> Found
     requires { ⌜ Listed (now d) (now book) × (syntaxIn (Book.schema (now book)) t ≡ At s) ⌝ }
-    ensures { λ r. ⌜ UpTo (entries (now (book .entry))) r × ((σ : Setting) (es : List Stored) (held : List ℕ) → Entries σ es (now (d .entry)) (now (book .entry)) held → r ≡ childFrom (σ .schema) parent (part t (now (v .entry))) es 0) ⌝ }
+    ensures { λ r. ⌜ UpTo (entryCount (now (book .entry))) r × ((σ : Setting) (es : List Stored) (held : List ℕ) → Entries σ es (now (d .entry)) (now (book .entry)) held → r ≡ childFrom (σ .schema) parent (part t (now (v .entry))) es 0) ⌝ }
 {
     let n = book[ENTRIES] as usize;
     let mut i = parent;
@@ -71,7 +71,7 @@ fn child_by(book: &[u64; BOOK], d: &[u8], parent: usize, t: u64, s: u64, v: &[u8
 // The number of the child of entry `parent` with the naming part `t`, `v`.
 pub fn child(book: &[u64; BOOK], d: &[u8], parent: usize, t: u64, v: &[u8]) -> Found
     requires { ⌜ Listed (now d) (now book) ⌝ }
-    ensures { λ r. ⌜ UpTo (entries (now (book .entry))) r × ((σ : Setting) (es : List Stored) (held : List ℕ) → Entries σ es (now (d .entry)) (now (book .entry)) held → r ≡ childFrom (σ .schema) parent (part t (now (v .entry))) es 0) ⌝ }
+    ensures { λ r. ⌜ UpTo (entryCount (now (book .entry))) r × ((σ : Setting) (es : List Stored) (held : List ℕ) → Entries σ es (now (d .entry)) (now (book .entry)) held → r ≡ childFrom (σ .schema) parent (part t (now (v .entry))) es 0) ⌝ }
 {
     match syntax_of(schema(book), t) {
         Found::At(s) => child_by(book, d, parent, t, s as u64, v),
@@ -82,7 +82,7 @@ pub fn child(book: &[u64; BOOK], d: &[u8], parent: usize, t: u64, v: &[u8]) -> F
 // One part down from entry `from`, by the K 9 line at position `j` of the sheet `s`.
 pub fn down(book: &[u64; BOOK], d: &[u8], from: usize, s: &[u8], j: usize) -> Descent
     requires { ⌜ Listed (now d) (now book) ⌝ }
-    ensures { λ r. ⌜ LeadsWithin (entries (now (book .entry))) r × ((σ : Setting) (es : List Stored) (held : List ℕ) → Entries σ es (now (d .entry)) (now (book .entry)) held → r ≡ stepOf (σ .schema) es from (now (s .entry)) (takenAt (width (now (book .entry))) (now (s .entry)) j)) ⌝ }
+    ensures { λ r. ⌜ LeadsWithin (entryCount (now (book .entry))) r × ((σ : Setting) (es : List Stored) (held : List ℕ) → Entries σ es (now (d .entry)) (now (book .entry)) held → r ≡ stepOf (σ .schema) es from (now (s .entry)) (takenAt (width (now (book .entry))) (now (s .entry)) j)) ⌝ }
 {
     match sheet_line::take(s, j, book[WIDTH] as usize) {
         Taken::Line(x) => match child(book, d, from, x.a, sheet_line::bytes(s, x)) {
@@ -100,7 +100,7 @@ pub fn down(book: &[u64; BOOK], d: &[u8], from: usize, s: &[u8], j: usize) -> De
 // The number of the entry named by the `n` K 9 lines at position `i` of the sheet `s`.
 pub fn resolve(book: &[u64; BOOK], d: &[u8], s: &[u8], i: usize, n: usize) -> Found
     requires { ⌜ Listed (now d) (now book) ⌝ }
-    ensures { λ r. ⌜ UpTo (entries (now (book .entry))) r × ((σ : Setting) (es : List Stored) (held : List ℕ) → Entries σ es (now (d .entry)) (now (book .entry)) held → r ≡ walk (σ .schema) es 0 (partsOf n (linesAt (width (now (book .entry))) (now (s .entry)) i))) ⌝ }
+    ensures { λ r. ⌜ UpTo (entryCount (now (book .entry))) r × ((σ : Setting) (es : List Stored) (held : List ℕ) → Entries σ es (now (d .entry)) (now (book .entry)) held → r ≡ walk (σ .schema) es 0 (partsOf n (linesAt (width (now (book .entry))) (now (s .entry)) i))) ⌝ }
 {
     let mut from: usize = 0;
     let mut j = i;

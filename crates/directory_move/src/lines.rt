@@ -3,10 +3,11 @@ use sheet_line::Taken;
 use sheet_line::bytes;
 use sheet_line::take;
 use sheet_write::put_numbered;
+use sheet_write::size;
 ghost use mathlib.Core.Path.{_≡_};
 ghost use Prim.Native.Nat.{_≤_};
 ghost use lib.ListN.{length};
-ghost use Rattle.sheet_write.specs.Put.{putAt};
+ghost use Rattle.rules.specs.Derived.{putAt};
 ghost use Rattle.directory_move.specs.Rewritten.{rewrittenFrom};
 
 // How many bytes the lines of width `w` take in the width `v`.
@@ -19,7 +20,7 @@ pub(crate) fn measured(s: &[u8], w: usize, v: usize) -> usize
     loop {
         match take(s, at, w) {
             Taken::Line(line) => {
-                n += 5 * v + 1 + line.length;
+                n += size(v, line.length);
                 at = line.next;
             }
             Taken::NotInForm => return n,

@@ -1,4 +1,3 @@
 pub mod Lines
 pub mod Types
-pub mod Schema
 pub mod Zeros

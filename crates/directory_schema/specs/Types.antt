@@ -14,8 +14,8 @@ use Rattle.rules.specs.Places.{schemaOf}
 use Rattle.sheet_line.specs.declared.Line.{Line}
 use Rattle.sheet_line.specs.declared.Taken.the-variants as Taken
 use Rattle.sheet_line.specs.Line.{takenAt}
+use Rattle.name.specs.Schema.{Rising}
 use Rattle.directory_schema.specs.Lines.{Passes, columnsFit, Other}
-use Rattle.directory_schema.specs.Schema.{Rising}
 use Rattle.directory_schema.specs.Zeros.{ZerosFrom}
 use Rattle.directory_schema.specs.declared.TypeLines.{TypeLines}
 

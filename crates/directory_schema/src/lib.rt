@@ -1,4 +1,4 @@
-// The schema: the K 1 lines, noted as one number for each attribute type (its number times 4, and its syntax), and looked up.
+// The schema: the K 1 lines, noted as one number for each attribute type: its number times 4, and its syntax.
 use rules::Format;
 use rules::refusal;
 use sheet_form::columns::directory_columns;
@@ -7,11 +7,7 @@ use sheet_kind::is;
 use sheet_line::Line;
 use sheet_line::Taken;
 ghost use mathlib.Core.Path.{_≡_};
-ghost use Prim.Native.Nat.{_≤_};
 ghost use Rattle.rules.specs.Sheet.{Usable};
-ghost use Rattle.rules.specs.Name as Name;
-ghost use Rattle.rules.specs.Places.{schemaOf};
-ghost use Rattle.directory_schema.specs.Schema.{rankOf, Rising};
 ghost use Rattle.directory_schema.specs.Types.{typeRefusal, typesRefused, TypesJudged};
 
 // How the K 1 lines ended: the refusal or 0, how many there are, their numbers, and what stands after them, with its position.
@@ -21,36 +17,6 @@ pub struct TypeLines {
     pub schema: [u64; 64],
     pub at: usize,
     pub taken: Taken,
-}
-
-// How many types of the schema are below `t`, of which at least `from` are.
-pub fn rank(schema: &[u64], from: usize, t: u64) -> usize
-    requires { ⌜ from ≤ rankOf (now schema) t ⌝ }
-    ensures { λ r. ⌜ r ≡ rankOf (now (schema .entry)) t ⌝ }
-{
-    let mut i = from;
-    while i < schema.len() {
-        if t <= schema[i] / 4 {
-            return i;
-        }
-        i += 1;
-    }
-    i
-}
-
-// Whether the schema allows the value of the type `t`, of this rank.
-pub fn allowed(schema: &[u64], rank: usize, t: u64, v: &[u8]) -> bool
-    requires { ⌜ (rank ≡ rankOf (now schema) t) × Rising 0 (now schema) ⌝ }
-    ensures { λ r. ⌜ r ≡ Name.allowed (schemaOf (now (schema .entry))) t (now (v .entry)) ⌝ }
-{
-    if rank == schema.len() {
-        return false;
-    }
-    let k = schema[rank];
-    if k / 4 != t {
-        return false;
-    }
-    value_syntax::fits(k % 4, v)
 }
 
 // A K 1 line after `n` types, of which the last has the number `last`, where `top` is the highest type: its refusal, or 0.

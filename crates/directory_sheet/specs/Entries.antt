@@ -12,7 +12,7 @@ use Rattle.sheet_line.specs.declared.Taken.{Taken}
 use Rattle.sheet_line.specs.declared.Taken.the-variants as Taken
 use Rattle.sheet_line.specs.Line.{takenAt}
 use Rattle.directory_schema.specs.Lines.{judgedFrom, Other}
-use Rattle.directory_schema.specs.Schema.{Rising}
+use Rattle.name.specs.Schema.{Rising}
 use Rattle.directory_schema.specs.Types.{typed}
 use Rattle.tables.specs.Book.{FIRST-ROWS}
 use Rattle.tables.specs.Held.{noneHeld}

@@ -10,7 +10,7 @@ use Rattle.rules.specs.Judge.{accept, refuse, refusalOf}
 use Rattle.rules.specs.Directory.{Stored, blank, isAlias, Directory, directoryOf}
 use Rattle.rules.specs.Places.{schemaOf, linesAt, valuesOf}
 use Rattle.rules.specs.declared.Front.the-variants.{Taken}
-use Rattle.directory_schema.specs.Schema.{Rising}
+use Rattle.name.specs.Schema.{Rising}
 use Rattle.directory_schema.specs.Zeros.{ZerosFrom}
 use Rattle.tables.specs.Book.{FIRST-ROWS}
 use Rattle.tables.specs.Held.{ROWS, HELD, noneHeld, HeldAt}

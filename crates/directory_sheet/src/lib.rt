@@ -1,8 +1,8 @@
 // The directory sheet judged line by line: the refusal that the rules give, or 0 with what later steps need of the sheet,
 // noted on the way: the schema as numbers, each entry line's position, parent, naming type and length, the values that each entry holds, and
 // where the target of an alias stands.
+use directory_duplicates::MARKS;
 use directory_entry::DEPTHS;
-use directory_ruling::MARKS;
 use rules::Format;
 use rules::refusal;
 use sheet_line::Taken;
@@ -117,7 +117,7 @@ fn entries(
         if x.refusal != 0 {
             return refused(x.refusal, held);
         }
-        directory_ruling::note(&mut marks, n, x);
+        directory_duplicates::note(&mut marks, n, x);
         let e = directory_values::Current {
             number: count + 1,
             line,
@@ -129,14 +129,14 @@ fn entries(
         }
         let alias = line.c == 1;
         let next = run.taken;
-        let last = directory_target::Last {
+        let last = directory_alias::Last {
             number: count + 1,
             alias,
             lacks: !run.found,
             at: run.at,
             taken: next,
         };
-        let t = directory_target::target(s, f, schema, last);
+        let t = directory_alias::target(s, f, schema, last);
         if t.refusal != 0 {
             return refused(t.refusal, held);
         }

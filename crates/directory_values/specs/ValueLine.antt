@@ -7,16 +7,17 @@ use Rattle.rules.specs.Sheet.{Bytes}
 use Rattle.rules.specs.Name.{Part, part}
 use Rattle.sheet_line.specs.declared.Line.{Line}
 use Rattle.sheet_line.specs.Line.{bytesOf}
+use Rattle.name.specs.Schema.{rankIn}
 use Rattle.directory_schema.specs.Lines.{columnsFit}
-use Rattle.directory_ruling.specs.Mark.{Mark}
-use Rattle.directory_ruling.specs.Twins.{ownerOf}
-use Rattle.directory_ruling.specs.declared.Ruling.{Ruling}
-use Rattle.directory_ruling.specs.Rulings.{refusing, ruledOf}
+use Rattle.directory_duplicates.specs.Mark.{Mark}
+use Rattle.directory_duplicates.specs.Twins.{ownerOf}
+use Rattle.directory_duplicates.specs.declared.Ruling.{Ruling}
+use Rattle.directory_duplicates.specs.Rulings.{refusing, ruledOf}
 
 -- a value line of entry `number`, after a value of type `last`, where `top` is the highest type
 unfoldable pub valueRuling : ℕ → ℕ → ℕ → Line → Bytes → List ℕ → List ℕ → List Mark → Ruling
 valueRuling top number last x s ks table ms =
-    cond (columnsFit top x) (cond (ltb (x .a) last) (refusing 3) (ruledOf (ownerOf number) (x .a) (x .place) (x .length) s ks table ms)) (refusing 2)
+    cond (columnsFit top x) (cond (ltb (x .a) last) (refusing 3) (ruledOf (ownerOf number) (rankIn ks (x .a)) (x .place) (x .length) s ks table ms)) (refusing 2)
 
 -- the value that a line brings
 abbrev pub broughtBy : Bytes → Line → Part

@@ -15,12 +15,12 @@ use Rattle.rules.specs.Places.{linesAt, valuesOf, schemaOf}
 use Rattle.sheet_line.specs.declared.Line.{Line}
 use Rattle.sheet_line.specs.declared.Taken.the-variants as Taken
 use Rattle.sheet_line.specs.Line.{takenAt, bytesOf}
+use Rattle.name.specs.Schema.{Rising, rankIn}
 use Rattle.directory_schema.specs.Lines.{judgedFrom, Passes, Other}
-use Rattle.directory_schema.specs.Schema.{rankOf}
 use Rattle.tables.specs.Held.{HELD}
-use Rattle.directory_ruling.specs.Mark.{Mark}
-use Rattle.directory_ruling.specs.Twins.{ownerOf, Named, Valued}
-use Rattle.directory_ruling.specs.Rulings.{Ready, reading}
+use Rattle.directory_duplicates.specs.Mark.{Mark}
+use Rattle.directory_duplicates.specs.Twins.{ownerOf, Named, Valued}
+use Rattle.directory_duplicates.specs.Rulings.{Ready, reading}
 use Rattle.directory_values.specs.ValueLine.{valueRuling}
 use Rattle.directory_values.specs.Rows.{RowsWritten}
 use Rattle.directory_values.specs.declared.Current.{Current}
@@ -29,6 +29,7 @@ use Rattle.directory_values.specs.declared.ValueLines.{ValueLines}
 -- the entry `d` stands at `e`, after the entries `complete`, with `n` marks
 pub record Begun (f : Format) (s : Bytes) (ks table held : List ℕ) (n : ℕ) (e : Current) (complete : List Stored) (d : Stored) (ms : List Mark) : Type 0 where
   pub ready : Ready s ks table ms
+  pub rising : Rising 0 ks
   pub usable : Usable f
   pub count : length ms ≡ n
   pub number : e .number ≡ length (complete ++ (d ∷ []))
@@ -64,7 +65,7 @@ pub record ValuesRead (f : Format) (s : Bytes) (ks table before held : List ℕ)
   pub start : e .line .next ≤ i
   pub within : i ≤ length s
   pub newest : last ≡ (lastOr (part 0 []) vs) .type
-  pub low : from ≤ rankOf ks last
+  pub low : (t : ℕ) → last ≤ t → from ≤ rankIn ks t
   pub holds : found ≡ any (samePart (schemaOf ks) (d .naming)) vs
   pub named : Named s ks (complete ++ (d ∷ [])) ms
   pub valued : Valued s ks (ownerOf (e .number)) vs ms

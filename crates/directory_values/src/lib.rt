@@ -1,10 +1,10 @@
 // The value lines, K 3, of one entry.
-use directory_ruling::Claim;
-use directory_ruling::MARKS;
-use directory_ruling::Ruling;
-use directory_ruling::note;
-use directory_ruling::refusing;
-use directory_ruling::ruled;
+use directory_duplicates::Claim;
+use directory_duplicates::MARKS;
+use directory_duplicates::Ruling;
+use directory_duplicates::note;
+use directory_duplicates::refusing;
+use directory_duplicates::ruled;
 use rules::Format;
 use rules::refusal;
 use sheet_form::columns::value_columns;
@@ -24,9 +24,9 @@ ghost use Rattle.rules.specs.Value as Value;
 ghost use Rattle.sheet_line.specs.Line.{bytesOf};
 ghost use Rattle.sheet_kind.specs.Kinds.{numberOf};
 ghost use Rattle.sheet_kind.specs.declared.Kind.the-variants as Kinds;
-ghost use Rattle.directory_schema.specs.Schema.{rankOf};
+ghost use Rattle.name.specs.Schema.{rankIn};
 ghost use Rattle.tables.specs.Held.{ROWS, HELD};
-ghost use Rattle.directory_ruling.specs.Rulings.{ValueSought, Decides};
+ghost use Rattle.directory_duplicates.specs.Rulings.{ValueSought, Decides};
 ghost use Rattle.directory_values.specs.ValueLine.{valueRuling};
 ghost use Rattle.directory_values.specs.Rows.{written};
 ghost use Rattle.directory_values.specs.Values.{valuesRefused, ValuesAsked, ValuesAnswered};
@@ -52,7 +52,7 @@ pub struct ValueLines {
 // The first owner of values; those before it are the owners of entry lines.
 const VALUE_OWNERS: usize = 257;
 
-// A value line of entry `number`, after a value of type `last`, whose rank is at least `from`. `top` is the highest type.
+// A value line of entry `number`, after a value of type `last`, of rank `from`; 0 and 0 before the first. `top` is the highest type.
 fn value_line(
     s: &[u8],
     top: u64,
@@ -63,7 +63,7 @@ fn value_line(
     from: usize,
     line: Line,
 ) -> Ruling
-    requires { ⌜ ValueSought (now s) (now schema) (now marks) line × (number ≤ 256) × (from ≤ rankOf (now schema) last) × (line .kind ≡ numberOf Kinds.Value) ⌝ }
+    requires { ⌜ ValueSought (now s) (now schema) (now marks) line × (number ≤ 256) × (last ≤ line .a → from ≤ rankIn (now schema) (line .a)) × (line .kind ≡ numberOf Kinds.Value) ⌝ }
     ensures { λ r. ⌜ Decides (now (s .entry)) (now (schema .entry)) (now (marks .entry)) (valueRuling top number last line) r ⌝ }
 {
     if !value_columns(line, top) {
@@ -72,11 +72,10 @@ fn value_line(
     if line.a < last {
         return refusing(refusal::OUT_OF_ORDER);
     }
-    let rank = directory_schema::rank(schema, from, line.a);
+    let rank = name::rank(schema, from, line.a);
     let owner = VALUE_OWNERS + number;
     let c = Claim {
         owner,
-        attribute: line.a,
         rank,
         place: line.place,
         length: line.length,

@@ -7,7 +7,7 @@ use Rattle.rules.specs.declared.Format.{Format}
 use Rattle.rules.specs.Directory.{Directory}
 use Rattle.rules.specs.Decision.{Setting}
 use Rattle.rules.specs.Serve.{Ground}
-use Rattle.directory_schema.specs.Schema.{Rising}
+use Rattle.name.specs.Schema.{Rising}
 use Rattle.tables.specs.Book.{width, schema}
 use Rattle.tables.specs.World.{Entries}
 use Rattle.access_items.specs.Sorted.{Sorted}

@@ -6,6 +6,8 @@ use access_items::rank_items;
 use answer_reply::Reply;
 use answer_reply::refused;
 use caller::above;
+use permission_sheet::ALL_RIGHTS;
+use permission_sheet::ALL_SCOPES;
 use respond::requested;
 use rules::Format;
 use rules::Limits;
@@ -16,7 +18,6 @@ use tables::held::HELD;
 ghost use lib.ListN.{length};
 ghost use Rattle.rules.specs.Sheet.{Usable};
 ghost use Rattle.rules.specs.Directory.{Directory};
-ghost use mathlib.Core.Path.{_≡_};
 ghost use Prim.Native.Nat.{ℕ};
 ghost use Rattle.rules.specs.Serve.{judgedAt, serveAt};
 ghost use Rattle.answer_reply.specs.Reply.{Replies};
@@ -42,8 +43,8 @@ fn permitted(
     requires { ⌜ ((x : Directory) × DirectoryAt (terms .format) (now d) x (now book) (now held)) ⌝ }
     ensures { λ r. ⌜ ((x : Directory) → DirectoryAt (terms .format) (now (d .entry)) x (now (book .entry)) (now (held .entry)) → Replies (fromDirectory (terms .format) (terms .limits) x (now (p .entry)) (now (q .entry)) (length (now (out .entry)))) (now (out .entry)) r (now (out .exit))) ⌝ }
 {
-    let mut rights: [u64; 2048] = [0; 2048];
-    let mut scopes: [u64; 1792] = [0; 1792];
+    let mut rights: [u64; ALL_RIGHTS] = [0; ALL_RIGHTS];
+    let mut scopes: [u64; ALL_SCOPES] = [0; ALL_SCOPES];
     let items = permission_sheet::judge(p, terms.format, schema(book), &mut rights, &mut scopes);
     if items.refusal != 0 {
         return refused(items.refusal);

@@ -10,6 +10,8 @@ use answer_print::write;
 use answer_reply::Reply;
 use answer_reply::refused;
 use caller::within;
+use permission_sheet::ALL_RIGHTS;
+use permission_sheet::ALL_SCOPES;
 use request_sheet::Asked;
 use tables::book::BOOK;
 use tables::book::parents;
@@ -29,7 +31,7 @@ ghost use Rattle.rules.specs.Answer.{answerTo};
 ghost use Rattle.rules.specs.Serve.{Ground, fitting};
 ghost use Rattle.answer_reply.specs.Reply.{Replies};
 ghost use Rattle.request_sheet.specs.Noted.{RequestNoted};
-ghost use Rattle.directory_schema.specs.Schema.{Rising};
+ghost use Rattle.name.specs.Schema.{Rising};
 ghost use Rattle.tables.specs.Book.{width};
 ghost use Rattle.tables.specs.Book as Book;
 ghost use Rattle.tables.specs.Sets as Sets;
@@ -66,8 +68,8 @@ fn note_sets(
     d: &[u8],
     p: &[u8],
     q: &[u8],
-    rights: &[u64; 2048],
-    scopes: &[u64; 1792],
+    rights: &[u64; ALL_RIGHTS],
+    scopes: &[u64; ALL_SCOPES],
     order: &[usize],
     who: Requester,
     sets: &mut [u64; SETS],
@@ -88,8 +90,8 @@ pub fn requested(
     d: &[u8],
     p: &[u8],
     q: &[u8],
-    rights: &[u64; 2048],
-    scopes: &[u64; 1792],
+    rights: &[u64; ALL_RIGHTS],
+    scopes: &[u64; ALL_SCOPES],
     order: &[usize],
     terms: Terms,
 ) -> Reply

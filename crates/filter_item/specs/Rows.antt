@@ -1,5 +1,5 @@
 -- The rows of an entry's values that count for an item: of the item's rank, with FilterMatch granted, and with a value that passes the test.
-use Prim.Native.Nat.{ℕ, zero, suc, _+_, _-_}
+use Prim.Native.Nat.{ℕ, zero, suc, _-_}
 use mathlib.Core.Bool.{Bool, false, not, _&&_, _||_, cond}
 use mathlib.Core.List.{List}
 use lib.Dec.{eqb}

@@ -30,10 +30,10 @@ ghost use lib.ListN.{getD};
 ghost use Rattle.rules.specs.Directory.{Stored, blank, entryOf};
 ghost use Rattle.rules.specs.Decision.{Setting};
 ghost use Rattle.rules.specs.FilterItem.{itemTruth};
-ghost use Rattle.access_set.specs.Member.{bit};
+ghost use Rattle.access_set.specs.Member.{bitOf};
 ghost use Rattle.tables.specs.Book.{schema};
 ghost use Rattle.tables.specs.World.{Entries};
-ghost use Rattle.filter_lines.specs.Lines.{RowsPlaced, Typed, kindAt, firstAt, valueAt, piecesAt};
+ghost use Rattle.filter_lines.specs.Lines.{RowsPlaced, Typed, kindAt, columnA, lineValue, piecesAt};
 ghost use Rattle.filter_item.specs.Items.{assertionBy, definedBy, satisfiedIn};
 ghost use Rattle.filter_matchable.specs.Matchable.{RowsWithin};
 ghost use Rattle.filter_matchable.specs.Matchable.{MatchableAt, AskedIn};
@@ -42,7 +42,7 @@ ghost use Rattle.filter_matchable.specs.Candidate.{Admitted};
 // Do the value or the pieces of the item in line `k` fit the syntax `s`, and has the syntax the item's rule?
 fn defined(s: u64, q: &[u8], rows: &[u64; FILTER], lines: usize, k: usize) -> bool
     requires { ⌜ RowsPlaced (now q) (now rows) lines × (k < lines) ⌝ }
-    ensures { λ r. ⌜ r ≡ definedBy s (kindAt (now (rows .entry)) k) (piecesAt (now (q .entry)) (now (rows .entry)) lines k) (valueAt (now (q .entry)) (now (rows .entry)) k) ⌝ }
+    ensures { λ r. ⌜ r ≡ definedBy s (kindAt (now (rows .entry)) k) (piecesAt (now (q .entry)) (now (rows .entry)) lines k) (lineValue (now (q .entry)) (now (rows .entry)) k) ⌝ }
 {
     let kind = rows[k * LINE];
     let v = value_of(q, rows, k);
@@ -72,7 +72,7 @@ fn decidable(
     k: usize,
 ) -> bool
     requires { ⌜ (rank < 64) × RowsPlaced (now q) (now rows) lines × (k < lines) ⌝ }
-    ensures { λ r. ⌜ r ≡ (bit types rank && definedBy s (kindAt (now (rows .entry)) k) (piecesAt (now (q .entry)) (now (rows .entry)) lines k) (valueAt (now (q .entry)) (now (rows .entry)) k)) ⌝ }
+    ensures { λ r. ⌜ r ≡ (bitOf types rank && definedBy s (kindAt (now (rows .entry)) k) (piecesAt (now (q .entry)) (now (rows .entry)) lines k) (lineValue (now (q .entry)) (now (rows .entry)) k)) ⌝ }
 {
     if in_word(types, rank) {
         return defined(s, q, rows, lines, k);
@@ -93,7 +93,7 @@ fn satisfied(
     k: usize,
 ) -> bool
     requires { ⌜ RowsWithin (now d) (now held) (sought .first) (sought .end) × RowsPlaced (now q) (now rows) lines × (k < lines) ⌝ }
-    ensures { λ r. ⌜ r ≡ satisfiedIn (now (d .entry)) (now (held .entry)) (now (values .entry)) (sought .first) (sought .end) (sought .rank) s (kindAt (now (rows .entry)) k) (piecesAt (now (q .entry)) (now (rows .entry)) lines k) (valueAt (now (q .entry)) (now (rows .entry)) k) ⌝ }
+    ensures { λ r. ⌜ r ≡ satisfiedIn (now (d .entry)) (now (held .entry)) (now (values .entry)) (sought .first) (sought .end) (sought .rank) s (kindAt (now (rows .entry)) k) (piecesAt (now (q .entry)) (now (rows .entry)) lines k) (lineValue (now (q .entry)) (now (rows .entry)) k) ⌝ }
 {
     let kind = rows[k * LINE];
     if is(kind, Kind::Present) {
@@ -126,7 +126,7 @@ pub fn item(
     line: usize,
 ) -> Truth
     requires { ⌜ Admitted (now d) (now book) (now held) extent k types (now values) × AskedIn (now book) (now rows) line (extent .ranks) × RowsPlaced (now q) (now rows) (extent .lines) × Typed (schema (now book)) (now rows) (extent .lines) × (line < extent .lines) ⌝ }
-    ensures { λ r. ⌜ ((σ : Setting) (es : List Stored) (asked : ℕ) → Entries σ es (now (d .entry)) (now (book .entry)) (now (held .entry)) → MatchableAt σ es (now (d .entry)) (now (book .entry)) (now (held .entry)) k asked types (now (values .entry)) → AskedIn (now (book .entry)) (now (rows .entry)) line asked → r ≡ itemTruth σ (entryOf (getD es k blank)) (assertionBy (kindAt (now (rows .entry)) line) (firstAt (now (rows .entry)) line) (valueAt (now (q .entry)) (now (rows .entry)) line) (piecesAt (now (q .entry)) (now (rows .entry)) (extent .lines) line))) ⌝ }
+    ensures { λ r. ⌜ ((σ : Setting) (es : List Stored) (asked : ℕ) → Entries σ es (now (d .entry)) (now (book .entry)) (now (held .entry)) → MatchableAt σ es (now (d .entry)) (now (book .entry)) (now (held .entry)) k asked types (now (values .entry)) → AskedIn (now (book .entry)) (now (rows .entry)) line asked → r ≡ itemTruth σ (entryOf (getD es k blank)) (assertionBy (kindAt (now (rows .entry)) line) (columnA (now (rows .entry)) line) (lineValue (now (q .entry)) (now (rows .entry)) line) (piecesAt (now (q .entry)) (now (rows .entry)) (extent .lines) line))) ⌝ }
 {
     let lines = extent.lines;
     let rank = rows[line * LINE + RANK] as usize;

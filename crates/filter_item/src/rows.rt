@@ -13,7 +13,7 @@ ghost use mathlib.Core.Bool.{_&&_, not};
 ghost use Prim.Native.Nat.{_+_, _-_, _≤_, _<_};
 ghost use Rattle.rules.specs.Value as Value;
 ghost use Rattle.rules.specs.FilterItem.{isLess};
-ghost use Rattle.rules.specs.Laws.Value.{reversed};
+ghost use Rattle.rules.specs.Derived.{reversed};
 ghost use Rattle.name.specs.Schema.{equalBy};
 ghost use Rattle.tables.specs.Held.{ROWS, bytesAt};
 ghost use Rattle.filter_lines.specs.Lines.{RowsPlaced, piecesAt};

@@ -6,7 +6,7 @@ use mathlib.Core.List.{List, [], _∷_, map}
 use lib.ListN.{length, getD, take, drop, set}
 use Rattle.rules.specs.Sheet.{Bytes, end, broken}
 use Rattle.rules.specs.Value.{Piece, text, folded, matches}
-use Rattle.rules.specs.Laws.Substrings.{compared}
+use Rattle.rules.specs.Derived.{compared}
 use Rattle.rules.specs.Places.{linesAt}
 use Rattle.sheet_line.specs.Line.{takenAt}
 use Rattle.sheet_line.specs.declared.Line.{Line}
@@ -25,32 +25,32 @@ FILTER = (LINES + 1) * 6
 abbrev pub kindAt : List ℕ → ℕ → ℕ
 kindAt rows k = getD rows (k * 6) 0
 
-abbrev pub firstAt : List ℕ → ℕ → ℕ
-firstAt rows k = getD rows (k * 6 + 1) 0
+abbrev pub columnA : List ℕ → ℕ → ℕ
+columnA rows k = getD rows (k * 6 + 1) 0
 
-abbrev pub secondAt : List ℕ → ℕ → ℕ
-secondAt rows k = getD rows (k * 6 + 2) 0
+abbrev pub columnB : List ℕ → ℕ → ℕ
+columnB rows k = getD rows (k * 6 + 2) 0
 
 abbrev pub positionAt : List ℕ → ℕ → ℕ
 positionAt rows k = getD rows (k * 6 + 3) 0
 
-abbrev pub placeAt : List ℕ → ℕ → ℕ
-placeAt rows k = getD rows (k * 6 + 4) 0
+abbrev pub valuePlace : List ℕ → ℕ → ℕ
+valuePlace rows k = getD rows (k * 6 + 4) 0
 
 abbrev pub typeRank : List ℕ → ℕ → ℕ
 typeRank rows k = getD rows (k * 6 + 5) 0
 
-abbrev pub nextAt : List ℕ → ℕ → ℕ
-nextAt rows k = getD rows (k * 6 + 9) 0
+abbrev pub nextPosition : List ℕ → ℕ → ℕ
+nextPosition rows k = getD rows (k * 6 + 9) 0
 
 -- the bytes of line `k`
-abbrev pub valueAt : Bytes → List ℕ → ℕ → Bytes
-valueAt q rows k = take (nextAt rows k - 1 - placeAt rows k) (drop (placeAt rows k) q)
+abbrev pub lineValue : Bytes → List ℕ → ℕ → Bytes
+lineValue q rows k = take (nextPosition rows k - 1 - valuePlace rows k) (drop (valuePlace rows k) q)
 
 -- the `n` lines from line `k` on, as pieces
 unfoldable pub piecesIn : Bytes → List ℕ → ℕ → ℕ → List Piece
 piecesIn q rows k zero = []
-piecesIn q rows k (suc n) = record { place = firstAt rows k; bytes = valueAt q rows k } ∷ piecesIn q rows (k + 1) n
+piecesIn q rows k (suc n) = record { place = columnA rows k; bytes = lineValue q rows k } ∷ piecesIn q rows (k + 1) n
 
 -- all pieces stand in a text without stray blanks, in order and without overlap
 unfoldable pub piecesStand : Bytes → List Piece → Bool
@@ -64,19 +64,19 @@ lesser (suc a) (suc b) = suc (lesser a b)
 
 -- the pieces that follow line `k`, if there are so many lines
 abbrev pub piecesAt : Bytes → List ℕ → ℕ → ℕ → List Piece
-piecesAt q rows lines k = piecesIn q rows (k + 1) (lesser (secondAt rows k) (lines - (k + 1)))
+piecesAt q rows lines k = piecesIn q rows (k + 1) (lesser (columnB rows k) (lines - (k + 1)))
 
 -- the bytes of the first `count` lines lie on the sheet, and are few
 pub record RowsPlaced (q : Bytes) (rows : List ℕ) (count : ℕ) : Type 0 where
   pub room : count * 6 + 6 ≤ length rows
   pub few : count ≤ LINES
-  pub begins : (k : ℕ) → k < count → placeAt rows k < nextAt rows k
-  pub within : (k : ℕ) → k < count → nextAt rows k ≤ length q
-  pub short : (k : ℕ) → k < count → nextAt rows k ≤ placeAt rows k + 65
+  pub begins : (k : ℕ) → k < count → valuePlace rows k < nextPosition rows k
+  pub within : (k : ℕ) → k < count → nextPosition rows k ≤ length q
+  pub short : (k : ℕ) → k < count → nextPosition rows k ≤ valuePlace rows k + 65
 
 -- the line that row `k` notes; its C and its length are not noted
 abbrev pub lineAt : List ℕ → ℕ → ℕ → ℕ → Line
-lineAt rows k third size = record { kind = kindAt rows k; a = firstAt rows k; b = secondAt rows k; c = third; place = placeAt rows k; length = size; next = nextAt rows k }
+lineAt rows k third size = record { kind = kindAt rows k; a = columnA rows k; b = columnB rows k; c = third; place = valuePlace rows k; length = size; next = nextPosition rows k }
 
 -- row `k` is the line at its position
 pub record LineRow (w : ℕ) (q : Bytes) (rows : List ℕ) (k : ℕ) : Type 0 where
@@ -97,7 +97,7 @@ KnownLines rows count = (w : ℕ) × (q : Bytes) × LinesNoted w q rows count
 
 -- .. with the ranks of their types
 pub record Typed (schema rows : List ℕ) (count : ℕ) : Type 0 where
-  pub rank : (k : ℕ) → k < count → typeRank rows k ≡ rankIn schema (firstAt rows k)
+  pub rank : (k : ℕ) → k < count → typeRank rows k ≡ rankIn schema (columnA rows k)
 
 -- what stands beyond the first `count` rows and the position after them is as it was `before`
 abbrev pub Beyond : ℕ → List ℕ → List ℕ → Type 0

@@ -5,7 +5,7 @@ ghost use mathlib.Core.Path.{_≡_};
 ghost use Prim.Native.Nat.{_+_, _*_, _≤_, _<_};
 ghost use lib.ListN.{length};
 ghost use Rattle.filter_lines.specs.Lines as Lines;
-ghost use Rattle.filter_lines.specs.Lines.{LinesNoted, Typed, Beyond, positionAt, placeAt, nextAt, valueAt, noted};
+ghost use Rattle.filter_lines.specs.Lines.{LinesNoted, Typed, Beyond, positionAt, valuePlace, nextPosition, lineValue, noted};
 
 // The numbers of a line: kind, A, B, where the line begins, where its bytes begin, and the rank of type A in the schema. The bytes end before the last
 // byte of the line, and the next line follows it.
@@ -50,7 +50,7 @@ pub fn note(schema: &[u64], w: usize, q: &[u8], at: usize, rows: &mut [u64; FILT
     loop {
         match sheet_line::take(q, j, w) {
             Taken::Line(x) => {
-                note_line(rows, n * LINE, x, name::rank(schema, x.a));
+                note_line(rows, n * LINE, x, name::rank(schema, 0, x.a));
                 n += 1;
                 j = x.next;
             }
@@ -66,8 +66,8 @@ pub fn note(schema: &[u64], w: usize, q: &[u8], at: usize, rows: &mut [u64; FILT
 
 // The bytes of line `k`, as a part of the request.
 pub fn value_of<'a>(q: &'a [u8], rows: &[u64; FILTER], k: usize) -> &'a [u8]
-    requires { ⌜ (k * 6 + 10 ≤ Lines.FILTER) × (placeAt (now rows) k < nextAt (now rows) k) × (nextAt (now rows) k ≤ length (now q)) ⌝ }
-    ensures { λ r. ⌜ now r ≡ valueAt (now (q .entry)) (now (rows .entry)) k ⌝ }
+    requires { ⌜ (k * 6 + 10 ≤ Lines.FILTER) × (valuePlace (now rows) k < nextPosition (now rows) k) × (nextPosition (now rows) k ≤ length (now q)) ⌝ }
+    ensures { λ r. ⌜ now r ≡ lineValue (now (q .entry)) (now (rows .entry)) k ⌝ }
 {
     let at = k * LINE;
     let place = rows[at + PLACE] as usize;

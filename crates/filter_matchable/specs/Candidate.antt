@@ -11,7 +11,7 @@ use Rattle.rules.specs.Decision.{Setting}
 use Rattle.rules.specs.Answer as Answer
 use Rattle.tables.specs.Numbers.{walk}
 use Rattle.rules.specs.declared.Found.the-variants.{At}
-use Rattle.tables.specs.Book.{entries}
+use Rattle.tables.specs.Book.{entryCount}
 use Rattle.tables.specs.World.{World}
 use Rattle.filter_matchable.specs.Matchable.{MatchableAt}
 use Rattle.filter_matchable.specs.declared.extent.Extent.{Extent}
@@ -27,7 +27,7 @@ pub record Searched (d p : Bytes) (book held sets : List ℕ) (x : Extent) : Typ
 -- the entry of index `k` is a candidate of the search
 pub record Candidate (d p : Bytes) (book held sets : List ℕ) (x : Extent) (k : ℕ) : Type 0 where
   pub search : Searched d p book held sets x
-  pub within : k < entries book
+  pub within : k < entryCount book
   pub granted : Answer.candidate (search .setting) (search .base) (x .subset) (entryOf (getD (search .stored) k blank)) ≡ true
 
 -- .. and the bits are FilterMatch on its types and values, for the same requester

@@ -4,7 +4,7 @@ use mathlib.Core.Path.{_≡_}
 use mathlib.Core.Bool.{Bool, false, not, _&&_, _||_}
 use mathlib.Core.List.{List}
 use lib.Dec.{eqb}
-use Rattle.access_set.specs.Member.{bit}
+use Rattle.access_set.specs.Member.{bitOf}
 use Rattle.filter_lines.specs.Lines.{kindAt, typeRank}
 
 -- line `k` is an operator, K 20 to 22
@@ -18,4 +18,4 @@ occurs rows (suc n) r = not (operatorAt rows n) && eqb (typeRank rows n) r || oc
 
 -- the bits of `x` are the ranks that occur
 pub record Masks (rows : List ℕ) (lines x : ℕ) : Type 0 where
-  pub rank : (r : ℕ) → r < 64 → bit x r ≡ occurs rows lines r
+  pub rank : (r : ℕ) → r < 64 → bitOf x r ≡ occurs rows lines r

@@ -18,8 +18,8 @@ ghost use Rattle.rules.specs.Sheet.{Bytes};
 ghost use Rattle.rules.specs.Directory.{Stored};
 ghost use Rattle.rules.specs.Permission.{FilterMatch};
 ghost use Rattle.rules.specs.Decision.{Setting, ofType, ofValue};
-ghost use Rattle.access_set.specs.Member.{bit};
-ghost use Rattle.tables.specs.Book.{entries, schema, firstAt};
+ghost use Rattle.access_set.specs.Member.{bitOf};
+ghost use Rattle.tables.specs.Book.{entryCount, schema, firstAt};
 ghost use Rattle.tables.specs.Held.{rankAt, bytesAt, typeAt};
 ghost use Rattle.tables.specs.Sets.{grantedAt};
 ghost use Rattle.tables.specs.World.{World, Known, KnownTypes};
@@ -38,7 +38,7 @@ pub struct Matchable {
 // Is bit `i` set?
 pub fn in_word(x: u64, i: usize) -> bool
     requires { ⌜ i < 64 ⌝ }
-    ensures { λ r. ⌜ r ≡ bit x i ⌝ }
+    ensures { λ r. ⌜ r ≡ bitOf x i ⌝ }
 {
     (x >> i) % 2 == 1
 }
@@ -56,7 +56,7 @@ pub(crate) fn bit_if(b: bool, j: usize) -> u64
 // Is the type of rank `r` asked about, and FilterMatch granted on it in entry number `e`?
 fn type_matchable(sets: &[u64; SETS], e: usize, asked: u64, r: usize) -> bool
     requires { ⌜ KnownTypes (now sets) e (suc r) ⌝ }
-    ensures { λ x. ⌜ ((σ : Setting) (es : List Stored) (d p : Bytes) (book held : List ℕ) → World σ es d p book held (now (sets .entry)) → e ≤ length es → r < length (schema book) → x ≡ (bit asked r && grantedAt σ es e (ofType (typeAt (schema book) r)) FilterMatch)) ⌝ }
+    ensures { λ x. ⌜ ((σ : Setting) (es : List Stored) (d p : Bytes) (book held : List ℕ) → World σ es d p book held (now (sets .entry)) → e ≤ length es → r < length (schema book) → x ≡ (bitOf asked r && grantedAt σ es e (ofType (typeAt (schema book) r)) FilterMatch)) ⌝ }
 {
     if in_word(asked, r) {
         return may_type(sets, e, r, FILTER_MATCH);
@@ -89,8 +89,8 @@ fn value_matchable(
     asked: u64,
     i: usize,
 ) -> bool
-    requires { ⌜ Known (now d) (now p) (now book) (now held) (now sets) × (k < entries (now book)) × (firstAt (now book) k ≤ i) × (i < firstAt (now book) (suc k)) ⌝ }
-    ensures { λ r. ⌜ ((σ : Setting) (es : List Stored) → World σ es (now (d .entry)) (now (p .entry)) (now (book .entry)) (now (held .entry)) (now (sets .entry)) → r ≡ (bit asked (rankAt (now (held .entry)) i) && grantedAt σ es (suc k) (ofValue (typeAt (schema (now (book .entry))) (rankAt (now (held .entry)) i)) (bytesAt (now (d .entry)) (now (held .entry)) i)) FilterMatch)) ⌝ }
+    requires { ⌜ Known (now d) (now p) (now book) (now held) (now sets) × (k < entryCount (now book)) × (firstAt (now book) k ≤ i) × (i < firstAt (now book) (suc k)) ⌝ }
+    ensures { λ r. ⌜ ((σ : Setting) (es : List Stored) → World σ es (now (d .entry)) (now (p .entry)) (now (book .entry)) (now (held .entry)) (now (sets .entry)) → r ≡ (bitOf asked (rankAt (now (held .entry)) i) && grantedAt σ es (suc k) (ofValue (typeAt (schema (now (book .entry))) (rankAt (now (held .entry)) i)) (bytesAt (now (d .entry)) (now (held .entry)) i)) FilterMatch)) ⌝ }
 {
     let rank = held[i] as usize;
     if in_word(asked, rank) {
@@ -109,7 +109,7 @@ fn matchable_values(
     k: usize,
     asked: u64,
 ) -> [u64; 34]
-    requires { ⌜ Known (now d) (now p) (now book) (now held) (now sets) × (k < entries (now book)) ⌝ }
+    requires { ⌜ Known (now d) (now p) (now book) (now held) (now sets) × (k < entryCount (now book)) ⌝ }
     ensures { λ r. ⌜ ((σ : Setting) (es : List Stored) → World σ es (now (d .entry)) (now (p .entry)) (now (book .entry)) (now (held .entry)) (now (sets .entry)) → MatchableValues σ es (now (d .entry)) (now (book .entry)) (now (held .entry)) k asked (firstAt (now (book .entry)) (suc k)) r) ⌝ }
 {
     let first = book[FIRST + k] as usize;

@@ -1,7 +1,7 @@
 -- The operators of a filter, what follows an item, and the filter's truth for an entry.
 use Prim.Native.Nat.{ℕ}
 use mathlib.Core.Path.{_≡_}
-use mathlib.Core.Bool.{Bool, true, false, _||_, cond}
+use mathlib.Core.Bool.{Bool, _||_, cond}
 use mathlib.Core.List.{List}
 use lib.Dec.{eqb}
 use lib.ListN.{getD}
@@ -13,9 +13,8 @@ use Rattle.rules.specs.Filter.{Filter, isTrue, evaluate}
 use Rattle.rules.specs.FilterItem.{itemTruth}
 use Rattle.rules.specs.Request.{filter}
 use Rattle.rules.specs.Places.{linesAt}
-use Rattle.tables.specs.FilterLines.{bothIn, eitherIn, afterLines}
+use Rattle.tables.specs.FilterLines.{afterLines}
 use Rattle.rules.specs.declared.Edition.{Edition}
-use Rattle.rules.specs.declared.Truth.{Truth}
 
 -- what follows an item
 unfoldable pub afterBy : ℕ → ℕ → Sheet → Sheet

@@ -9,7 +9,7 @@ use Rattle.rules.specs.Sheet.{Bytes}
 use Rattle.rules.specs.Filter.{Assertion}
 use Rattle.rules.specs.declared.Truth.{Truth}
 use Rattle.rules.specs.declared.Truth.the-variants.{True, False, Undefined}
-use Rattle.filter_lines.specs.Lines.{LinesNoted, kindAt, firstAt, valueAt, piecesAt}
+use Rattle.filter_lines.specs.Lines.{LinesNoted, kindAt, columnA, lineValue, piecesAt}
 use Rattle.filter_item.specs.Items.{assertionBy}
 
 -- a truth as a number
@@ -25,7 +25,7 @@ truthOf x = cond (eqb x 2) True (cond (eqb x 1) False Undefined)
 -- the number `x` is that of the item in line `k`, unless an operator stands there
 pub record TruthAt (m : Assertion → Truth) (q : Bytes) (rows : List ℕ) (lines k x : ℕ) : Type 0 where
   pub told : (kindAt rows k ≡ 22 → ⊥) → (eqb (kindAt rows k) 20 || eqb (kindAt rows k) 21) ≡ false
-      → truthOf x ≡ m (assertionBy (kindAt rows k) (firstAt rows k) (valueAt q rows k) (piecesAt q rows lines k))
+      → truthOf x ≡ m (assertionBy (kindAt rows k) (columnA rows k) (lineValue q rows k) (piecesAt q rows lines k))
 
 -- a number for each of the first `count` of the lines
 pub record Truths (m : Assertion → Truth) (q : Bytes) (rows : List ℕ) (lines count : ℕ) (truths : List ℕ) : Type 0 where

@@ -32,7 +32,7 @@ ghost use Rattle.tables.specs.FilterLines.{evaluated, evaluateLines};
 ghost use Rattle.rules.specs.declared.Truth.{Truth};
 ghost use Rattle.tables.specs.Book.{width, schema};
 ghost use Rattle.tables.specs.World.{World};
-ghost use Rattle.filter_lines.specs.Lines.{LinesNoted, KnownLines, Typed, kindAt, secondAt, positionAt};
+ghost use Rattle.filter_lines.specs.Lines.{LinesNoted, KnownLines, Typed, kindAt, columnB, positionAt};
 ghost use Rattle.filter_matchable.specs.Mask.{Masks};
 ghost use Rattle.filter_matchable.specs.Candidate.{Candidate};
 ghost use Rattle.filter_tree.specs.Tree.{afterBy, matchesAt, FilterAt, KnownFilter};
@@ -41,7 +41,7 @@ ghost use Rattle.filter_tree.specs.Truths.{Truths, KnownTruths};
 // The line after the item in line `k`: a substrings item has those of its pieces.
 fn after_item(rows: &[u64], lines: usize, k: usize) -> usize
     requires { ⌜ KnownLines (now rows) lines × (k < lines) ⌝ }
-    ensures { λ r. ⌜ (r ≤ lines) × ((w : ℕ) (q : Bytes) → LinesNoted w q (now (rows .entry)) lines → linesAt w q (positionAt (now (rows .entry)) r) ≡ afterBy (kindAt (now (rows .entry)) k) (secondAt (now (rows .entry)) k) (linesAt w q (positionAt (now (rows .entry)) (k + 1)))) ⌝ }
+    ensures { λ r. ⌜ (r ≤ lines) × ((w : ℕ) (q : Bytes) → LinesNoted w q (now (rows .entry)) lines → linesAt w q (positionAt (now (rows .entry)) r) ≡ afterBy (kindAt (now (rows .entry)) k) (columnB (now (rows .entry)) k) (linesAt w q (positionAt (now (rows .entry)) (k + 1)))) ⌝ }
 {
     let kind = rows[k * LINE];
     let next = k + 1;

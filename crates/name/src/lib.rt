@@ -1,16 +1,19 @@
 // Names and values under a schema. A schema is lent as numbers, one for each attribute type: its number times 4, and its syntax.
 use rules::Found;
 ghost use mathlib.Core.Path.{_≡_};
+ghost use Prim.Native.Nat.{_≤_};
 ghost use Rattle.rules.specs.Name;
 ghost use Rattle.rules.specs.Value;
 ghost use Rattle.rules.specs.Places.{schemaOf};
-ghost use Rattle.name.specs.Schema.{rankIn, syntaxIn, equalBy};
+ghost use Rattle.name.specs.Schema.{rankIn, syntaxIn, allowedAt, equalBy};
 
 // The rank of an attribute type in the schema: how many types stand before it; the number of all types if the schema does not have it.
-pub fn rank(schema: &[u64], t: u64) -> usize
+// The first `from` types are others.
+pub fn rank(schema: &[u64], from: usize, t: u64) -> usize
+    requires { ⌜ from ≤ rankIn (now schema) t ⌝ }
     ensures { λ r. ⌜ r ≡ rankIn (now (schema .entry)) t ⌝ }
 {
-    let mut i = 0;
+    let mut i = from;
     while i < schema.len() {
         if schema[i] / 4 == t {
             return i;
@@ -24,7 +27,7 @@ pub fn rank(schema: &[u64], t: u64) -> usize
 pub fn syntax_of(schema: &[u64], t: u64) -> Found
     ensures { λ r. ⌜ r ≡ syntaxIn (now (schema .entry)) t ⌝ }
 {
-    let r = rank(schema, t);
+    let r = rank(schema, 0, t);
     if r < schema.len() {
         return Found::At((schema[r] % 4) as usize);
     }
@@ -41,14 +44,21 @@ pub fn known(schema: &[u64], t: u64) -> bool
     }
 }
 
+// Does the schema allow this value of the type that has this rank?
+pub fn allowed_at(schema: &[u64], rank: usize, v: &[u8]) -> bool
+    ensures { λ r. ⌜ r ≡ allowedAt (now (schema .entry)) rank (now (v .entry)) ⌝ }
+{
+    if rank < schema.len() {
+        return value_syntax::fits(schema[rank] % 4, v);
+    }
+    false
+}
+
 // Does the schema allow this value of this type?
 pub fn allowed(schema: &[u64], t: u64, v: &[u8]) -> bool
     ensures { λ r. ⌜ r ≡ Name.allowed (schemaOf (now (schema .entry))) t (now (v .entry)) ⌝ }
 {
-    match syntax_of(schema, t) {
-        Found::At(s) => value_syntax::fits(s as u64, v),
-        Found::Nothing => false,
-    }
+    allowed_at(schema, rank(schema, 0, t), v)
 }
 
 // Is the type known, and has its syntax an order?

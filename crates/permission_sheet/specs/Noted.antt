@@ -3,16 +3,15 @@
 -- Names and values are noted by their positions on the sheet, a value by its digest too.
 use Prim.Native.Nat.{ℕ, _+_, _-_, _*_, _≤_, _<_}
 use mathlib.Core.Path.{_≡_}
-use mathlib.Core.Bool.{Bool, true, false, cond}
 use mathlib.Core.List.{List, []}
 use lib.ListN.{length, getD, take, drop, replicate}
-use Rattle.rules.specs.Sheet.{Bytes, lines}
+use Rattle.rules.specs.Sheet.{Bytes, bit, lines}
 use Rattle.rules.specs.declared.Format.{Format}
 use Rattle.rules.specs.Name.{Schema}
 use Rattle.rules.specs.Judge.{accept, refuse, refusalOf}
 use Rattle.rules.specs.Permission.{Item, items, permissionsOf}
 use Rattle.rules.specs.Places.{linesAt, partsOf, schemaOf}
-use Rattle.rules.specs.Laws.Decision.{weight}
+use Rattle.rules.specs.Derived.{weight, score, noItem}
 use Rattle.value_syntax.specs.Digest.{digest}
 use Rattle.permission_sheet.specs.declared.NotedItems.{NotedItems}
 
@@ -46,6 +45,10 @@ LENGTH = 7
 abbrev pub RIGHTS : ℕ
 RIGHTS = 8
 
+-- those of 256 items
+abbrev pub ALL-RIGHTS : ℕ
+ALL-RIGHTS = 256 * RIGHTS
+
 -- a row of scopes
 abbrev pub BELOW : ℕ
 BELOW = 0
@@ -71,6 +74,10 @@ LEVEL = 6
 abbrev pub SCOPES : ℕ
 SCOPES = 7
 
+-- those of 256 items
+abbrev pub ALL-SCOPES : ℕ
+ALL-SCOPES = 256 * SCOPES
+
 -- ---- an item and its rows
 
 -- the numbers of an accepted item are small, whatever the highest type is
@@ -84,14 +91,6 @@ pub record Bounded (i : Item) : Type 0 where
   pub what : i .what ≤ 5
   pub value : length (i .value) ≤ 64
   pub permissions : (1 ≤ i .permissions) × (i .permissions ≤ 63)
-
--- precedence, rank and explicitness as one number, and within these a denial before a grant: the greatest score decides, and an even one grants
-unfoldable pub score : Item → ℕ
-score i = cond (i .grants) (weight i * 2 + 2) (weight i * 2 + 3)
-
-abbrev pub bit : Bool → ℕ
-bit true = 1
-bit false = 0
 
 -- the rows of the item `i` on the sheet `p`, in columns of `w` bytes: VALUE is where the bytes of its K 7 line begin, BASE and USER where the K 9 lines of each name begin
 pub record ItemRow (w : ℕ) (p : Bytes) (i : Item) (right scope : ℕ → ℕ) : Type 0 where
@@ -116,13 +115,10 @@ pub record ItemRow (w : ℕ) (p : Bytes) (i : Item) (right scope : ℕ → ℕ) 
 
 -- ---- the whole sheet
 
-abbrev pub blank : Item
-blank = record { precedence = 0; level = 0; grants = false; below = false; base = []; who = 0; user = []; what = 0; type = 0; value = []; permissions = 0 }
-
 -- the rows of the accepted items `is`, in their order, and zeros after the last
 pub record Table (w : ℕ) (p : Bytes) (is : List Item) (rights scopes : List ℕ) : Type 0 where
   pub few : length is ≤ 256
-  pub rows : (k : ℕ) → k < length is → ItemRow w p (getD is k blank) (λ j. getD rights (k * RIGHTS + j) 0) (λ j. getD scopes (k * SCOPES + j) 0)
+  pub rows : (k : ℕ) → k < length is → ItemRow w p (getD is k noItem) (λ j. getD rights (k * RIGHTS + j) 0) (λ j. getD scopes (k * SCOPES + j) 0)
   pub rights-length : length rights ≡ 256 * RIGHTS
   pub scopes-length : length scopes ≡ 256 * SCOPES
   pub rights-rest : drop (length is * RIGHTS) rights ≡ replicate (256 * RIGHTS - length is * RIGHTS) 0
@@ -133,11 +129,11 @@ pub record PermissionsNoted (f : Format) (p : Bytes) (is : List Item) (r : Noted
   pub refusal : r .refusal ≡ 0
   pub count : r .count ≡ length is
   pub table : Table (f .width) p is rights scopes
-  pub types : (k : ℕ) → k < length is → getD is k blank .type ≤ f .top
+  pub types : (k : ℕ) → k < length is → getD is k noItem .type ≤ f .top
 
 -- nothing but a refusal
-abbrev pub refused : ℕ → NotedItems
-refused n = record { refusal = n; count = 0 }
+abbrev pub itemsRefused : ℕ → NotedItems
+itemsRefused n = record { refusal = n; count = 0 }
 
 -- the rows of the first items of a sheet, as far as it was read
 pub record FirstItems (f : Format) (p : Bytes) (S : Schema) (rights scopes : List ℕ) : Type 0 where
@@ -151,4 +147,4 @@ pub record PermissionsJudged (f : Format) (p : Bytes) (schema : List ℕ) (r : N
   pub refusal : r .refusal ≡ refusalOf (permissionsOf f (schemaOf schema) p)
   pub accepted : r .refusal ≡ 0 → (is : List Item) × (permissionsOf f (schemaOf schema) p ≡ accept is)
   pub noted : (is : List Item) → permissionsOf f (schemaOf schema) p ≡ accept is → PermissionsNoted f p is r rights scopes
-  pub nothing : (n : ℕ) → permissionsOf f (schemaOf schema) p ≡ refuse n → (r ≡ refused n) × FirstItems f p (schemaOf schema) rights scopes
+  pub nothing : (n : ℕ) → permissionsOf f (schemaOf schema) p ≡ refuse n → (r ≡ itemsRefused n) × FirstItems f p (schemaOf schema) rights scopes

@@ -1,8 +1,8 @@
 -- The rows of an item, and their places among all rows: the definitions that the contracts of this crate cite. That they are what the rules give
 -- is proved in `Laws`.
-use Prim.Native.Nat.{ℕ, _+_}
-use mathlib.Core.List.{List, [], _∷_, _++_}
-use lib.ListN.{length, take, drop}
+use Prim.Native.Nat.{ℕ}
+use mathlib.Core.List.{List, [], _∷_}
+use lib.ListN.{length}
 use Rattle.rules.specs.Sheet.{Bytes}
 use Rattle.value_syntax.specs.Digest.{digest}
 use Rattle.sheet_line.specs.Line.{bytesOf}
@@ -31,7 +31,3 @@ scopesRow i =
     ∷ i .user .b
     ∷ i .head .b
     ∷ []
-
--- `row` in the place of what stands in `rows` from `at` on
-unfoldable pub putAt : List ℕ → ℕ → List ℕ → List ℕ
-putAt rows at row = (take at rows ++ row) ++ drop (at + length row) rows

@@ -13,7 +13,7 @@ ghost use lib.ListN.{replicate};
 ghost use Rattle.rules.specs.Sheet.{Usable};
 ghost use Rattle.rules.specs.Columns.{permissionForms};
 ghost use Rattle.sheet_due.specs.Lines.{seenAt, misplacedBy};
-ghost use Rattle.permission_sheet.specs.Noted.{PermissionsJudged};
+ghost use Rattle.permission_sheet.specs.Noted.{ALL-RIGHTS, ALL-SCOPES, PermissionsJudged};
 ghost use Rattle.permission_sheet.specs.Noted as PermissionsNoted;
 
 // The places of an item's numbers in its row of rights, and the length of the row.
@@ -35,6 +35,9 @@ pub const LENGTH: usize = 7;
 
 pub const RIGHTS: usize = 8;
 
+// How many numbers the rows of rights of 256 items have.
+pub const ALL_RIGHTS: usize = 2048;
+
 // The places of its numbers in its row of scopes, and the length of the row.
 pub const BELOW: usize = 0;
 
@@ -52,6 +55,9 @@ pub const LEVEL: usize = 6;
 
 pub const SCOPES: usize = 7;
 
+// How many numbers their rows of scopes have.
+pub const ALL_SCOPES: usize = 1792;
+
 // The refusal number (0: none), and how many items are noted.
 pub struct NotedItems {
     pub refusal: u64,
@@ -60,7 +66,7 @@ pub struct NotedItems {
 
 // No items, but a refusal number.
 fn refused(number: u64) -> NotedItems
-    ensures { λ r. ⌜ r ≡ PermissionsNoted.refused number ⌝ }
+    ensures { λ r. ⌜ r ≡ PermissionsNoted.itemsRefused number ⌝ }
 {
     NotedItems {
         refusal: number,
@@ -93,10 +99,10 @@ pub fn judge(
     p: &[u8],
     f: Format,
     schema: &[u64],
-    rights: &mut [u64; 2048],
-    scopes: &mut [u64; 1792],
+    rights: &mut [u64; ALL_RIGHTS],
+    scopes: &mut [u64; ALL_SCOPES],
 ) -> NotedItems
-    requires { ⌜ Usable f × (now rights ≡ replicate 2048 0) × (now scopes ≡ replicate 1792 0) ⌝ }
+    requires { ⌜ Usable f × (now rights ≡ replicate ALL-RIGHTS 0) × (now scopes ≡ replicate ALL-SCOPES 0) ⌝ }
     ensures { λ r. ⌜ PermissionsJudged f (now (p .entry)) (now (schema .entry)) r (now (rights .exit)) (now (scopes .exit)) ⌝ }
 {
     if 65536 < p.len() {
@@ -112,8 +118,8 @@ pub fn judge(
         if lines.refusal != 0 {
             return refused(lines.refusal);
         }
-        row::note_rights(p, rights, count, lines);
-        row::note_scopes(scopes, count, lines);
+        row::store_rights(p, rights, count, lines);
+        row::store_scopes(scopes, count, lines);
         count += 1;
         at = lines.mask.next;
     }

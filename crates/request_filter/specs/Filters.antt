@@ -17,9 +17,9 @@ use Rattle.request_filter.specs.declared.Node.the-variants as Node
 use Rattle.request_filter.specs.declared.Node.the-variants.{Operator, Item}
 
 -- pieces that were read make an item
-abbrev pub itemOf : Progress → Node
-itemOf (Read next left) = Item next left
-itemOf (Progress.Refused n) = Node.Refused n
+abbrev pub itemNode : Progress → Node
+itemNode (Read next left) = Item next left
+itemNode (Progress.Refused n) = Node.Refused n
 
 -- `n` filters, each read by `one`
 unfoldable pub partsAt : (ℕ → ℕ → Progress) → ℕ → ℕ → ℕ → Progress
@@ -43,7 +43,7 @@ module _ (G : Grammar) (w : ℕ) (q : Bytes) where
       (cond (eqb (x .kind) 24) (Item (x .next) left)
       (cond (eqb (x .kind) 25) (Item (x .next) left)
       (cond (eqb (x .kind) 26) (Item (x .next) left)
-      (cond (eqb (x .kind) 27) (itemOf (piecesAt G w q true (x .b) (x .next) left))
+      (cond (eqb (x .kind) 27) (itemNode (piecesAt G w q true (x .b) (x .next) left))
       (Node.Refused (G .refusals + 3)))))))))
 
   -- a filter's line, where `left` more lines are allowed

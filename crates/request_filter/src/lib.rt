@@ -16,7 +16,7 @@ ghost use Rattle.rules.specs.Columns.{requestForms};
 ghost use Rattle.rules.specs.Request.{requestGrammar};
 ghost use Rattle.sheet_due.specs.Lines.{seenAt, misplacedBy};
 ghost use Rattle.request_piece.specs.declared.Progress.the-variants as Progress;
-ghost use Rattle.request_filter.specs.Filters.{itemOf, nodeOf, nodeBy, nodeAt, filterAt};
+ghost use Rattle.request_filter.specs.Filters.{itemNode, nodeOf, nodeBy, nodeAt, filterAt};
 
 // What a line of a filter begins: an operator with its number of parts, "not" having one, or an item.
 pub enum Node {
@@ -27,7 +27,7 @@ pub enum Node {
 
 // Pieces that were read make an item.
 fn item_of(step: Progress) -> Node
-    ensures { λ r. ⌜ r ≡ itemOf step ⌝ }
+    ensures { λ r. ⌜ r ≡ itemNode step ⌝ }
 {
     match step {
         Progress::Read { next, left } => Node::Item { next, left },

@@ -13,7 +13,7 @@ use Rattle.request_filter.specs.Filters.{filterAt}
 use Rattle.request_piece.specs.declared.Progress.{Progress}
 use Rattle.request_piece.specs.declared.Progress.the-variants.{Read, Refused}
 use Rattle.request_operation.specs.declared.Body.{Body}
-use Rattle.request_operation.specs.declared.Scope.{Scope}
+use Rattle.request_operation.specs.declared.SearchLines.{SearchLines}
 
 -- K 12, K 14, K 16 and K 15, up to `e`
 abbrev pub bodyOf : Reached → Line → Line → Line → Line → Body
@@ -31,8 +31,8 @@ listAt at = bodyOf (reachedAt at) noLine noLine noLine noLine
 
 module _ (G : Grammar) (w : ℕ) (q : Bytes) where
   -- K 15, or K 16 and K 15, where `r` has come to
-  unfoldable pub scopeAt : Reached → Scope
-  scopeAt r =
+  unfoldable pub searchLinesAt : Reached → SearchLines
+  searchLinesAt r =
       let first = dueAt G w q r 15 in
       let due = dueAt G w q r 16 in
       cond (eqb (first .refusal) 0) (record { ordering = noLine; subset = first }) (record { ordering = due .line; subset = dueAt G w q (afterDue due) 15 })
@@ -51,8 +51,8 @@ module _ (G : Grammar) (w : ℕ) (q : Bytes) where
     assertionAt = dueAt G w q (reachedAt at) 14
 
     -- K 16 and K 15 after the selection
-    abbrev pub searchScope : Scope
-    searchScope = scopeAt (afterGroup selectionAt)
+    abbrev pub searchScope : SearchLines
+    searchScope = searchLinesAt (afterGroup selectionAt)
 
     unfoldable pub readAt : Body
     readAt = bodyOf (afterGroup selectionAt) (selectionAt .line) noLine noLine noLine

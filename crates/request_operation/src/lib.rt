@@ -17,7 +17,7 @@ use sheet_line::Line;
 ghost use mathlib.Core.Path.{_≡_};
 ghost use Rattle.rules.specs.Sheet.{Usable};
 ghost use Rattle.rules.specs.Request.{requestGrammar};
-ghost use Rattle.request_operation.specs.Operations.{bodyOf, reachedBy, filterFrom, readAt, compareAt, listAt, scopeAt, searchAt, bodyAt};
+ghost use Rattle.request_operation.specs.Operations.{bodyOf, reachedBy, filterFrom, readAt, compareAt, listAt, searchLinesAt, searchAt, bodyAt};
 
 // The lines, each 0 where the operation has none, and the position after them; or the refusal (0: none).
 pub struct Body {
@@ -34,7 +34,7 @@ pub struct Body {
 }
 
 // The lines that say of which entries a search is and how they are ordered: K 16, 0 where there is none, and K 15 or the refusal.
-pub struct Scope {
+pub struct SearchLines {
     pub ordering: Line,
     pub subset: Due,
 }
@@ -117,20 +117,20 @@ fn list_at(at: usize) -> Body
 }
 
 // K 15, and K 16 before it where there is one. K 15 is read first: most searches have no K 16.
-fn scope_at(q: &[u8], f: Format, from: Reached) -> Scope
+fn search_lines(q: &[u8], f: Format, from: Reached) -> SearchLines
     requires { ⌜ Usable f ⌝ }
-    ensures { λ r. ⌜ r ≡ scopeAt (requestGrammar (f .top)) (f .width) (now (q .entry)) from ⌝ }
+    ensures { λ r. ⌜ r ≡ searchLinesAt (requestGrammar (f .top)) (f .width) (now (q .entry)) from ⌝ }
 {
     let first = due_at(q, f, Grammar::Request, &[], from, Kind::Subset);
     if first.refusal == 0 {
-        return Scope {
+        return SearchLines {
             ordering: no_line(),
             subset: first,
         };
     }
     let due = due_at(q, f, Grammar::Request, &[], from, Kind::Ordering);
     let ordering = due.line;
-    Scope {
+    SearchLines {
         ordering,
         subset: due_at(q, f, Grammar::Request, &[], after_due(due), Kind::Subset),
     }
@@ -150,7 +150,7 @@ fn search_at(q: &[u8], f: Format, at: usize) -> Body
         Kind::Selection,
         Kind::SelectedType,
     );
-    let scope = scope_at(q, f, after_group(group));
+    let scope = search_lines(q, f, after_group(group));
     let due = scope.subset;
     let end = filter_from(q, f, after_due(due));
     body_of(end, group.line, no_line(), scope.ordering, due.line)

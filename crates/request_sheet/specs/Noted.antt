@@ -100,8 +100,8 @@ pub record RequestNoted (G : Grammar) (w : ℕ) (q : Bytes) (x : Request) (r : A
   pub short : length q ≤ 8192
 
 -- nothing is asked: the refusal `n`
-abbrev pub refused : ℕ → Asked
-refused n =
+abbrev pub requestRefused : ℕ → Asked
+requestRefused n =
     record {
       refusal = n;
       level = 0;
@@ -132,4 +132,4 @@ pub record RequestJudged (f : Format) (S : Schema) (q : Bytes) (r : Asked) : Typ
   -- no refusal is an acceptance
   pub accepted : r .refusal ≡ 0 → (x : Request) × (requestOf f S q ≡ accept x)
   -- of a refused request nothing is noted
-  pub nothing : (r .refusal ≡ 0 → ⊥) → r ≡ refused (r .refusal)
+  pub nothing : (r .refusal ≡ 0 → ⊥) → r ≡ requestRefused (r .refusal)

@@ -17,7 +17,7 @@ use Rattle.sheet_due.specs.declared.Seen.the-variants as Seen
 use Rattle.sheet_due.specs.declared.Group.{Group}
 use Rattle.request_operation.specs.Operations.{bodyAt}
 use Rattle.request_operation.specs.declared.Body.{Body}
-use Rattle.request_sheet.specs.Noted.{refused}
+use Rattle.request_sheet.specs.Noted.{requestRefused}
 use Rattle.request_sheet.specs.declared.Asked.{Asked}
 
 -- the edition of a search, by column C of K 10; other operations have none
@@ -52,13 +52,13 @@ asked requester base b =
 
 -- after the last line: the sheet's end, or a surplus line
 abbrev pub endBy : ℕ → Line → Line → Body → Seen → Asked
-endBy n requester base b (Seen.Line x) = refused (n + 3)
-endBy n requester base b Seen.NotAllowed = refused (n + 2)
+endBy n requester base b (Seen.Line x) = requestRefused (n + 3)
+endBy n requester base b Seen.NotAllowed = requestRefused (n + 2)
 endBy n requester base b Seen.Missing = asked requester base b
 
 -- `r`, unless there is a refusal
 abbrev pub orRefused : ℕ → Asked → Asked
-orRefused n r = cond (eqb n 0) r (refused n)
+orRefused n r = cond (eqb n 0) r (requestRefused n)
 
 module _ (G : Grammar) (w : ℕ) (q : Bytes) where
   -- after the base, the operation's lines
@@ -75,9 +75,9 @@ module _ (G : Grammar) (w : ℕ) (q : Bytes) where
   -- the whole sheet
   unfoldable pub askedOf : Asked
   askedOf =
-      cond (ltb 8192 (length q)) (refused 21)
+      cond (ltb 8192 (length q)) (requestRefused 21)
       (orRefused (baseAt .refusal) (withBody (requesterAt .line) (baseAt .line) (bodyAt G w q (baseAt .next) (baseAt .line .a))))
 
 -- the request, unless it orders by a type that is unknown or has no order
 unfoldable pub orderableBy : Schema → Asked → Asked
-orderableBy S r = cond (eqb (r .«order_type») 0) r (cond (ofSyntax S ordered (r .«order_type»)) r (refused 24))
+orderableBy S r = cond (eqb (r .«order_type») 0) r (cond (ofSyntax S ordered (r .«order_type»)) r (requestRefused 24))

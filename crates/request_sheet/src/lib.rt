@@ -18,7 +18,7 @@ ghost use mathlib.Core.Path.{_≡_};
 ghost use Rattle.rules.specs.Sheet.{Usable};
 ghost use Rattle.rules.specs.Request.{requestGrammar};
 ghost use Rattle.rules.specs.Places.{schemaOf};
-ghost use Rattle.request_sheet.specs.Noted.{refused, RequestJudged};
+ghost use Rattle.request_sheet.specs.Noted.{requestRefused, RequestJudged};
 ghost use Rattle.request_sheet.specs.Whole.{editionIn, asked, endBy, withBody, askedOf, orderableBy};
 
 // What a request asks. Of a refused one, all but the refusal is 0; of an accepted one, what its operation does not have is 0.
@@ -52,7 +52,7 @@ pub struct Asked {
 
 // Nothing is asked: the refusal.
 fn refuse(refusal: u64) -> Asked
-    ensures { λ r. ⌜ r ≡ refused refusal ⌝ }
+    ensures { λ r. ⌜ r ≡ requestRefused refusal ⌝ }
 {
     Asked {
         refusal,

@@ -36,8 +36,8 @@ unfoldable pub takes : Form → Line → Bool
 takes f x = eqb (x .kind) (f .kind) && (inRange (f .a) (x .a) && (inRange (f .b) (x .b) && (inRange (f .c) (x .c) && inRange (f .length) (length (x .bytes)))))
 
 -- "types are 1 to 999", in general to the highest type `top`
-abbrev pub types : ℕ → Range
-types top = between 1 top
+abbrev pub typeRange : ℕ → Range
+typeRange top = between 1 top
 
 abbrev pub bytes : Range
 bytes = between 0 64
@@ -48,14 +48,14 @@ parts = between 0 8
 
 -- a part of a name: in permissions and requests, and in the target of an alias
 abbrev pub partForm : ℕ → Form
-partForm top = form 9 (types top) unnamed unnamed bytes
+partForm top = form 9 (typeRange top) unnamed unnamed bytes
 
 -- #105: "in K 2, C 1 marks an alias"; "K 36 (B name parts, 1 to 8, as K 9)"
 unfoldable pub directoryForms : ℕ → List Form
 directoryForms top =
-    form 1 (types top) (between 0 2) unnamed unnamed
-    ∷ form 2 free (types top) (between 0 1) bytes
-    ∷ form 3 (types top) unnamed unnamed bytes
+    form 1 (typeRange top) (between 0 2) unnamed unnamed
+    ∷ form 2 free (typeRange top) (between 0 1) bytes
+    ∷ form 3 (typeRange top) unnamed unnamed bytes
     ∷ form 36 unnamed (between 1 8) unnamed unnamed
     ∷ partForm top
     ∷ []
@@ -69,8 +69,8 @@ permissionForms top =
     ∷ form 6 (exactly 2) unnamed unnamed unnamed
     ∷ form 6 (exactly 3) parts unnamed unnamed
     ∷ form 7 (between 0 2) unnamed unnamed unnamed
-    ∷ form 7 (between 3 4) (types top) unnamed unnamed
-    ∷ form 7 (exactly 5) (types top) unnamed bytes
+    ∷ form 7 (between 3 4) (typeRange top) unnamed unnamed
+    ∷ form 7 (exactly 5) (typeRange top) unnamed bytes
     ∷ form 8 (between 1 63) unnamed unnamed unnamed
     ∷ partForm top
     ∷ []
@@ -84,18 +84,18 @@ requestForms top =
     ∷ form 11 (between 3 4) parts free unnamed
     ∷ form 12 (exactly 0) unnamed (between 0 1) unnamed
     ∷ form 12 (exactly 1) (between 0 16) (between 0 1) unnamed
-    ∷ form 13 (types top) unnamed unnamed unnamed
-    ∷ form 14 (types top) unnamed unnamed bytes
+    ∷ form 13 (typeRange top) unnamed unnamed unnamed
+    ∷ form 14 (typeRange top) unnamed unnamed bytes
     ∷ form 15 (between 0 2) unnamed unnamed unnamed
-    ∷ form 16 (types top) (between 0 1) unnamed unnamed
+    ∷ form 16 (typeRange top) (between 0 1) unnamed unnamed
     ∷ form 20 (between 0 127) unnamed unnamed unnamed
     ∷ form 21 (between 0 127) unnamed unnamed unnamed
     ∷ form 22 unnamed unnamed unnamed unnamed
-    ∷ form 23 (types top) unnamed unnamed bytes
-    ∷ form 24 (types top) unnamed unnamed bytes
-    ∷ form 25 (types top) unnamed unnamed bytes
-    ∷ form 26 (types top) unnamed unnamed unnamed
-    ∷ form 27 (types top) (between 1 8) unnamed unnamed
+    ∷ form 23 (typeRange top) unnamed unnamed bytes
+    ∷ form 24 (typeRange top) unnamed unnamed bytes
+    ∷ form 25 (typeRange top) unnamed unnamed bytes
+    ∷ form 26 (typeRange top) unnamed unnamed unnamed
+    ∷ form 27 (typeRange top) (between 1 8) unnamed unnamed
     ∷ form 28 (between 0 2) unnamed unnamed (between 1 64)
     ∷ []
 

@@ -82,9 +82,9 @@ unfoldable pub clashes : Schema → List Stored → ℕ → Part → Bool
 clashes S es parent naming = any (λ e. eqb (e .parent) parent && samePart S (e .naming) naming) es
 
 -- #105: C 1 marks an alias
-abbrev pub marked : Bool → Target
-marked true = missing
-marked false = nowhere
+abbrev pub aliasMark : Bool → Target
+aliasMark true = missing
+aliasMark false = nowhere
 
 abbrev pub isAlias : Target → Bool
 isAlias nowhere = false
@@ -115,7 +115,7 @@ underAlias es (suc k) = isAlias (getD es k blank .target)
 
 -- the entry of a K 2 line after the entries `es`, with no values yet
 abbrev pub newEntry : List Stored → Line → Stored
-newEntry es x = let naming = part (x .b) (x .bytes) in stored (x .a) naming (nameAt es (x .a) ++ (naming ∷ [])) [] (marked (eqb (x .c) 1))
+newEntry es x = let naming = part (x .b) (x .bytes) in stored (x .a) naming (nameAt es (x .a) ++ (naming ∷ [])) [] (aliasMark (eqb (x .c) 1))
 
 -- K 2: a parent number not below its own gives 2; then 6 counts for the entry before it; "at most .. 256 entries, depth 8"; #105: an alias cut short
 -- before it, and an alias above it, give 3
@@ -238,8 +238,8 @@ pub record Entry : Type 0 where
 unfoldable pub entryOf : Stored → Entry
 entryOf e = record { name = e .name; held = heldOf (e .values) }
 
-unfoldable pub entries : Directory → List Entry
-entries d = map entryOf (d .entries)
+unfoldable pub entriesIn : Directory → List Entry
+entriesIn d = map entryOf (d .entries)
 
 -- ---- aliases (#105)
 

@@ -17,6 +17,7 @@ pub mod Serve
 pub mod Move
 pub mod Shown
 pub mod Theorems
+pub mod Derived
 pub mod Places
 pub mod Examples
 pub mod LaterExamples

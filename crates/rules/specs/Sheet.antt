@@ -102,9 +102,13 @@ frontOf w s =
 abbrev pub valueOf : ℕ → ℕ → Bytes → Bytes
 valueOf w l s = take l (drop (5 * w) s)
 
+-- how many bytes a line of `l` bytes takes: with five columns and byte 10
+abbrev pub lineSize : ℕ → ℕ → ℕ
+lineSize w l = 5 * w + 1 + l
+
 -- "the rest of a sheet is read as a part that begins after the line just taken"
 abbrev pub restOf : ℕ → ℕ → Bytes → Bytes
-restOf w l s = drop (5 * w + 1 + l) s
+restOf w l s = drop (lineSize w l) s
 
 -- ---- the lines of a sheet
 

@@ -8,7 +8,7 @@ use Rattle.rules.specs.Sheet.{Bytes}
 use Rattle.rules.specs.declared.Format.{Format}
 use Rattle.rules.specs.Name.{Name}
 use Rattle.rules.specs.Judge.{accept}
-use Rattle.rules.specs.Directory.{Directory, directoryOf, Held, Entry, entries, aliases}
+use Rattle.rules.specs.Directory.{Directory, directoryOf, Held, Entry, entriesIn, aliases}
 use Rattle.rules.specs.Permission.{Item, permissionsOf, Read, Browse, ReturnDN, DiscloseOnError, Compare, FilterMatch}
 use Rattle.rules.specs.Decision.{Setting, entry, ofType, ofValue, granted}
 use Rattle.rules.specs.Request.{Request, requestOf}
@@ -52,7 +52,7 @@ sight σ = record {
 
 -- what the requester of the setting is shown of a directory
 unfoldable pub shown : Setting → Directory → List Entry
-shown σ d = shownBy (sight σ) (entries d)
+shown σ d = shownBy (sight σ) (entriesIn d)
 
 -- #105: "only if they hold the same aliases with the same targets", each by its stored name and target
 abbrev pub SameAliases : Directory → Directory → Type 0

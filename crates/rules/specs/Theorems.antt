@@ -13,7 +13,7 @@ use Rattle.rules.specs.declared.Limits.{Limits}
 use Rattle.rules.specs.Judge.{Verdict, accept, refuse}
 use Rattle.rules.specs.Value.{identical}
 use Rattle.rules.specs.Name.{Name, sameName, orderOf}
-use Rattle.rules.specs.Directory.{Directory, directoryOf, directoryLines, blank, Entry, entryOf, entries, aliases}
+use Rattle.rules.specs.Directory.{Directory, directoryOf, directoryLines, blank, Entry, entryOf, entriesIn, aliases}
 use Rattle.rules.specs.Permission.{Item}
 use Rattle.rules.specs.Decision.{Setting, Requester}
 use Rattle.rules.specs.Request.{Ordering}
@@ -104,7 +104,7 @@ ResolvedAlike =
 abbrev pub LongAbsent : Type 0
 LongAbsent =
     (f : Format) (s : Bytes) (d : Directory) → directoryOf f s ≡ accept d → (n : Name) → 8 < length n
-    → any (λ e. sameName (d .schema) n (e .name)) (entries d) ≡ false
+    → any (λ e. sameName (d .schema) n (e .name)) (entriesIn d) ≡ false
 
 -- ---- #106: lists in the guest's order
 
@@ -122,7 +122,7 @@ abbrev pub InOrder : Type 0
 InOrder =
     (f : Format) (s : Bytes) (d : Directory) → directoryOf f s ≡ accept d
     → (is : List Item) (u : Requester) (o : Ordering) (chosen : Entry → Bool)
-    → Ordered (before (settingOf d is u) o) (arranged (settingOf d is u) (some o) (keep chosen (entries d)))
+    → Ordered (before (settingOf d is u) o) (arranged (settingOf d is u) (some o) (keep chosen (entriesIn d)))
 
 -- "ties in directory order": entries of which none must stand before another stay as they were found
 abbrev pub Stable : Type 0

@@ -8,12 +8,12 @@ use Rattle.rules.specs.Columns.{inRange, Form}
 use Rattle.sheet_line.specs.declared.Line.{Line}
 
 -- the columns are in the form, whatever the kind
-unfoldable pub fits : Form → ℕ → ℕ → ℕ → ℕ → Bool
-fits f a b c l = inRange (f .a) a && (inRange (f .b) b && (inRange (f .c) c && inRange (f .length) l))
+unfoldable pub fitsForm : Form → ℕ → ℕ → ℕ → ℕ → Bool
+fitsForm f a b c l = inRange (f .a) a && (inRange (f .b) b && (inRange (f .c) c && inRange (f .length) l))
 
 -- a line of these numbers, with any `l` bytes, is in one of the forms
 unfoldable pub inFormOf : List Form → ℕ → ℕ → ℕ → ℕ → ℕ → Bool
-inFormOf forms k a b c l = any (λ f. eqb k (f .kind) && fits f a b c l) forms
+inFormOf forms k a b c l = any (λ f. eqb k (f .kind) && fitsForm f a b c l) forms
 
 -- a line that was taken is in one of the forms
 abbrev pub columnsIn : List Form → Line → Bool

@@ -3,7 +3,7 @@ use sheet_line::Line;
 ghost use mathlib.Core.Path.{_≡_};
 ghost use mathlib.Core.Bool.{_||_};
 ghost use Rattle.rules.specs.Columns.{form, between};
-ghost use Rattle.sheet_form.specs.Columns.{fits};
+ghost use Rattle.sheet_form.specs.Columns.{fitsForm};
 
 // Columns A, B, C and the length of a line, each from its lowest to its highest number.
 pub fn row(
@@ -17,7 +17,7 @@ pub fn row(
     len0: usize,
     len1: usize,
 ) -> bool
-    ensures { λ r. ⌜ r ≡ fits (form 0 (between a0 a1) (between b0 b1) (between c0 c1) (between len0 len1)) (line .a) (line .b) (line .c) (line .length) ⌝ }
+    ensures { λ r. ⌜ r ≡ fitsForm (form 0 (between a0 a1) (between b0 b1) (between c0 c1) (between len0 len1)) (line .a) (line .b) (line .c) (line .length) ⌝ }
 {
     if line.a < a0 {
         return false;

@@ -46,8 +46,8 @@ numberOf Unknown = 0
 abbrev pub ranges : List Kind
 ranges = And ∷ Or ∷ Not ∷ Equality ∷ AtLeast ∷ AtMost ∷ Present ∷ Substrings ∷ Piece ∷ Outcome ∷ Comparison ∷ Child ∷ ReturnedEntry ∷ ReturnedType ∷ ReturnedValue ∷ []
 
-abbrev pub known : List Kind
-known = AttributeType ∷ Entry ∷ Value ∷ Item ∷ Base ∷ UserClass ∷ ProtectedItem ∷ Permissions ∷ NamePart ∷ Requester ∷ Operation ∷ Selection ∷ SelectedType ∷ Assertion ∷ Subset ∷ Ordering ∷ Target ∷ ranges
+abbrev pub knownKinds : List Kind
+knownKinds = AttributeType ∷ Entry ∷ Value ∷ Item ∷ Base ∷ UserClass ∷ ProtectedItem ∷ Permissions ∷ NamePart ∷ Requester ∷ Operation ∷ Selection ∷ SelectedType ∷ Assertion ∷ Subset ∷ Ordering ∷ Target ∷ ranges
 
 -- the first case of `xs` that has the number `k`
 abbrev pub kindIn : List Kind → ℕ → Kind
@@ -56,4 +56,4 @@ kindIn (x ∷ xs) k = cond (eqb k (numberOf x)) x (kindIn xs k)
 
 -- what the kind `k` is
 unfoldable pub kindOf : ℕ → Kind
-kindOf k = kindIn known k
+kindOf k = kindIn knownKinds k

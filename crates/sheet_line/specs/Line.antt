@@ -9,9 +9,13 @@ use Rattle.sheet_line.specs.declared.Line.{Line}
 use Rattle.sheet_line.specs.declared.Taken.{Taken}
 use Rattle.sheet_line.specs.declared.Taken.the-variants as Taken
 
+-- where the bytes of the line at the position `at` begin: after five columns
+abbrev pub placeOf : ℕ → ℕ → ℕ
+placeOf w at = at + 5 * w
+
 -- what stands at the position `at`, where this is at the front of the rest
 abbrev pub takenBy : ℕ → ℕ → Front → Taken
-takenBy w at (Front.Taken k a b c l) = Taken.Line (record { kind = k; a = a; b = b; c = c; place = at + 5 * w; length = l; next = at + 5 * w + l + 1 })
+takenBy w at (Front.Taken k a b c l) = Taken.Line (record { kind = k; a = a; b = b; c = c; place = placeOf w at; length = l; next = placeOf w at + l + 1 })
 takenBy w at Front.NotInForm = Taken.NotInForm
 takenBy w at Front.End = Taken.End
 

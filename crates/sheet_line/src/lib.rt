@@ -6,7 +6,7 @@ ghost use Prim.Native.Nat.{_+_, _≤_, _<_};
 ghost use lib.ListN.{drop};
 ghost use lib.ListN as ListN;
 ghost use Rattle.rules.specs.Sheet.{frontOf};
-ghost use Rattle.sheet_line.specs.Line.{takenAt, bytesOf};
+ghost use Rattle.sheet_line.specs.Line.{placeOf, takenAt, bytesOf};
 
 // A line: its numbers, the position and the length of its bytes, and the position after it.
 pub struct Line {
@@ -37,6 +37,14 @@ fn front_at(s: &[u8], at: usize, w: usize) -> Front
     Front::End
 }
 
+// Where the bytes of the line at the position `at` begin: after its columns.
+pub fn place(at: usize, w: usize) -> usize
+    requires { ⌜ placeOf w at < 18446744073709551616 ⌝ }
+    ensures { λ r. ⌜ r ≡ placeOf w at ⌝ }
+{
+    at + 5 * w
+}
+
 // Where the next line begins: after the bytes and byte 10.
 fn after(place: usize, length: usize) -> usize
     requires { ⌜ place + length < 18446744073709551615 ⌝ }
@@ -58,7 +66,7 @@ pub fn take(s: &[u8], at: usize, w: usize) -> Taken
             c,
             length,
         } => {
-            let place = at + 5 * w;
+            let place = place(at, w);
             Taken::Line(Line {
                 kind,
                 a,

@@ -1,12 +1,12 @@
-// A line written into a lent buffer. Nothing but the line's own bytes changes.
+// A line written into a lent buffer, and its size. Nothing but the line's own bytes changes.
 use sheet_kind::Kind;
 use sheet_kind::number_of;
 ghost use mathlib.Core.Path.{_≡_};
-ghost use Prim.Native.Nat.{_+_, _*_, _≤_};
+ghost use Prim.Native.Nat.{_+_, _*_, _≤_, _<_};
 ghost use lib.ListN.{length};
-ghost use Rattle.rules.specs.Sheet.{line, leading, column, numbers, lineBytes};
+ghost use Rattle.rules.specs.Sheet.{line, lineSize, leading, column, numbers, lineBytes};
+ghost use Rattle.rules.specs.Derived.{putAt};
 ghost use Rattle.sheet_kind.specs.Kinds.{numberOf};
-ghost use Rattle.sheet_write.specs.Put.{putAt};
 
 // Spaces in the four bytes from `at` on.
 fn four_spaces(out: &mut [u8], at: usize)
@@ -101,6 +101,14 @@ fn put_numbers(out: &mut [u8], at: usize, w: usize, k: u64, a: u64, b: u64, c: u
     at + 5 * w
 }
 
+// How many bytes a line of `n` bytes takes.
+pub fn size(w: usize, n: usize) -> usize
+    requires { ⌜ lineSize w n < 18446744073709551616 ⌝ }
+    ensures { λ r. ⌜ r ≡ lineSize w n ⌝ }
+{
+    5 * w + 1 + n
+}
+
 // The line of these numbers and bytes from `at` on; the position after it is returned.
 pub fn put_numbered(
     out: &mut [u8],
@@ -112,8 +120,8 @@ pub fn put_numbered(
     c: u64,
     bytes: &[u8],
 ) -> usize
-    requires { ⌜ (1 ≤ w) × (at + (5 * w + 1 + length (now bytes)) ≤ length (now out)) ⌝ }
-    ensures next { λ r. ⌜ r ≡ at + (5 * w + 1 + length (now (bytes .entry))) ⌝ }
+    requires { ⌜ (1 ≤ w) × (at + lineSize w (length (now bytes)) ≤ length (now out)) ⌝ }
+    ensures next { λ r. ⌜ r ≡ at + lineSize w (length (now (bytes .entry))) ⌝ }
     ensures written { λ _. ⌜ now (out .exit) ≡ putAt (now (out .entry)) at (lineBytes w (line k a b c (now (bytes .entry)))) ⌝ }
 {
     let from = put_numbers(out, at, w, k, a, b, c, bytes.len() as u64);
@@ -134,8 +142,8 @@ pub fn put_line(
     c: u64,
     bytes: &[u8],
 ) -> usize
-    requires { ⌜ (1 ≤ w) × (at + (5 * w + 1 + length (now bytes)) ≤ length (now out)) ⌝ }
-    ensures next { λ r. ⌜ r ≡ at + (5 * w + 1 + length (now (bytes .entry))) ⌝ }
+    requires { ⌜ (1 ≤ w) × (at + lineSize w (length (now bytes)) ≤ length (now out)) ⌝ }
+    ensures next { λ r. ⌜ r ≡ at + lineSize w (length (now (bytes .entry))) ⌝ }
     ensures written { λ _. ⌜ now (out .exit) ≡ putAt (now (out .entry)) at (lineBytes w (line (numberOf kind) a b c (now (bytes .entry)))) ⌝ }
 {
     put_numbered(out, at, w, number_of(kind), a, b, c, bytes)

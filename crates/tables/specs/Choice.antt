@@ -10,7 +10,7 @@ use Rattle.rules.specs.Directory.{Stored}
 use Rattle.rules.specs.Decision.{Setting}
 use Rattle.rules.specs.Request.{Selection}
 use Rattle.rules.specs.Answer.{selected}
-use Rattle.access_set.specs.Member.{bit}
+use Rattle.access_set.specs.Member.{bitOf}
 use Rattle.tables.specs.Book as Book
 use Rattle.tables.specs.Held.{typeAt}
 use Rattle.tables.specs.World.{World}
@@ -18,7 +18,7 @@ use Rattle.tables.specs.declared.plan.Choice.{Choice}
 
 -- `c` is the selection `s`, under this schema
 pub record Chooses (schema : List ℕ) (s : Selection) (c : Choice) : Type 0 where
-  pub ranks : (r : ℕ) → r < length schema → bit (c .ranks) r ≡ selected s (typeAt schema r)
+  pub ranks : (r : ℕ) → r < length schema → bitOf (c .ranks) r ≡ selected s (typeAt schema r)
   pub values : c .values ≡ s .values
   pub nothing : c .nothing ≡ (s .listed && isEmpty (s .types))
 

@@ -9,8 +9,8 @@ use Rattle.rules.specs.Sheet.{Bytes}
 use Rattle.rules.specs.Directory.{Target, Stored, blank, isAlias, leadsTo}
 use Rattle.rules.specs.Decision.{Setting}
 use Rattle.rules.specs.Places.{linesAt, partsOf, valuesOf, schemaOf}
-use Rattle.rules.specs.Laws.Directory.{Accepted}
-use Rattle.tables.specs.Book.{BookFits, width, entries, schema, placeAt, parentAt, namingAt, lengthAt, namingOf, firstAt, targetAt}
+use Rattle.rules.specs.Derived.{Accepted}
+use Rattle.tables.specs.Book.{BookFits, width, entryCount, schema, namingPlace, parentAt, namingAt, lengthAt, namingOf, firstAt, targetAt}
 use Rattle.tables.specs.Held.{HELD, Distinct, HeldAt}
 use Rattle.tables.specs.Sets.{SETS, Rights}
 
@@ -27,8 +27,8 @@ pub record EntryAt (d : Bytes) (e : Stored) (book : List ℕ) (k : ℕ) : Type 0
   pub parent : parentAt book k ≡ e .parent
   pub type : namingAt book k ≡ e .naming .type
   pub value : namingOf book d k ≡ e .naming .value
-  pub within : placeAt book k + lengthAt book k < length d
-  pub values : valuesOf (linesAt (width book) d (placeAt book k + lengthAt book k + 1)) ≡ e .values
+  pub within : namingPlace book k + lengthAt book k < length d
+  pub values : valuesOf (linesAt (width book) d (namingPlace book k + lengthAt book k + 1)) ≡ e .values
   pub target : TargetAt (width book) d (e .target) (targetAt book k)
 
 -- the setting and the accepted entries `es` of the directory `d`, by the book and the rows of the values held
@@ -39,7 +39,7 @@ pub record Entries (σ : Setting) (es : List Stored) (d : Bytes) (book held : Li
   pub schema-is : σ .schema ≡ schemaOf (schema book)
   pub distinct : Distinct (schema book)
   pub accepted : Accepted (σ .schema) es
-  pub count : entries book ≡ length es
+  pub count : entryCount book ≡ length es
   pub listed : (k : ℕ) → k < length es → EntryAt d (getD es k blank) book k
   pub values : (k : ℕ) → k < length es → HeldAt (schema book) d (getD es k blank .values) held (firstAt book k) (firstAt book (suc k))
 

@@ -3,7 +3,7 @@ ghost use mathlib.Core.Path.{_≡_};
 ghost use Rattle.tables.specs.Book as Book;
 ghost use Prim.Native.Nat.{_+_, _≤_, _<_};
 ghost use lib.ListN.{length};
-ghost use Rattle.tables.specs.Book.{BookFits, placeAt, lengthAt, namingOf};
+ghost use Rattle.tables.specs.Book.{BookFits, namingPlace, lengthAt, namingOf};
 
 // One number each: the bytes of a column on the sheets; how many types and entries there are.
 pub const WIDTH: usize = 0;
@@ -53,7 +53,7 @@ pub fn parents(book: &[u64]) -> &[u64]
 
 // The bytes of the naming value of the entry of index `k`, as a part of the directory.
 pub fn naming_value<'a>(book: &[u64; BOOK], d: &'a [u8], k: usize) -> &'a [u8]
-    requires { ⌜ (k < 256) × (placeAt (now book) k + lengthAt (now book) k ≤ length (now d)) ⌝ }
+    requires { ⌜ (k < 256) × (namingPlace (now book) k + lengthAt (now book) k ≤ length (now d)) ⌝ }
     ensures { λ r. ⌜ now r ≡ namingOf (now (book .entry)) (now (d .entry)) k ⌝ }
 {
     let place = book[PLACE + k] as usize;

@@ -2,7 +2,7 @@
 use rules::Outcome;
 ghost use mathlib.Core.Path.{_≡_};
 ghost use Prim.Native.Nat.{_<_};
-ghost use Rattle.access_set.specs.Member.{bit};
+ghost use Rattle.access_set.specs.Member.{bitOf};
 ghost use Rattle.tables.specs.Outcome.{isResult, absentPlan, refusedPlan};
 
 // The answer of one request. What an operation or outcome does not have is 0.
@@ -78,7 +78,7 @@ pub fn is_result(outcome: Outcome) -> bool
 // Is the type of this rank selected?
 pub fn chosen(choice: Choice, rank: usize) -> bool
     requires { ⌜ rank < 64 ⌝ }
-    ensures { λ r. ⌜ r ≡ bit (choice .ranks) rank ⌝ }
+    ensures { λ r. ⌜ r ≡ bitOf (choice .ranks) rank ⌝ }
 {
     (choice.ranks >> rank) % 2 == 1
 }

@@ -1,9 +1,8 @@
 // Blanks in text, byte 32 (#102): whether a text has stray ones, and the text as it counts, byte by byte or as a whole.
 ghost use mathlib.Core.Path.{_≡_};
-ghost use mathlib.Core.Bool.{_&&_, _||_};
+ghost use mathlib.Core.Bool.{_||_};
 ghost use Prim.Native.Nat.{_+_, _≤_, _<_};
-ghost use lib.Dec.{eqb};
-ghost use lib.ListN.{length, getD, take, drop};
+ghost use lib.ListN.{length, take};
 ghost use Rattle.rules.specs.Value as Value;
 ghost use Rattle.value_blank.specs.Blank as Blank;
 

@@ -1,5 +1,5 @@
 -- The folded form of a value, a byte at a time, and four bytes at a time.
-use Prim.Native.Nat.{ℕ, _+_, _-_}
+use Prim.Native.Nat.{ℕ, _+_}
 use mathlib.Core.Bool.{Bool, _&&_, cond}
 use lib.Dec.{eqb}
 use Rattle.rules.specs.Value.{text, small}

@@ -1,5 +1,5 @@
 -- A number that equal values share and few others do, so that bytes are compared only where the numbers agree.
-use Prim.Native.Nat.{ℕ, _+_, _-_, _*_, _/_, _%_}
+use Prim.Native.Nat.{ℕ, _+_, _*_, _/_, _%_}
 use mathlib.Core.List.{[], _∷_}
 use lib.Bits.{bitAnd, bitOr, bitXor}
 use lib.ListN.{take}

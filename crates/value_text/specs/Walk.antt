@@ -6,7 +6,7 @@ use lib.Dec.{ltb}
 use lib.ListN.{drop}
 use Rattle.rules.specs.Sheet.{Bytes}
 use Rattle.rules.specs.Value.{small}
-use Rattle.rules.specs.Laws.Blanks.{words}
+use Rattle.rules.specs.Derived.{words}
 use Rattle.rules.specs.declared.Order.{Order}
 use Rattle.rules.specs.declared.Order.the-variants.{Less, Equal, Greater}
 use Rattle.value_blank.specs.declared.Next.{Next}

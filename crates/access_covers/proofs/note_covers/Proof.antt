@@ -3,47 +3,41 @@ use mathlib.Core.Path.{_≡_, refl}
 use native.Mathlib.Omega.{arith}
 use denote.Ref.{now}
 use lib.ListN.{length}
-use Rattle.access_covers.specs.Noted.{downTo, coversTo}
-use Rattle.access_covers.specs.Laws.Inherit.{down-more, covers-more}
+use Rattle.access_covers.specs.Noted.{coversTo}
+use Rattle.access_covers.specs.Laws.Inherit.{covers-more}
 use Rattle.access_covers.specs.Laws.Covers.{covers-whole}
 use borrow.Author.Needs.{needs}
 use Rattle.access_covers.proofs.note_covers.Statement.{statement}
 use Rattle.access_covers.proofs.note_covers.Tie as tie
 
 abbrev Inv-loop : tie.InvT-loop
-Inv-loop reach order parents sets₀ down₀ k₀ sets down k = (k ≤ length parents) × (sets ≡ coversTo parents k down₀ sets₀) × (down ≡ downTo parents k down₀)
+Inv-loop reach order parents sets₀ k₀ sets k = (k ≤ length parents) × (sets ≡ coversTo parents k sets₀)
 
 abbrev μ-loop : tie.MeasureT-loop
-μ-loop reach order parents sets₀ down₀ k₀ sets down k = length parents - k
+μ-loop reach order parents sets₀ k₀ sets k = length parents - k
 
 loop-holds : tie.Need-loop-holds Inv-loop μ-loop
-unfolding coversTo downTo
-loop-holds c = (omega arith, refl, refl)
+unfolding coversTo
+loop-holds c = (omega arith, refl)
 
 inherit-requires : tie.Need-inherit-requires Inv-loop μ-loop
 inherit-requires c κs =
-    let P = c .before .before .before .before .before .before .before .before .before .before .pre in
-    let L = c .before .before .before .before .loop in
-    let t = c .before .before .before .loop-test .taken in
+    let P = c .before .before .before .before .before .before .before .before .pre in
+    let L = c .before .before .before .loop in
+    let t = c .before .before .loop-test .taken in
     (omega (arith, t, P .1), omega (arith, P .3 (L .k) t))
 
 loop-again : tie.Need-loop-again Inv-loop μ-loop
 loop-again c =
-    let A = c .before .before .before .before .before .before .before .before .before .before .before .args in
-    let L = c .before .before .before .before .before .loop in
-    let E = c .before .before .before .before .before .before .enter-all in
-    let I = c .inherit in (
-      omega (arith, c .before .before .before .before .loop-test .taken),
-      covers-more (now (A .parents)) (E .last .1 .1 .1 .0) (E .last .1 .1 .0) (L .down) (L .sets) (L .k) (L .inv .2) _ (L .inv .1) (I .ensures .0),
-      down-more (now (A .parents)) (E .last .1 .1 .1 .0) (E .last .1 .1 .0) (L .down) (L .sets) (L .k) (L .inv .2) _ (I .ensures .1),
-    )
+    let A = c .before .before .before .before .before .before .before .before .before .args in
+    let L = c .before .before .before .before .loop in
+    (omega (arith, c .before .before .before .loop-test .taken), covers-more (now (A .parents)) _ (L .sets) _ (L .k) (L .inv .1) (c .inherit .ensures))
 
 returns : tie.Need-returns Inv-loop μ-loop
 returns c =
-    let A = c .before .before .before .before .before .before .before .args in
+    let A = c .before .before .before .before .before .before .args in
     let L = c .before .loop in
-    let E = c .before .before .enter-all in
-    covers-whole (now (A .reach)) (now (A .order)) (now (A .parents)) (now (A .sets)) _ _ (L .sets) (L .k) (L .inv .0) (c .loop-test .left) (E .ensures .1) (E .ensures .0) (L .inv .1)
+    covers-whole (now (A .reach)) (now (A .order)) (now (A .parents)) (now (A .sets)) _ (L .sets) (L .k) (L .inv .0) (c .loop-test .left) (c .before .before .enter-all .ensures) (L .inv .1)
 
 pub note-covers-spec : {M : Type 1} → statement M
 note-covers-spec =

@@ -9,17 +9,15 @@ use lib.Dec.{eqb, ltb}
 use lib.ListN.{length, getD, set, take, drop, replicate, length-set, length-replicate}
 use lib.Seq.{getD-set-same, getD-set-other}
 use borrow.Author.Tests.{eqb-true, eqb-false, lt-ltb, le-ltb, ltb-true, ltb-false}
-use Rattle.rules.specs.Sheet.{Bytes}
+use Rattle.rules.specs.Sheet.{Bytes, bit}
 use Rattle.rules.specs.Permission.{Item}
-use Rattle.rules.specs.Laws.First.{itemAt}
+use Rattle.rules.specs.Derived.{itemAt}
 use Rattle.value_syntax.specs.Digest.{digest}
 use Rattle.value_syntax.specs.Laws.Digest.{digest-bound}
-use Rattle.name.specs.Schema.{rankIn}
-use Rattle.directory_schema.specs.Schema.{Rising}
-use Rattle.permission_sheet.specs.Noted as Noted
-use Rattle.permission_sheet.specs.Noted.{ItemRow, DIGEST, TYPE, VALUE, LENGTH, RIGHTS}
+use Rattle.name.specs.Schema.{Rising, rankIn}
+use Rattle.permission_sheet.specs.Noted.{ItemRow, DIGEST, TYPE, VALUE, LENGTH, RIGHTS, SCOPES}
 use Rattle.tables.specs.Held.{typeAt}
-use Rattle.tables.specs.Sets.{SETS, inRow, slotted, Items}
+use Rattle.tables.specs.Sets.{grantsRow, permissionRow, whatRow, typeRow, setRows, digestColumn, valuePlaceColumn, valueLengthColumn, SETS, inRow, slotted, Items}
 use Rattle.access_items.specs.Note.{Small, Rows, permitted, valueNoted, aboutNoted, typeNoted, grantsNoted, itemNoted, itemsNoted}
 use Rattle.access_items.specs.Sorted.{Sorted}
 use Rattle.access_items.specs.Laws.Rows.{same-row, clear-row, zeros, more-in}
@@ -38,14 +36,14 @@ items-more rights schema order s t u j h e =
 permitted-length : (n mask j : ℕ) (t : List ℕ) → length (permitted n mask j t) ≡ length t
 unfolding permitted
 permitted-length zero mask j t = refl
-permitted-length (suc b) mask j t = marked-length (permitted b mask j t) (258 + b) j (mask / 2 ^ b % 2) ∙ permitted-length b mask j t
+permitted-length (suc b) mask j t = marked-length (permitted b mask j t) (permissionRow + b) j (mask / 2 ^ b % 2) ∙ permitted-length b mask j t
 
 type-length : (schema : List ℕ) (a j : ℕ) (t : List ℕ) → length (typeNoted schema a j t) ≡ length t
 unfolding typeNoted
 type-length schema a j t = go (ltb (rankIn schema a) (length schema))
   where
-    go : (b : Bool) → length (cond b (marked t (270 + rankIn schema a) j 1) t) ≡ length t
-    go true = marked-length t (270 + rankIn schema a) j 1
+    go : (b : Bool) → length (cond b (marked t (typeRow + rankIn schema a) j 1) t) ≡ length t
+    go true = marked-length t (typeRow + rankIn schema a) j 1
     go false = refl
 
 item-length : (rights : List ℕ) (at : ℕ) (schema : List ℕ) (j : ℕ) (t : List ℕ) → length (itemNoted rights at schema j t) ≡ length t
@@ -61,46 +59,46 @@ items-length rights schema order (suc n) t = item-length rights (getD order n 0 
 
 module _ (rights : List ℕ) (at j : ℕ) (small : j < 256) (t : List ℕ) (len : length t ≡ SETS) where
   t₁ : List ℕ
-  t₁ = set t (1592 + j) (getD rights (at + DIGEST) 0)
+  t₁ = set t (digestColumn + j) (getD rights (at + DIGEST) 0)
 
   t₂ : List ℕ
-  t₂ = set t₁ (1848 + j) (getD rights (at + VALUE) 0)
+  t₂ = set t₁ (valuePlaceColumn + j) (getD rights (at + VALUE) 0)
 
   len₁ : length t₁ ≡ SETS
   unfolding t₁
-  len₁ = length-set t (1592 + j) (getD rights (at + DIGEST) 0) ∙ len
+  len₁ = length-set t (digestColumn + j) (getD rights (at + DIGEST) 0) ∙ len
 
   len₂ : length t₂ ≡ SETS
   unfolding t₂
-  len₂ = length-set t₁ (1848 + j) (getD rights (at + VALUE) 0) ∙ len₁
+  len₂ = length-set t₁ (valuePlaceColumn + j) (getD rights (at + VALUE) 0) ∙ len₁
 
   value-length : length (valueNoted rights at j t) ≡ SETS
   unfolding valueNoted t₁ t₂
-  value-length = length-set t₂ (2104 + j) (getD rights (at + LENGTH) 0) ∙ len₂
+  value-length = length-set t₂ (valueLengthColumn + j) (getD rights (at + LENGTH) 0) ∙ len₂
 
-  value-other : (i : ℕ) → (i ≡ 1592 + j → ⊥) → (i ≡ 1848 + j → ⊥) → (i ≡ 2104 + j → ⊥) → getD (valueNoted rights at j t) i 0 ≡ getD t i 0
+  value-other : (i : ℕ) → (i ≡ digestColumn + j → ⊥) → (i ≡ valuePlaceColumn + j → ⊥) → (i ≡ valueLengthColumn + j → ⊥) → getD (valueNoted rights at j t) i 0 ≡ getD t i 0
   unfolding valueNoted t₁ t₂
   value-other i a b c =
-      getD-set-other t₂ (2104 + j) i (getD rights (at + LENGTH) 0) 0 c
-      ∙ getD-set-other t₁ (1848 + j) i (getD rights (at + VALUE) 0) 0 b
-      ∙ getD-set-other t (1592 + j) i (getD rights (at + DIGEST) 0) 0 a
+      getD-set-other t₂ (valueLengthColumn + j) i (getD rights (at + LENGTH) 0) 0 c
+      ∙ getD-set-other t₁ (valuePlaceColumn + j) i (getD rights (at + VALUE) 0) 0 b
+      ∙ getD-set-other t (digestColumn + j) i (getD rights (at + DIGEST) 0) 0 a
 
-  value-digest : getD (valueNoted rights at j t) (1592 + j) 0 ≡ getD rights (at + DIGEST) 0
+  value-digest : getD (valueNoted rights at j t) (digestColumn + j) 0 ≡ getD rights (at + DIGEST) 0
   unfolding valueNoted t₁ t₂
   value-digest =
-      getD-set-other t₂ (2104 + j) (1592 + j) (getD rights (at + LENGTH) 0) 0 (λ e. omega arith)
-      ∙ getD-set-other t₁ (1848 + j) (1592 + j) (getD rights (at + VALUE) 0) 0 (λ e. omega arith)
-      ∙ getD-set-same t (1592 + j) (getD rights (at + DIGEST) 0) 0 (omega arith)
+      getD-set-other t₂ (valueLengthColumn + j) (digestColumn + j) (getD rights (at + LENGTH) 0) 0 (λ e. omega arith)
+      ∙ getD-set-other t₁ (valuePlaceColumn + j) (digestColumn + j) (getD rights (at + VALUE) 0) 0 (λ e. omega arith)
+      ∙ getD-set-same t (digestColumn + j) (getD rights (at + DIGEST) 0) 0 (omega arith)
 
-  value-place : getD (valueNoted rights at j t) (1848 + j) 0 ≡ getD rights (at + VALUE) 0
+  value-place : getD (valueNoted rights at j t) (valuePlaceColumn + j) 0 ≡ getD rights (at + VALUE) 0
   unfolding valueNoted t₁ t₂
   value-place =
-      getD-set-other t₂ (2104 + j) (1848 + j) (getD rights (at + LENGTH) 0) 0 (λ e. omega arith)
-      ∙ getD-set-same t₁ (1848 + j) (getD rights (at + VALUE) 0) 0 (omega (arith, len₁))
+      getD-set-other t₂ (valueLengthColumn + j) (valuePlaceColumn + j) (getD rights (at + LENGTH) 0) 0 (λ e. omega arith)
+      ∙ getD-set-same t₁ (valuePlaceColumn + j) (getD rights (at + VALUE) 0) 0 (omega (arith, len₁))
 
-  value-size : getD (valueNoted rights at j t) (2104 + j) 0 ≡ getD rights (at + LENGTH) 0
+  value-size : getD (valueNoted rights at j t) (valueLengthColumn + j) 0 ≡ getD rights (at + LENGTH) 0
   unfolding valueNoted t₁ t₂
-  value-size = getD-set-same t₂ (2104 + j) (getD rights (at + LENGTH) 0) 0 (omega (arith, len₂))
+  value-size = getD-set-same t₂ (valueLengthColumn + j) (getD rights (at + LENGTH) 0) 0 (omega (arith, len₂))
 
 -- a column of numbers from `c` on, with one place more
 more-at : (s t : List ℕ) (c p : ℕ) (x : ℕ → ℕ) → getD t (c + p) 0 ≡ x p → ((i : ℕ) → i < 256 → (i ≡ p → ⊥) → getD t (c + i) 0 ≡ getD s (c + i) 0)
@@ -131,20 +129,20 @@ rowStart order j = getD order j 0 * RIGHTS
 module _ (rights schema order : List ℕ) where
   pub record Filled (n : ℕ) (t : List ℕ) : Type 0 where
     pub size : length t ≡ SETS
-    pub front : (i : ℕ) → i < 1028 → getD t i 0 ≡ 0
-    pub rows : (f j : ℕ) → f < 398 → inRow t f j ≡ (ltb j n && belongs rights (rowStart order j) schema f)
-    pub digests : (j : ℕ) → j < 256 → getD t (1592 + j) 0 ≡ cond (ltb j n) (getD rights (rowStart order j + DIGEST) 0) 0
-    pub places : (j : ℕ) → j < 256 → getD t (1848 + j) 0 ≡ cond (ltb j n) (getD rights (rowStart order j + VALUE) 0) 0
-    pub sizes : (j : ℕ) → j < 256 → getD t (2104 + j) 0 ≡ cond (ltb j n) (getD rights (rowStart order j + LENGTH) 0) 0
+    pub front : (i : ℕ) → i < grantsRow * 4 → getD t i 0 ≡ 0
+    pub rows : (f j : ℕ) → f < setRows → inRow t f j ≡ (ltb j n && belongs rights (rowStart order j) schema f)
+    pub digests : (j : ℕ) → j < 256 → getD t (digestColumn + j) 0 ≡ cond (ltb j n) (getD rights (rowStart order j + DIGEST) 0) 0
+    pub places : (j : ℕ) → j < 256 → getD t (valuePlaceColumn + j) 0 ≡ cond (ltb j n) (getD rights (rowStart order j + VALUE) 0) 0
+    pub sizes : (j : ℕ) → j < 256 → getD t (valueLengthColumn + j) 0 ≡ cond (ltb j n) (getD rights (rowStart order j + LENGTH) 0) 0
 
   filled-none : Filled 0 (replicate SETS 0)
   filled-none = record {
     size = length-replicate {A = ℕ} SETS 0;
     front = λ i l. zeros SETS i;
     rows = λ f j l. clear-row (replicate SETS 0) f (λ i a b. zeros SETS i) j ∙ ap (λ (b : Bool). b && belongs rights (rowStart order j) schema f) (sym (le-ltb j 0 (omega arith)));
-    digests = λ j l. zeros SETS (1592 + j) ∙ ap (λ (b : Bool). cond b (getD rights (rowStart order j + DIGEST) 0) 0) (sym (le-ltb j 0 (omega arith)));
-    places = λ j l. zeros SETS (1848 + j) ∙ ap (λ (b : Bool). cond b (getD rights (rowStart order j + VALUE) 0) 0) (sym (le-ltb j 0 (omega arith)));
-    sizes = λ j l. zeros SETS (2104 + j) ∙ ap (λ (b : Bool). cond b (getD rights (rowStart order j + LENGTH) 0) 0) (sym (le-ltb j 0 (omega arith)));
+    digests = λ j l. zeros SETS (digestColumn + j) ∙ ap (λ (b : Bool). cond b (getD rights (rowStart order j + DIGEST) 0) 0) (sym (le-ltb j 0 (omega arith)));
+    places = λ j l. zeros SETS (valuePlaceColumn + j) ∙ ap (λ (b : Bool). cond b (getD rights (rowStart order j + VALUE) 0) 0) (sym (le-ltb j 0 (omega arith)));
+    sizes = λ j l. zeros SETS (valueLengthColumn + j) ∙ ap (λ (b : Bool). cond b (getD rights (rowStart order j + LENGTH) 0) 0) (sym (le-ltb j 0 (omega arith)));
   }
 
   filled-more : (n : ℕ) (t : List ℕ) → n < 256 → Small rights (rowStart order n) → Rising 0 schema → length schema ≤ 64 → Filled n t → Filled (suc n) (itemNoted rights (rowStart order n) schema n t)
@@ -157,12 +155,12 @@ module _ (rights schema order : List ℕ) where
         ∙ E .rows f j
         ∙ ap (λ (m : Bool). (eqb j n && belongs rights (rowStart order n) schema f) || m) (h .rows f j b)
         ∙ more-in j n (λ i. belongs rights (rowStart order i) schema f);
-    digests = more-at t v 1592 n (λ i. getD rights (rowStart order i + DIGEST) 0) (value-digest rights (rowStart order n) n l u len)
-        (λ i b d. other (1592 + i) (λ e. d (omega arith)) (λ e. omega arith) (λ e. omega arith) ∙ E .after (1592 + i) (omega arith)) (h .digests);
-    places = more-at t v 1848 n (λ i. getD rights (rowStart order i + VALUE) 0) (value-place rights (rowStart order n) n l u len)
-        (λ i b d. other (1848 + i) (λ e. omega arith) (λ e. d (omega arith)) (λ e. omega arith) ∙ E .after (1848 + i) (omega arith)) (h .places);
-    sizes = more-at t v 2104 n (λ i. getD rights (rowStart order i + LENGTH) 0) (value-size rights (rowStart order n) n l u len)
-        (λ i b d. other (2104 + i) (λ e. omega arith) (λ e. omega arith) (λ e. d (omega arith)) ∙ E .after (2104 + i) (omega arith)) (h .sizes);
+    digests = more-at t v digestColumn n (λ i. getD rights (rowStart order i + DIGEST) 0) (value-digest rights (rowStart order n) n l u len)
+        (λ i b d. other (digestColumn + i) (λ e. d (omega arith)) (λ e. omega arith) (λ e. omega arith) ∙ E .after (digestColumn + i) (omega arith)) (h .digests);
+    places = more-at t v valuePlaceColumn n (λ i. getD rights (rowStart order i + VALUE) 0) (value-place rights (rowStart order n) n l u len)
+        (λ i b d. other (valuePlaceColumn + i) (λ e. omega arith) (λ e. d (omega arith)) (λ e. omega arith) ∙ E .after (valuePlaceColumn + i) (omega arith)) (h .places);
+    sizes = more-at t v valueLengthColumn n (λ i. getD rights (rowStart order i + LENGTH) 0) (value-size rights (rowStart order n) n l u len)
+        (λ i b d. other (valueLengthColumn + i) (λ e. omega arith) (λ e. omega arith) (λ e. d (omega arith)) ∙ E .after (valueLengthColumn + i) (omega arith)) (h .sizes);
   }
     where
       u : List ℕ
@@ -177,7 +175,7 @@ module _ (rights schema order : List ℕ) where
       len : length u ≡ SETS
       len = E .size ∙ h .size
 
-      other : (i : ℕ) → (i ≡ 1592 + n → ⊥) → (i ≡ 1848 + n → ⊥) → (i ≡ 2104 + n → ⊥) → getD v i 0 ≡ getD u i 0
+      other : (i : ℕ) → (i ≡ digestColumn + n → ⊥) → (i ≡ valuePlaceColumn + n → ⊥) → (i ≡ valueLengthColumn + n → ⊥) → getD v i 0 ≡ getD u i 0
       other = value-other rights (rowStart order n) n l u len
 
   module _ (small : Rows rights order) (rising : Rising 0 schema) (few : length schema ≤ 64) (room : length order ≤ 256) where
@@ -190,7 +188,7 @@ module _ (rights schema order : List ℕ) where
 
 module _ (w : ℕ) (p : Bytes) (is : List Item) (rights scopes order : List ℕ) (S : Sorted w p is rights scopes order) where
   row-of : (j : ℕ) → j < length is
-      → ItemRow w p (itemAt is order j) (λ c. getD rights (rowStart order j + c) 0) (λ c. getD scopes (getD order j 0 * Noted.SCOPES + c) 0)
+      → ItemRow w p (itemAt is order j) (λ c. getD rights (rowStart order j + c) 0) (λ c. getD scopes (getD order j 0 * SCOPES + c) 0)
   row-of j l = S .table .rows (getD order j 0) (S .ranked .within j l)
 
   pub small-rows : Rows rights order
@@ -204,7 +202,7 @@ module _ (w : ℕ) (p : Bytes) (is : List Item) (rights scopes order : List ℕ)
         what = omega (arith, R .what, R .bounded .what);
       }
     where
-      bit-small : (b : Bool) → Noted.bit b < 2
+      bit-small : (b : Bool) → bit b < 2
       bit-small true = omega arith
       bit-small false = omega arith
 
@@ -217,7 +215,7 @@ module _ (w : ℕ) (p : Bytes) (is : List Item) (rights scopes order : List ℕ)
     F = filled-all rights schema order small-rows rising few (omega (arith, S .count, S .table .few)) (length order) (omega arith)
 
     -- no word of the entries' rows changes
-    pub items-front : (i : ℕ) → i < 1028 → getD (itemsNoted rights schema order (length order) (replicate SETS 0)) i 0 ≡ 0
+    pub items-front : (i : ℕ) → i < grantsRow * 4 → getD (itemsNoted rights schema order (length order) (replicate SETS 0)) i 0 ≡ 0
     items-front = F .front
 
     below : (j : ℕ) → j < length is → ltb j (length order) ≡ true
@@ -227,7 +225,7 @@ module _ (w : ℕ) (p : Bytes) (is : List Item) (rights scopes order : List ℕ)
     small j l = small-rows j (subst (λ (m : ℕ). j < m) (sym (S .count)) l)
 
     -- a member of a row
-    in-row′ : (f j : ℕ) → f < 398 → j < length is → inRow t f j ≡ belongs rights (rowStart order j) schema f
+    in-row′ : (f j : ℕ) → f < setRows → j < length is → inRow t f j ≡ belongs rights (rowStart order j) schema f
     in-row′ f j h l = F .rows f j h ∙ ap (λ (b : Bool). b && belongs rights (rowStart order j) schema f) (below j l)
 
     -- a number of a column
@@ -239,40 +237,40 @@ module _ (w : ℕ) (p : Bytes) (is : List Item) (rights scopes order : List ℕ)
       ranked = S .ranked;
       few = S .table .few;
       grants = λ j l.
-          in-row′ 257 j (omega arith) l ∙ belongs-grants rights _ _ (small j l) rising few
+          in-row′ grantsRow j (omega arith) l ∙ belongs-grants rights _ _ (small j l) rising few
           ∙ ap (λ (m : ℕ). eqb m 1) (row-of j l .grants) ∙ one (itemAt is order j .grants);
       permission = λ b j h l.
-          in-row′ (258 + b) j (omega arith) l ∙ belongs-permission rights _ _ (small j l) rising few b h
+          in-row′ (permissionRow + b) j (omega arith) l ∙ belongs-permission rights _ _ (small j l) rising few b h
           ∙ ap (λ (m : ℕ). eqb (m / 2 ^ b % 2) 1) (row-of j l .permissions);
       what = λ x j h l.
-          in-row′ (264 + x) j (omega arith) l ∙ belongs-what rights _ _ (small j l) rising few x h ∙ ap (λ (m : ℕ). eqb m x) (row-of j l .what);
+          in-row′ (whatRow + x) j (omega arith) l ∙ belongs-what rights _ _ (small j l) rising few x h ∙ ap (λ (m : ℕ). eqb m x) (row-of j l .what);
       type = λ r j h l.
-          in-row′ (270 + r) j (omega arith) l ∙ belongs-type rights _ _ (small j l) rising few r h
+          in-row′ (typeRow + r) j (omega arith) l ∙ belongs-type rights _ _ (small j l) rising few r h
           ∙ ap (λ (m : ℕ). eqb m (typeAt schema r)) (row-of j l .type);
       slot = λ r j g h l.
           in-row′ r j (omega arith) l ∙ belongs-slot rights _ _ (small j l) rising few r g h ∙ ap (λ (m : ℕ). slotted m r) (row-of j l .digest);
-      digests = λ j l. in-column 1592 (λ i. getD rights (rowStart order i + DIGEST) 0) (F .digests) j l ∙ row-of j l .digest;
+      digests = λ j l. in-column digestColumn (λ i. getD rights (rowStart order i + DIGEST) 0) (F .digests) j l ∙ row-of j l .digest;
       value = λ j l.
-          ap₂ (λ (m n : ℕ). take m (drop n p)) (in-column 2104 (λ i. getD rights (rowStart order i + LENGTH) 0) (F .sizes) j l)
-          (in-column 1848 (λ i. getD rights (rowStart order i + VALUE) 0) (F .places) j l)
+          ap₂ (λ (m n : ℕ). take m (drop n p)) (in-column valueLengthColumn (λ i. getD rights (rowStart order i + LENGTH) 0) (F .sizes) j l)
+          (in-column valuePlaceColumn (λ i. getD rights (rowStart order i + VALUE) 0) (F .places) j l)
           ∙ row-of j l .value;
       within = λ j l. fits j l (ltb j (length order)) refl;
     }
       where
-        one : (b : Bool) → eqb (Noted.bit b) 1 ≡ b
+        one : (b : Bool) → eqb (bit b) 1 ≡ b
         one true = refl
         one false = refl
 
-        fits : (j : ℕ) → j < 256 → (b : Bool) → ltb j (length order) ≡ b → getD t (1848 + j) 0 + getD t (2104 + j) 0 ≤ length p
+        fits : (j : ℕ) → j < 256 → (b : Bool) → ltb j (length order) ≡ b → getD t (valuePlaceColumn + j) 0 + getD t (valueLengthColumn + j) 0 ≤ length p
         fits j l true e =
             let b : j < length is = subst (λ (m : ℕ). j < m) (S .count) (ltb-true j (length order) e) in
             omega (
               arith,
               row-of j b .value-within,
-              in-column 2104 (λ i. getD rights (rowStart order i + LENGTH) 0) (F .sizes) j b,
-              in-column 1848 (λ i. getD rights (rowStart order i + VALUE) 0) (F .places) j b,
+              in-column valueLengthColumn (λ i. getD rights (rowStart order i + LENGTH) 0) (F .sizes) j b,
+              in-column valuePlaceColumn (λ i. getD rights (rowStart order i + VALUE) 0) (F .places) j b,
             )
         fits j l false e =
-            let a : getD t (1848 + j) 0 ≡ 0 = F .places j l ∙ ap (λ (b : Bool). cond b (getD rights (rowStart order j + VALUE) 0) 0) e in
-            let b : getD t (2104 + j) 0 ≡ 0 = F .sizes j l ∙ ap (λ (b : Bool). cond b (getD rights (rowStart order j + LENGTH) 0) 0) e in
+            let a : getD t (valuePlaceColumn + j) 0 ≡ 0 = F .places j l ∙ ap (λ (b : Bool). cond b (getD rights (rowStart order j + VALUE) 0) 0) e in
+            let b : getD t (valueLengthColumn + j) 0 ≡ 0 = F .sizes j l ∙ ap (λ (b : Bool). cond b (getD rights (rowStart order j + LENGTH) 0) 0) e in
             omega arith

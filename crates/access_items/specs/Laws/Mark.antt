@@ -11,7 +11,7 @@ use lib.ListN.{length, getD, set, length-set}
 use lib.Pow.{shl-exact}
 use lib.Seq.{getD-set-same, getD-set-other}
 use borrow.Author.Tests.{eq-eqb, ne-eqb, eqb-true, eqb-false, ltb-true, ltb-false}
-use Rattle.access_set.specs.Member.{bit}
+use Rattle.access_set.specs.Member.{bitOf}
 use Rattle.access_set.specs.Laws.Bit.{bit-or, bit-none, bit-pow}
 use Rattle.tables.specs.Sets.{inRow}
 use Rattle.access_items.specs.Mark.{marked}
@@ -32,13 +32,13 @@ module _ (t : List ℕ) (r j b : ℕ) where
 
   module _ (room : r * 4 + 4 ≤ length t) (small : j < 256) (two : b < 2) where
     -- the bit of one word
-    bit-at : (b : ℕ) → b < 2 → (m i : ℕ) → bit (b * 2 ^ m) i ≡ (eqb i m && eqb b 1)
-    bit-at zero h m i = ap (λ (x : ℕ). bit x i) (zero-mul (2 ^ m)) ∙ bit-none i ∙ none (eqb i m)
+    bit-at : (b : ℕ) → b < 2 → (m i : ℕ) → bitOf (b * 2 ^ m) i ≡ (eqb i m && eqb b 1)
+    bit-at zero h m i = ap (λ (x : ℕ). bitOf x i) (zero-mul (2 ^ m)) ∙ bit-none i ∙ none (eqb i m)
       where
         none : (x : Bool) → false ≡ (x && false)
         none true = refl
         none false = refl
-    bit-at (suc zero) h m i = ap (λ (x : ℕ). bit x i) (one-mul (2 ^ m)) ∙ bit-pow m i ∙ all (eqb i m)
+    bit-at (suc zero) h m i = ap (λ (x : ℕ). bitOf x i) (one-mul (2 ^ m)) ∙ bit-pow m i ∙ all (eqb i m)
       where
         all : (x : Bool) → x ≡ (x && true)
         all true = refl
@@ -76,13 +76,13 @@ module _ (t : List ℕ) (r j b : ℕ) where
 
         here : i < 256 → f ≡ r → i / 64 ≡ j / 64 → inRow t′ f i ≡ ((eqb i j && (eqb f r && eqb b 1)) || inRow t f i)
         here l e d =
-            in-row t′ f i l ∙ ap (λ (m : ℕ). bit (getD t′ m 0) (i % 64)) at
-            ∙ ap (λ (x : ℕ). bit x (i % 64)) (getD-set-same t (r * 4 + j / 64) (bitOr W (b * 2 ^ (j % 64))) 0 (omega arith))
+            in-row t′ f i l ∙ ap (λ (m : ℕ). bitOf (getD t′ m 0) (i % 64)) at
+            ∙ ap (λ (x : ℕ). bitOf x (i % 64)) (getD-set-same t (r * 4 + j / 64) (bitOr W (b * 2 ^ (j % 64))) 0 (omega arith))
             ∙ bit-or W (b * 2 ^ (j % 64)) (i % 64)
-            ∙ flip (bit W (i % 64)) (bit (b * 2 ^ (j % 64)) (i % 64))
+            ∙ flip (bitOf W (i % 64)) (bitOf (b * 2 ^ (j % 64)) (i % 64))
             ∙ ap₂ (λ (x y : Bool). x || y)
             (bit-at b two (j % 64) (i % 64) ∙ ap₂ (λ (x y : Bool). x && (y && eqb b 1)) (same (eqb (i % 64) (j % 64)) refl) (sym (eq-eqb f r e)))
-            (ap (λ (m : ℕ). bit (getD t m 0) (i % 64)) (sym at) ∙ sym (in-row t f i l))
+            (ap (λ (m : ℕ). bitOf (getD t m 0) (i % 64)) (sym at) ∙ sym (in-row t f i l))
           where
             at : f * 4 + i / 64 ≡ r * 4 + j / 64
             at = omega arith
@@ -94,7 +94,7 @@ module _ (t : List ℕ) (r j b : ℕ) where
         away : i < 256 → (f * 4 + i / 64 ≡ r * 4 + j / 64 → ⊥) → inRow t′ f i ≡ inRow t f i
         away l d =
             in-row t′ f i l
-            ∙ ap (λ (x : ℕ). bit x (i % 64)) (getD-set-other t (r * 4 + j / 64) (f * 4 + i / 64) (bitOr W (b * 2 ^ (j % 64))) 0 d)
+            ∙ ap (λ (x : ℕ). bitOf x (i % 64)) (getD-set-other t (r * 4 + j / 64) (f * 4 + i / 64) (bitOr W (b * 2 ^ (j % 64))) 0 d)
             ∙ sym (in-row t f i l)
 
         by : i < 256 → (x : Bool) → eqb f r ≡ x → (y : Bool) → eqb (i / 64) (j / 64) ≡ y → inRow t′ f i ≡ ((eqb i j && (eqb f r && eqb b 1)) || inRow t f i)

@@ -13,16 +13,14 @@ use Rattle.rules.specs.Sheet.{Bytes}
 use Rattle.rules.specs.Permission.{Item}
 use Rattle.rules.specs.Arrange.{arrangedBy}
 use Rattle.rules.specs.Laws.Lists.{any-at, any-found, getD-map}
-use Rattle.rules.specs.Laws.Each.{Each, each-at}
+use Rattle.rules.specs.Derived.{Each, weight, noItem, score, itemAt, Ranked}
+use Rattle.rules.specs.Laws.Each.{each-at}
 use Rattle.rules.specs.Laws.Arrange.{WeakOrder, arranged-length, each-arranged-by, any-arranged, ordered-arranged, ordered-at, highest-first}
-use Rattle.rules.specs.Laws.Decision.{weight}
-use Rattle.rules.specs.Laws.First.{blank, score, itemAt, Ranked}
-use Rattle.permission_sheet.specs.Noted as Noted
 use Rattle.permission_sheet.specs.Noted.{Table, SCORE, RIGHTS}
 use Rattle.access_order.specs.Pass.{upTo, inOrder}
 use Rattle.access_order.specs.Laws.Pass.{length-upTo, low-upTo, at-upTo}
 use Rattle.access_order.specs.Laws.Order.{length-order, in-order-arranged}
-use Rattle.access_items.specs.Rank.{scoresOf, orderOf}
+use Rattle.access_items.specs.Rank.{scoresOf, weightOrder}
 
 -- ---- the scores
 
@@ -44,15 +42,6 @@ scores-more rights keys k room h =
     ap (λ (m : ℕ). take m (set keys k (scoreIn rights k))) (add-one k) ∙ take-suc-set keys k (scoreIn rights k) room ∙ ap (λ (l : List ℕ). l ++ (scoreIn rights k ∷ [])) h
     ∙ sym (map-append (scoreIn rights) (upTo k) (k ∷ [])) ∙ ap (scoresOf rights) (sym (add-one k))
 
--- the score that is noted is the one that ranks
-score-noted : (i : Item) → Noted.score i ≡ score i
-unfolding Noted.score score
-score-noted i = go (i .grants)
-  where
-    go : (g : Bool) → cond g (weight i * 2 + 2) (weight i * 2 + 3) ≡ weight i * 2 + cond g 2 3
-    go true = refl
-    go false = refl
-
 score-small : (i : Item) → weight i ≤ 1535 → score i < 4096
 unfolding score
 score-small i h = go (i .grants)
@@ -63,21 +52,21 @@ score-small i h = go (i .grants)
 
 -- ---- the order
 
-pub length-orderOf : (rights : List ℕ) (n : ℕ) → length (orderOf rights n) ≡ n
-unfolding orderOf
+pub length-orderOf : (rights : List ℕ) (n : ℕ) → length (weightOrder rights n) ≡ n
+unfolding weightOrder
 length-orderOf rights n = length-order (scoresOf rights n) ∙ length-scores rights n
 
 -- the keys sorted
 pub order-of-keys : (rights keys before after : List ℕ) (n : ℕ) → take n keys ≡ scoresOf rights n → after ≡ inOrder (take (n - 0) keys) ++ drop (length (take (n - 0) keys)) before
-    → after ≡ orderOf rights n ++ drop n before
-unfolding orderOf
+    → after ≡ weightOrder rights n ++ drop n before
+unfolding weightOrder
 order-of-keys rights keys before after n h e =
     let z : n - 0 ≡ n = omega arith in
     let q : take (n - 0) keys ≡ scoresOf rights n = ap (λ (m : ℕ). take m keys) z ∙ h in
     e ∙ ap (λ (l : List ℕ). inOrder l ++ drop (length l) before) q ∙ ap (λ (m : ℕ). inOrder (scoresOf rights n) ++ drop m before) (length-scores rights n)
 
-pub ranked-order : (w : ℕ) (p : Bytes) (is : List Item) (rights scopes : List ℕ) → Table w p is rights scopes → Ranked is (orderOf rights (length is))
-unfolding orderOf
+pub ranked-order : (w : ℕ) (p : Bytes) (is : List Item) (rights scopes : List ℕ) → Table w p is rights scopes → Ranked is (weightOrder rights (length is))
+unfolding weightOrder
 ranked-order w p is rights scopes table = subst (Ranked is) (sym arranged) (record { within = within; complete = complete; falling = λ q r l m. falling q r l m (eqb q r) refl })
   where
     n : ℕ
@@ -89,13 +78,13 @@ ranked-order w p is rights scopes table = subst (Ranked is) (sym arranged) (reco
     keys : List ℕ
     keys = scoresOf rights n
 
-    key : (k : ℕ) → k < n → getD keys k 0 ≡ score (getD is k blank)
-    key k l = score-at rights n k l ∙ table .rows k l .score ∙ score-noted (getD is k blank)
+    key : (k : ℕ) → k < n → getD keys k 0 ≡ score (getD is k noItem)
+    key k l = score-at rights n k l ∙ table .rows k l .score
 
     small : (k : ℕ) → k < length keys → getD keys k 0 < 4096
     small k l =
         let b : k < n = subst (λ (m : ℕ). k < m) (length-scores rights n) l in
-        subst (λ (m : ℕ). m < 4096) (sym (key k b)) (score-small (getD is k blank) (table .rows k b .bounded .weight))
+        subst (λ (m : ℕ). m < 4096) (sym (key k b)) (score-small (getD is k noItem) (table .rows k b .bounded .weight))
 
     before : ℕ → ℕ → Bool
     before a b = ltb (getD keys b 0) (getD keys a 0)
@@ -106,7 +95,7 @@ ranked-order w p is rights scopes table = subst (Ranked is) (sym arranged) (reco
     order : List ℕ
     order = arrangedBy before (upTo n)
 
-    arranged : orderOf rights n ≡ order
+    arranged : weightOrder rights n ≡ order
     arranged = in-order-arranged keys small ∙ ap (λ (m : ℕ). arrangedBy before (upTo m)) (length-scores rights n)
 
     low : Each Low (upTo n)

@@ -7,7 +7,7 @@ use native.Mathlib.Omega.{arith}
 use lib.Dec.{eqb, ltb}
 use lib.ListN.{getD, replicate, getD-replicate, length-replicate, List·getD-eq-default}
 use borrow.Author.Tests.{eqb-true, eqb-false, lt-ltb, le-ltb, ltb-true, ltb-false}
-use Rattle.access_set.specs.Member.{bit, wordOf, member}
+use Rattle.access_set.specs.Member.{bitOf, wordOf, member}
 use Rattle.access_set.specs.Laws.Bit.{bit-none}
 use Rattle.access_set.specs.Laws.Sets.{member-beyond}
 use Rattle.tables.specs.Sets.{rowOf, inRow}
@@ -23,9 +23,9 @@ word-of t r (suc (suc (suc zero))) h = refl
 word-of t r (suc (suc (suc (suc k)))) h = absurd (omega arith)
 
 -- a member by its word
-pub in-row : (t : List ℕ) (r j : ℕ) → j < 256 → inRow t r j ≡ bit (getD t (r * 4 + j / 64) 0) (j % 64)
+pub in-row : (t : List ℕ) (r j : ℕ) → j < 256 → inRow t r j ≡ bitOf (getD t (r * 4 + j / 64) 0) (j % 64)
 unfolding inRow member
-in-row t r j h = ap (λ (x : ℕ). bit x (j % 64)) (word-of t r (j / 64) (omega arith))
+in-row t r j h = ap (λ (x : ℕ). bitOf x (j % 64)) (word-of t r (j / 64) (omega arith))
 
 pub in-beyond : (t : List ℕ) (r j : ℕ) → 256 ≤ j → inRow t r j ≡ false
 unfolding inRow
@@ -38,7 +38,7 @@ same-row s t r h j = go (ltb j 256) refl
     go : (b : Bool) → ltb j 256 ≡ b → inRow s r j ≡ inRow t r j
     go true e =
         let l : j < 256 = ltb-true j 256 e in
-        in-row s r j l ∙ ap (λ (x : ℕ). bit x (j % 64)) (h (r * 4 + j / 64) (omega arith) (omega arith)) ∙ sym (in-row t r j l)
+        in-row s r j l ∙ ap (λ (x : ℕ). bitOf x (j % 64)) (h (r * 4 + j / 64) (omega arith) (omega arith)) ∙ sym (in-row t r j l)
     go false e = let l : 256 ≤ j = ltb-false j 256 e in in-beyond s r j l ∙ sym (in-beyond t r j l)
 
 -- a row of zeros
@@ -46,7 +46,7 @@ pub clear-row : (t : List ℕ) (r : ℕ) → ((i : ℕ) → r * 4 ≤ i → i < 
 clear-row t r h j = go (ltb j 256) refl
   where
     go : (b : Bool) → ltb j 256 ≡ b → inRow t r j ≡ false
-    go true e = in-row t r j (ltb-true j 256 e) ∙ ap (λ (x : ℕ). bit x (j % 64)) (h (r * 4 + j / 64) (omega arith) (omega (arith, ltb-true j 256 e))) ∙ bit-none (j % 64)
+    go true e = in-row t r j (ltb-true j 256 e) ∙ ap (λ (x : ℕ). bitOf x (j % 64)) (h (r * 4 + j / 64) (omega arith) (omega (arith, ltb-true j 256 e))) ∙ bit-none (j % 64)
     go false e = in-beyond t r j (ltb-false j 256 e)
 
 -- ---- zeros

@@ -11,7 +11,7 @@ use Rattle.rules.specs.Judge.{accept}
 use Rattle.rules.specs.Name.{Schema}
 use Rattle.rules.specs.Permission.{Item, items, permissionsOf}
 use Rattle.rules.specs.Laws.Judge.{not-refused}
-use Rattle.rules.specs.Laws.First.{Ranked}
+use Rattle.rules.specs.Derived.{Ranked}
 use Rattle.permission_sheet.specs.declared.NotedItems.{NotedItems}
 use Rattle.permission_sheet.specs.Noted.{PermissionsNoted}
 use Rattle.access_items.specs.Sorted.{Sorted}

@@ -1,7 +1,5 @@
-use denote.Ref.{now}
 use mathlib.Core.Path.{ap₂, _∙_}
 use mathlib.Core.Bool.{_&&_, _||_}
-use Prim.Native.Nat.{_+_, _-_}
 use Rattle.access_set.specs.Laws.Sets.{member-meet, member-join}
 use Rattle.access_may.specs.Laws.Decided.{row-member}
 use borrow.Author.Needs.{needs}
@@ -9,7 +7,7 @@ use Rattle.access_may.proofs.about_type.Statement.{statement}
 use Rattle.access_may.proofs.about_type.Tie as tie
 
 returns : tie.Need-returns
-returns c = λ j. member-join _ _ _ (c .or2 .ensures) j ∙ ap₂ _||_ (row-member (now (c .before .before .before .before .before .before .before .args .sets)) (265) (c .before .before .before .row3 .result) (c .before .before .before .row3 .ensures) j) (member-join _ _ _ (c .before .or .ensures) j ∙ ap₂ _||_ (row-member (now (c .before .before .before .before .before .before .before .args .sets)) (266) (c .before .before .row4 .result) (c .before .before .row4 .ensures) j) (member-meet _ _ _ (c .before .before .before .before .and .ensures) j ∙ ap₂ _&&_ (row-member (now (c .before .before .before .before .before .before .before .args .sets)) (267) (c .before .before .before .before .before .before .row .result) (c .before .before .before .before .before .before .row .ensures) j) (row-member (now (c .before .before .before .before .before .before .before .args .sets)) (270 + c .before .before .before .before .before .before .before .args .rank) (c .before .before .before .before .before .row2 .result) (c .before .before .before .before .before .row2 .ensures) j)))
+returns c = λ j. member-join _ _ _ (c .or2 .ensures) j ∙ ap₂ _||_ (row-member _ _ _ (c .before .before .before .row3 .ensures) j) (member-join _ _ _ (c .before .or .ensures) j ∙ ap₂ _||_ (row-member _ _ _ (c .before .before .row4 .ensures) j) (member-meet _ _ _ (c .before .before .before .before .and .ensures) j ∙ ap₂ _&&_ (row-member _ _ _ (c .before .before .before .before .before .before .row .ensures) j) (row-member _ _ _ (c .before .before .before .before .before .row2 .ensures) j)))
 
 pub about-type-spec : {M : Type 1} → statement M
 about-type-spec =

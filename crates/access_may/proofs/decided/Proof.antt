@@ -10,7 +10,7 @@ returns : tie.Need-returns
 returns c = decided-none (now (c .before .before .before .args .sets)) (member (c .before .before .before .args .asked)) (c .before .before .first .result) (c .enum-told .given .1) (c .before .before .first .ensures)
 
 returns-2 : tie.Need-returns-2
-returns-2 c = decided-at (now (c .before .before .before .before .before .before .args .sets)) (member (c .before .before .before .before .before .before .args .asked)) (c .before .before .before .i .given .0 .0) (c .before .before .before .before .before .first .result) (c .before .before .before .i .given .1) (c .before .before .before .before .before .first .ensures) (c .has .result) (c .has .ensures ∙ row-member (now (c .before .before .before .before .before .before .args .sets)) 257 (c .before .row .result) (c .before .row .ensures) (c .before .before .before .i .given .0 .0))
+returns-2 c = decided-at (now (c .before .before .before .before .before .before .args .sets)) (member (c .before .before .before .before .before .before .args .asked)) (c .before .before .before .i .given .0 .0) (c .before .before .before .before .before .first .result) (c .before .before .before .i .given .1) (c .before .before .before .before .before .first .ensures) (c .has .result) (c .has .ensures ∙ row-member _ _ _ (c .before .row .ensures) (c .before .before .before .i .given .0 .0))
 
 pub decided-spec : {M : Type 1} → statement M
 decided-spec =

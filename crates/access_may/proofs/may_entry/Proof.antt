@@ -14,7 +14,7 @@ naming-requires : tie.Need-naming-requires
 naming-requires c κs = (entry-most (c .pre .1), c .pre .0)
 
 returns : tie.Need-returns
-returns c = λ σ es d p book held w l. entry-granted σ es d p book held (now (c .before .before .before .before .args .sets)) w (c .before .before .before .before .args .q) (c .before .before .before .before .pre .0) (c .before .before .before .before .args .e) l (member (c .before .and .result)) (λ j. member-meet _ _ _ (c .before .and .ensures) j ∙ ap₂ _&&_ (c .before .before .before .naming .ensures j) (row-member (now (c .before .before .before .before .args .sets)) (264) (c .before .before .row .result) (c .before .before .row .ensures) j)) (c .decided .result) (c .decided .ensures)
+returns c = λ σ es d p book held w l. entry-granted σ es d p book held (now (c .before .before .before .before .args .sets)) w (c .before .before .before .before .args .q) (c .before .before .before .before .pre .0) (c .before .before .before .before .args .e) l (member (c .before .and .result)) (λ j. member-meet _ _ _ (c .before .and .ensures) j ∙ ap₂ _&&_ (c .before .before .before .naming .ensures j) (row-member _ _ _ (c .before .before .row .ensures) j)) (c .decided .result) (c .decided .ensures)
 
 pub may-entry-spec : {M : Type 1} → statement M
 may-entry-spec =

@@ -12,7 +12,7 @@ use Rattle.rules.specs.declared.Found.the-variants.{At, Nothing}
 use Rattle.access_set.specs.declared.Bits.{Bits}
 use Rattle.access_set.specs.Member.{member, Least}
 use Rattle.access_set.specs.Laws.Sets.{member-beyond}
-use Rattle.tables.specs.Sets.{rowOf, inRow}
+use Rattle.tables.specs.Sets.{grantsRow, rowOf, inRow}
 use Rattle.access_may.specs.Decided.{Decided, First}
 
 -- ---- Bool
@@ -28,19 +28,12 @@ pub row-member : (sets : List ℕ) (r : ℕ) (x : Bits) → x ≡ rowOf sets r �
 unfolding inRow
 row-member sets r x e j = ap (λ (s : Bits). member s j) e
 
-least-same : (p q : ℕ → Bool) → ((j : ℕ) → p j ≡ q j) → (f : Found) → Least p f → Least q f
-least-same p q h (At i) l = (l .0, sym (h i) ∙ l .1, λ j b. sym (h j) ∙ l .2 j b)
-least-same p q h Nothing l = λ j. sym (h j) ∙ l j
-
 module _ (sets : List ℕ) where
-  pub decided-same : (p q : ℕ → Bool) (r : Bool) → ((j : ℕ) → p j ≡ q j) → Decided sets p r → Decided sets q r
-  decided-same p q r h d = record { first = d .first; least = least-same p q h (d .first) (d .least); verdict = d .verdict }
-
   module _ (asked : ℕ → Bool) where
     pub decided-none : (f : Found) → f ≡ Nothing → Least asked f → Decided sets asked false
     decided-none f e l = record { first = Nothing; least = subst (Least asked) e l; verdict = refl }
 
-    pub decided-at : (i : ℕ) (f : Found) → f ≡ At i → Least asked f → (r : Bool) → r ≡ inRow sets 257 i → Decided sets asked r
+    pub decided-at : (i : ℕ) (f : Found) → f ≡ At i → Least asked f → (r : Bool) → r ≡ inRow sets grantsRow i → Decided sets asked r
     decided-at i f e l r g = record { first = At i; least = subst (Least asked) e l; verdict = g }
 
 -- ---- the first as a place
@@ -145,7 +138,7 @@ module _ (sets : List ℕ) (all single : Bits) (ok : ℕ → Bool) where
   asked j = member all j || member single j && ok j
 
   -- the first asked decides, by its place
-  decided-first : (i : ℕ) → First asked 256 i → (r : Bool) → r ≡ inRow sets 257 i → Decided sets asked r
+  decided-first : (i : ℕ) → First asked 256 i → (r : Bool) → r ≡ inRow sets grantsRow i → Decided sets asked r
   unfolding inRow
   decided-first i f r e = go (ltb i 256) refl
     where
@@ -161,11 +154,11 @@ module _ (sets : List ℕ) (all single : Bits) (ok : ℕ → Bool) where
 
       go : (t : Bool) → ltb i 256 ≡ t → Decided sets asked r
       go true q = let l : i < 256 = ltb-true i 256 q in record { first = At i; least = (l, f .passes l, f .below); verdict = e }
-      go false q = let l : 256 ≤ i = ltb-false i 256 q in record { first = Nothing; least = none l; verdict = e ∙ member-beyond (rowOf sets 257) i l }
+      go false q = let l : 256 ≤ i = ltb-false i 256 q in record { first = Nothing; least = none l; verdict = e ∙ member-beyond (rowOf sets grantsRow) i l }
 
   module _ (end : ℕ) (a : First (member all) 256 end) where
     -- the first about all values stands before those about one
-    pub decided-all : (i : ℕ) → First (member single) 256 i → end ≤ i → (r : Bool) → r ≡ inRow sets 257 end → Decided sets asked r
+    pub decided-all : (i : ℕ) → First (member single) 256 i → end ≤ i → (r : Bool) → r ≡ inRow sets grantsRow end → Decided sets asked r
     decided-all i f b = decided-first end record {
       within = a .within;
       passes = λ l. ap (λ (x : Bool). x || member single end && ok end) (a .passes l);
@@ -173,7 +166,7 @@ module _ (sets : List ℕ) (all single : Bits) (ok : ℕ → Bool) where
     }
 
     -- the first about this value before it, or it
-    pub decided-one : (p : ℕ → Bool) → ((j : ℕ) → p j ≡ (member single j && ok j)) → (i : ℕ) → First p end i → (r : Bool) → r ≡ inRow sets 257 i → Decided sets asked r
+    pub decided-one : (p : ℕ → Bool) → ((j : ℕ) → p j ≡ (member single j && ok j)) → (i : ℕ) → First p end i → (r : Bool) → r ≡ inRow sets grantsRow i → Decided sets asked r
     decided-one p h i f =
         decided-first i
         record {

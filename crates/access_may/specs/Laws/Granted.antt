@@ -14,17 +14,17 @@ use Rattle.rules.specs.Directory as Directory
 use Rattle.rules.specs.Directory.{Stored}
 use Rattle.rules.specs.Permission.{Item}
 use Rattle.rules.specs.Decision.{Setting, Thing, entry, ofType, ofValue, baseCovers, whoFits, whatCovers, names, levelFits, applies, granted}
-use Rattle.rules.specs.Laws.Decision.{concerns}
-use Rattle.rules.specs.Laws.First.{itemAt, decided-first, decided-none}
+use Rattle.rules.specs.Derived.{concerns, itemAt}
+use Rattle.rules.specs.Laws.First.{decided-first, decided-none}
 use Rattle.rules.specs.declared.Found.{Found}
 use Rattle.rules.specs.declared.Found.the-variants.{At, Nothing}
 use Rattle.value_syntax.specs.Digest.{digest}
 use Rattle.name.specs.Schema.{equalBy}
 use Rattle.name.specs.Laws.Schema.{equal-at}
 use Rattle.access_set.specs.Member.{Least}
-use Rattle.tables.specs.Book.{schema, types}
+use Rattle.tables.specs.Book.{schemaColumn, schema, typeCount}
 use Rattle.tables.specs.Held.{typeAt}
-use Rattle.tables.specs.Sets.{inRow, firstSlot, secondSlot, Rights, grantedAt}
+use Rattle.tables.specs.Sets.{grantsRow, permissionRow, whatRow, typeRow, inRow, firstSlot, secondSlot, Rights, grantedAt}
 use Rattle.tables.specs.World.{World}
 use Rattle.tables.specs.Laws.Book.{schema-length, type-at}
 use Rattle.access_may.specs.Decided.{Decided}
@@ -51,7 +51,7 @@ module _ (σ : Setting) (es : List Stored) (schema : List ℕ) (p : Bytes) (sets
   item j = itemAt (σ .items) (rights .order) j
 
   module _ (x : Thing) (q : ℕ) (small : q < 6) (about : ℕ → Bool) (covering : (j : ℕ) → j < length (σ .items) → about j ≡ whatCovers σ (itemAt (σ .items) (rights .order) j) x) where
-    module _ (k : ℕ) (l : k < length es) (asked : ℕ → Bool) (all : (j : ℕ) → asked j ≡ ((inRow sets (suc k) j && inRow sets (258 + q) j) && about j)) where
+    module _ (k : ℕ) (l : k < length es) (asked : ℕ → Bool) (all : (j : ℕ) → asked j ≡ ((inRow sets (suc k) j && inRow sets (permissionRow + q) j) && about j)) where
       abbrev n : Name
       n = getD es k Directory.blank .name
 
@@ -70,9 +70,9 @@ module _ (σ : Setting) (es : List Stored) (schema : List ℕ) (p : Bytes) (sets
         where
           by : (t : Bool) → ltb j (length (σ .items)) ≡ t → j < length (σ .items)
           by true g = ltb-true j (length (σ .items)) g
-          by false g = absurd (true≢false (sym e ∙ all j ∙ ap (λ (t : Bool). (t && inRow sets (258 + q) j) && about j) (rights .covers .entry k j l ∙ ap (λ (t : Bool). t && concerns σ n (item j)) g)))
+          by false g = absurd (true≢false (sym e ∙ all j ∙ ap (λ (t : Bool). (t && inRow sets (permissionRow + q) j) && about j) (rights .covers .entry k j l ∙ ap (λ (t : Bool). t && concerns σ n (item j)) g)))
 
-      first-grants : (f : Found) → Least asked f → byFound f (inRow sets 257) ≡ granted σ n x (2 ^ q)
+      first-grants : (f : Found) → Least asked f → byFound f (inRow sets grantsRow) ≡ granted σ n x (2 ^ q)
       first-grants (At i) g =
           let b : i < length (σ .items) = only i (g .1) in
           rights .items .grants i b
@@ -80,16 +80,16 @@ module _ (σ : Setting) (es : List Stored) (schema : List ℕ) (p : Bytes) (sets
       first-grants Nothing g = sym (decided-none σ n x (2 ^ q) (rights .order) (rights .items .ranked) (λ j b. sym (asked-applies j b) ∙ g j))
 
     -- the root has no items
-    module _ (asked : ℕ → Bool) (all : (j : ℕ) → asked j ≡ ((inRow sets 0 j && inRow sets (258 + q) j) && about j)) where
+    module _ (asked : ℕ → Bool) (all : (j : ℕ) → asked j ≡ ((inRow sets 0 j && inRow sets (permissionRow + q) j) && about j)) where
       unasked : (j : ℕ) → asked j ≡ false
-      unasked j = all j ∙ ap (λ (t : Bool). (t && inRow sets (258 + q) j) && about j) (rights .covers .root j)
+      unasked j = all j ∙ ap (λ (t : Bool). (t && inRow sets (permissionRow + q) j) && about j) (rights .covers .root j)
 
-      first-none : (f : Found) → Least asked f → byFound f (inRow sets 257) ≡ false
+      first-none : (f : Found) → Least asked f → byFound f (inRow sets grantsRow) ≡ false
       first-none (At i) g = absurd (true≢false (sym (g .1) ∙ unasked i))
       first-none Nothing g = refl
 
     -- those asked are the items of the entry that name the permission and are about the thing
-    pub decided-granted : (e : ℕ) → e ≤ length es → (asked : ℕ → Bool) → ((j : ℕ) → asked j ≡ ((inRow sets e j && inRow sets (258 + q) j) && about j)) → (r : Bool) → Decided sets asked r → r ≡ grantedAt σ es e x (2 ^ q)
+    pub decided-granted : (e : ℕ) → e ≤ length es → (asked : ℕ → Bool) → ((j : ℕ) → asked j ≡ ((inRow sets e j && inRow sets (permissionRow + q) j) && about j)) → (r : Bool) → Decided sets asked r → r ≡ grantedAt σ es e x (2 ^ q)
     unfolding grantedAt
     decided-granted zero l asked all r d = d .verdict ∙ first-none asked all (d .first) (d .least)
     decided-granted (suc k) l asked all r d = d .verdict ∙ first-grants k l asked all (d .first) (d .least)
@@ -100,27 +100,27 @@ module _ (σ : Setting) (es : List Stored) (d p : Bytes) (book held sets : List 
   abbrev right : Rights σ es (schema book) p sets
   right = world .rights
 
-  pub entry-granted : (asked : ℕ → Bool) → ((j : ℕ) → asked j ≡ ((inRow sets e j && inRow sets (258 + q) j) && inRow sets 264 j)) → (r : Bool) → Decided sets asked r → r ≡ grantedAt σ es e entry (2 ^ q)
+  pub entry-granted : (asked : ℕ → Bool) → ((j : ℕ) → asked j ≡ ((inRow sets e j && inRow sets (permissionRow + q) j) && inRow sets whatRow j)) → (r : Bool) → Decided sets asked r → r ≡ grantedAt σ es e entry (2 ^ q)
   unfolding whatCovers
-  entry-granted = decided-granted σ es (schema book) p sets right entry q small (inRow sets 264) (λ j b. right .items .what 0 j (omega arith) b) e l
+  entry-granted = decided-granted σ es (schema book) p sets right entry q small (inRow sets whatRow) (λ j b. right .items .what 0 j (omega arith) b) e l
 
   module _ (rank : ℕ) (known : rank < length (schema book)) where
-    pub type-granted : (asked : ℕ → Bool) → ((j : ℕ) → asked j ≡ ((inRow sets e j && inRow sets (258 + q) j) && (inRow sets 265 j || (inRow sets 266 j || inRow sets 267 j && inRow sets (270 + rank) j)))) → (r : Bool) → Decided sets asked r
+    pub type-granted : (asked : ℕ → Bool) → ((j : ℕ) → asked j ≡ ((inRow sets e j && inRow sets (permissionRow + q) j) && (inRow sets (whatRow + 1) j || (inRow sets (whatRow + 2) j || inRow sets (whatRow + 3) j && inRow sets (typeRow + rank) j)))) → (r : Bool) → Decided sets asked r
         → r ≡ grantedAt σ es e (ofType (typeAt (schema book) rank)) (2 ^ q)
     unfolding whatCovers
     type-granted =
-        decided-granted σ es (schema book) p sets right (ofType (typeAt (schema book) rank)) q small (λ j. inRow sets 265 j || (inRow sets 266 j || inRow sets 267 j && inRow sets (270 + rank) j))
+        decided-granted σ es (schema book) p sets right (ofType (typeAt (schema book) rank)) q small (λ j. inRow sets (whatRow + 1) j || (inRow sets (whatRow + 2) j || inRow sets (whatRow + 3) j && inRow sets (typeRow + rank) j))
         (λ j b.
         ap₂ _||_ (right .items .what 1 j (omega arith) b)
         (ap₂ _||_ (right .items .what 2 j (omega arith) b) (ap₂ _&&_ (right .items .what 3 j (omega arith) b) (right .items .type rank j known b))))
         e l
 
-  module _ (rank : ℕ) (few : rank < types book) (v : Bytes) where
+  module _ (rank : ℕ) (few : rank < typeCount book) (v : Bytes) where
     known : rank < length (schema book)
     known = omega (arith, schema-length (world .entries .fits), few)
 
     abbrev syntax : ℕ
-    syntax = getD book (8 + rank) 0 % 4
+    syntax = getD book (schemaColumn + rank) 0 % 4
 
     -- slots, digest and bytes together tell whether the item is about this value
     same-equal : (j : ℕ) → j < length (σ .items) → sameAt sets p syntax v j ≡ equal (σ .schema) (typeAt (schema book) rank) (itemAt (σ .items) (right .order) j .value) v
@@ -135,7 +135,7 @@ module _ (σ : Setting) (es : List Stored) (d p : Bytes) (book held sets : List 
         ∙ ap (λ (S : Schema). equal S (typeAt (schema book) rank) u v) (sym (world .entries .schema-is))
 
     value-about : (j : ℕ) → j < length (σ .items)
-        → (inRow sets 266 j || inRow sets (270 + rank) j && (inRow sets 268 j || inRow sets 269 j && sameAt sets p syntax v j))
+        → (inRow sets (whatRow + 2) j || inRow sets (typeRow + rank) j && (inRow sets (whatRow + 4) j || inRow sets (whatRow + 5) j && sameAt sets p syntax v j))
         ≡ whatCovers σ (itemAt (σ .items) (right .order) j) (ofValue (typeAt (schema book) rank) v)
     unfolding whatCovers
     value-about j b =
@@ -144,15 +144,15 @@ module _ (σ : Setting) (es : List Stored) (d p : Bytes) (book held sets : List 
         (ap₂ _||_ (right .items .what 4 j (omega arith) b) (ap₂ _&&_ (right .items .what 5 j (omega arith) b) (same-equal j b))))
 
     pub value-granted : (all single : ℕ → Bool)
-        → ((j : ℕ) → all j ≡ ((inRow sets e j && inRow sets (258 + q) j) && (inRow sets 266 j || inRow sets (270 + rank) j && inRow sets 268 j)))
-        → ((j : ℕ) → single j ≡ ((inRow sets e j && inRow sets (258 + q) j) && (inRow sets (270 + rank) j && inRow sets 269 j)))
+        → ((j : ℕ) → all j ≡ ((inRow sets e j && inRow sets (permissionRow + q) j) && (inRow sets (whatRow + 2) j || inRow sets (typeRow + rank) j && inRow sets (whatRow + 4) j)))
+        → ((j : ℕ) → single j ≡ ((inRow sets e j && inRow sets (permissionRow + q) j) && (inRow sets (typeRow + rank) j && inRow sets (whatRow + 5) j)))
         → (r : Bool) → Decided sets (λ j. all j || single j && sameAt sets p syntax v j) r → r ≡ grantedAt σ es e (ofValue (typeAt (schema book) rank) v) (2 ^ q)
     value-granted all single f g =
         decided-granted σ es (schema book) p sets right (ofValue (typeAt (schema book) rank) v) q small
-        (λ j. inRow sets 266 j || inRow sets (270 + rank) j && (inRow sets 268 j || inRow sets 269 j && sameAt sets p syntax v j)) value-about e l (λ j. all j || single j && sameAt sets p syntax v j)
+        (λ j. inRow sets (whatRow + 2) j || inRow sets (typeRow + rank) j && (inRow sets (whatRow + 4) j || inRow sets (whatRow + 5) j && sameAt sets p syntax v j)) value-about e l (λ j. all j || single j && sameAt sets p syntax v j)
         (λ j.
         ap₂ (λ (a s : Bool). a || s && sameAt sets p syntax v j) (f j) (g j)
-        ∙ together (inRow sets e j) (inRow sets (258 + q) j) (inRow sets 266 j) (inRow sets (270 + rank) j) (inRow sets 268 j) (inRow sets 269 j) (sameAt sets p syntax v j))
+        ∙ together (inRow sets e j) (inRow sets (permissionRow + q) j) (inRow sets (whatRow + 2) j) (inRow sets (typeRow + rank) j) (inRow sets (whatRow + 4) j) (inRow sets (whatRow + 5) j) (sameAt sets p syntax v j))
       where
         together : (e n a t b c k : Bool) → ((e && n) && (a || t && b) || ((e && n) && (t && c)) && k) ≡ ((e && n) && (a || t && (b || c && k)))
         together false n a t b c k = refl

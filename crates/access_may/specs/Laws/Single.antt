@@ -1,9 +1,8 @@
 -- Laws of `Single`: digests and slots tell no equal values apart.
-use Prim.Native.Nat.{ℕ, _+_, _-_, _<_}
+use Prim.Native.Nat.{ℕ, _+_, _-_}
 use mathlib.Core.Path.{_≡_, refl, ap, ap₂, _∙_}
 use mathlib.Core.Bool.{Bool, true, false, _&&_}
 use mathlib.Core.List.{List}
-use native.Mathlib.Omega.{arith}
 use lib.Dec.{eqb}
 use lib.ListN.{getD, take, drop}
 use borrow.Author.Tests.{eq-eqb, ne-eqb}
@@ -14,7 +13,7 @@ use Rattle.value_syntax.specs.Laws.Digest.{digest-same}
 use Rattle.name.specs.Schema.{equalBy}
 use Rattle.access_set.specs.declared.Bits.{Bits}
 use Rattle.access_set.specs.Member.{member}
-use Rattle.tables.specs.Sets.{rowOf, inRow, firstSlot, secondSlot, slotted}
+use Rattle.tables.specs.Sets.{valuePlaceColumn, valueLengthColumn, rowOf, inRow, digestAt, firstSlot, secondSlot, slotted}
 use Rattle.tables.specs.Laws.Sets.{slotted-first, slotted-second}
 use Rattle.tables.specs.Laws.Book.{cut-part}
 use Rattle.access_may.specs.Single.{agreesAt, sameAt}
@@ -46,13 +45,13 @@ slot-first s u v =
 -- ---- the tests in turn
 
 module _ (sets : List ℕ) (p : Bytes) (syntax h : ℕ) (v : Bytes) (j : ℕ) where
-  pub agrees-apart : (getD sets (1592 + j) 0 ≡ h → ⊥) → agreesAt sets p syntax h v j ≡ false
+  pub agrees-apart : (digestAt sets j ≡ h → ⊥) → agreesAt sets p syntax h v j ≡ false
   unfolding agreesAt
-  agrees-apart d = rw (ne-eqb (getD sets (1592 + j) 0) h d)
+  agrees-apart d = rw (ne-eqb (digestAt sets j) h d)
 
-  pub agrees-bytes : getD sets (1592 + j) 0 ≡ h → agreesAt sets p syntax h v j ≡ equalBy syntax (take (getD sets (1848 + j) 0 + getD sets (2104 + j) 0 - getD sets (1848 + j) 0) (drop (getD sets (1848 + j) 0) p)) v
+  pub agrees-bytes : digestAt sets j ≡ h → agreesAt sets p syntax h v j ≡ equalBy syntax (take (getD sets (valuePlaceColumn + j) 0 + getD sets (valueLengthColumn + j) 0 - getD sets (valuePlaceColumn + j) 0) (drop (getD sets (valuePlaceColumn + j) 0) p)) v
   unfolding agreesAt
-  agrees-bytes e = rw (eq-eqb (getD sets (1592 + j) 0) h e, cut-part p (getD sets (1848 + j) 0) (getD sets (2104 + j) 0))
+  agrees-bytes e = rw (eq-eqb (digestAt sets j) h e, cut-part p (getD sets (valuePlaceColumn + j) 0) (getD sets (valueLengthColumn + j) 0))
 
 -- the items of the digest's slots, then the tests of digest and bytes
 pub near-same : (sets : List ℕ) (p : Bytes) (syntax : ℕ) (v : Bytes) (h r₁ r₂ : ℕ) (single x₁ x₂ y₁ y₂ : Bits) → h ≡ digest 0 v → r₁ ≡ firstSlot h → r₂ ≡ secondSlot h

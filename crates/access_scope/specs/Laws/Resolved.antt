@@ -9,8 +9,9 @@ use lib.Seq.{take-suc-set, take-suc, take-all}
 use Rattle.rules.specs.Sheet.{Bytes}
 use Rattle.rules.specs.Directory.{Stored}
 use Rattle.rules.specs.Decision.{Setting}
+use Rattle.rules.specs.Derived.{noItem}
 use Rattle.tables.specs.Numbers.{reachOf}
-use Rattle.permission_sheet.specs.Noted.{Table, blank}
+use Rattle.permission_sheet.specs.Noted.{Table}
 use Rattle.tables.specs.Book.{width}
 use Rattle.tables.specs.World.{Entries}
 use Rattle.access_scope.specs.Scopes.{Asker, scopeAt, itemBy, ownNumber, reachesBy}
@@ -50,8 +51,8 @@ module _ (σ : Setting) (es : List Stored) (w : ℕ) (p : Bytes) (rights scopes 
   reaches-front (suc k) l =
       let g : k < length (map (reachOf σ es) (σ .items)) = subst (λ (m : ℕ). k < m) (sym (length-map (σ .items) (reachOf σ es))) l in
       ap₂ (λ (h : List ℕ) (y : ℕ). h ++ (y ∷ [])) (reaches-front k (omega arith))
-      (item-is σ es w p q rights scopes k who (ownNumber (σ .schema) es w q who) (getD (σ .items) k blank) asker (table .rows k l) refl ∙ sym (List·getD-map (reachOf σ es) (σ .items) k blank))
-      ∙ sym (take-suc (map (reachOf σ es) (σ .items)) k (reachOf σ es blank) g)
+      (item-is σ es w p q rights scopes k who (ownNumber (σ .schema) es w q who) (getD (σ .items) k noItem) asker (table .rows k l) refl ∙ sym (List·getD-map (reachOf σ es) (σ .items) k noItem))
+      ∙ sym (take-suc (map (reachOf σ es) (σ .items)) k (reachOf σ es noItem) g)
 
   pub reaches-are : reachesBy (σ .schema) es w p rights scopes q who (length (σ .items)) ≡ map (reachOf σ es) (σ .items)
   reaches-are =

@@ -7,7 +7,7 @@ use native.Mathlib.Omega.{arith}
 use lib.Dec.{eqb, leb}
 use lib.ListN.{length, getD}
 use borrow.Author.Tests.{eq-eqb, ne-eqb, eqb-true}
-use Rattle.rules.specs.Sheet.{Bytes}
+use Rattle.rules.specs.Sheet.{Bytes, bit}
 use Rattle.rules.specs.Name.{Schema, Name, samePart, sameName, covers}
 use Rattle.rules.specs.Directory.{Stored}
 use Rattle.rules.specs.Permission.{Item}
@@ -15,7 +15,7 @@ use Rattle.rules.specs.Decision.{Setting, levelFits}
 use Rattle.rules.specs.Places.{linesAt, partsOf}
 use Rattle.rules.specs.Laws.Tests.{bool-ext, eqb-same}
 use Rattle.tables.specs.Numbers.{climbs, walk, numberOr0, baseReach, baseReaches, ownReach, fitsAlways, reachFrom, reachOf}
-use Rattle.permission_sheet.specs.Noted.{ItemRow, bit}
+use Rattle.permission_sheet.specs.Noted.{ItemRow}
 use Rattle.access_scope.specs.Scopes.{Asker, scopeAt, levelBy, whoBy, askedBy, spreadBy, spreadFrom, itemBy}
 use Rattle.access_scope.specs.declared.Requester.{Requester}
 use Rattle.access_scope.specs.declared.Scope.{Scope}

@@ -10,13 +10,13 @@ use lib.Pow.{shr-shr, shl-exact}
 use lib.Bits.{bitAnd, bitOr, bitXor, differ, and-shr, or-shr, xor-shr, and-step, or-step, xor-step, shifted-half, shifted-even}
 use lib.Count.{trailingZeros, under}
 use borrow.Author.Tests.{eq-eqb, ne-eqb, eqb-true, eqb-false}
-use Rattle.access_set.specs.Member.{bit, Lowest}
+use Rattle.access_set.specs.Member.{bitOf, Lowest}
 
 -- ---- `&` and `|`
 
 module _ (x y i : ℕ) where
-  pub bit-and : bit (bitAnd x y) i ≡ (bit x i && bit y i)
-  unfolding bit
+  pub bit-and : bitOf (bitAnd x y) i ≡ (bitOf x i && bitOf y i)
+  unfolding bitOf
   bit-and = rw (and-shr x y i) (digit (x / 2 ^ i) (y / 2 ^ i))
     where
       one : (a b : ℕ) → a < 2 → b < 2 → eqb (min a b) 1 ≡ (eqb a 1 && eqb b 1)
@@ -33,8 +33,8 @@ module _ (x y i : ℕ) where
           let e : bitAnd u v % 2 ≡ min (u % 2) (v % 2) = omega (arith, and-step u v) in
           rw e (one (u % 2) (v % 2) (omega arith) (omega arith))
 
-  pub bit-or : bit (bitOr x y) i ≡ (bit x i || bit y i)
-  unfolding bit
+  pub bit-or : bitOf (bitOr x y) i ≡ (bitOf x i || bitOf y i)
+  unfolding bitOf
   bit-or = rw (or-shr x y i) (digit (x / 2 ^ i) (y / 2 ^ i))
     where
       one : (a b : ℕ) → a < 2 → b < 2 → eqb (max a b) 1 ≡ (eqb a 1 || eqb b 1)
@@ -51,8 +51,8 @@ module _ (x y i : ℕ) where
           let e : bitOr u v % 2 ≡ max (u % 2) (v % 2) = omega (arith, or-step u v) in
           rw e (one (u % 2) (v % 2) (omega arith) (omega arith))
 
-  pub bit-xor : bit (bitXor x y) i ≡ cond (bit x i) (not (bit y i)) (bit y i)
-  unfolding bit
+  pub bit-xor : bitOf (bitXor x y) i ≡ cond (bitOf x i) (not (bitOf y i)) (bitOf y i)
+  unfolding bitOf
   bit-xor = rw (xor-shr x y i) (digit (x / 2 ^ i) (y / 2 ^ i))
     where
       small : (a b : ℕ) → a < 2 → b < 2 → differ a b < 2
@@ -77,16 +77,16 @@ module _ (x y i : ℕ) where
 
 -- ---- a bit of the half
 
-pub bit-zero : (x : ℕ) → bit x 0 ≡ eqb (x % 2) 1
-unfolding bit
+pub bit-zero : (x : ℕ) → bitOf x 0 ≡ eqb (x % 2) 1
+unfolding bitOf
 bit-zero x = let e : x / 1 ≡ x = omega arith in ap (λ (m : ℕ). eqb (m % 2) 1) e
 
-pub bit-suc : (x i : ℕ) → bit x (suc i) ≡ bit (x / 2) i
-unfolding bit
+pub bit-suc : (x i : ℕ) → bitOf x (suc i) ≡ bitOf (x / 2) i
+unfolding bitOf
 bit-suc x i = ap (λ (m : ℕ). eqb (m % 2) 1) (ap (λ (m : ℕ). x / 2 ^ m) (sym (one-add i)) ∙ sym (shr-shr x 1 i))
 
-pub bit-none : (i : ℕ) → bit 0 i ≡ false
-unfolding bit
+pub bit-none : (i : ℕ) → bitOf 0 i ≡ false
+unfolding bitOf
 bit-none i = let e : 0 / 2 ^ i ≡ 0 = zero-div (2 ^ i) in rw e
 
 -- ---- `1 << j`
@@ -100,11 +100,11 @@ half-pow j = let e : 1 * 2 ^ suc j ≡ 2 ^ suc j = one-mul (2 ^ suc j) in ap (λ
 even-pow : (j : ℕ) → 2 ^ suc j % 2 ≡ 0
 even-pow j = ap (λ (m : ℕ). m % 2) (sym (one-mul (2 ^ suc j))) ∙ shifted-even 1 j
 
-pub bit-pow : (j i : ℕ) → bit (2 ^ j) i ≡ eqb i j
-bit-pow zero zero = unfold bit in refl
+pub bit-pow : (j i : ℕ) → bitOf (2 ^ j) i ≡ eqb i j
+bit-pow zero zero = unfold bitOf in refl
 bit-pow zero (suc i) = bit-suc 1 i ∙ bit-none i ∙ sym (ne-eqb (suc i) 0 (λ e. omega arith))
 bit-pow (suc j) zero = bit-zero (2 ^ suc j) ∙ ap (λ (m : ℕ). eqb m 1) (even-pow j) ∙ sym (ne-eqb 0 (suc j) (λ e. omega arith))
-bit-pow (suc j) (suc i) = bit-suc (2 ^ suc j) i ∙ ap (λ (m : ℕ). bit m i) (half-pow j) ∙ bit-pow j i ∙ same (eqb i j) refl
+bit-pow (suc j) (suc i) = bit-suc (2 ^ suc j) i ∙ ap (λ (m : ℕ). bitOf m i) (half-pow j) ∙ bit-pow j i ∙ same (eqb i j) refl
   where
     same : (t : Bool) → eqb i j ≡ t → t ≡ eqb (suc i) (suc j)
     same true e = sym (eq-eqb (suc i) (suc j) (ap suc (eqb-true i j e)))
@@ -113,23 +113,23 @@ bit-pow (suc j) (suc i) = bit-suc (2 ^ suc j) i ∙ ap (λ (m : ℕ). bit m i) (
 -- ---- the count of trailing zeros
 
 -- a place below the count is clear
-trailing-below : (k x j : ℕ) → j < trailingZeros k x → bit x j ≡ false
+trailing-below : (k x j : ℕ) → j < trailingZeros k x → bitOf x j ≡ false
 unfolding trailingZeros
 trailing-below zero x j h = absurd (not-suc-le-zero h)
 trailing-below (suc k) x j h = go (x % 2) refl j h (λ i l. trailing-below k (x / 2) i l)
   where
-    go : (d : ℕ) → x % 2 ≡ d → (j : ℕ) → j < under d (trailingZeros k (x / 2)) → ((i : ℕ) → i < trailingZeros k (x / 2) → bit (x / 2) i ≡ false) → bit x j ≡ false
+    go : (d : ℕ) → x % 2 ≡ d → (j : ℕ) → j < under d (trailingZeros k (x / 2)) → ((i : ℕ) → i < trailingZeros k (x / 2) → bitOf (x / 2) i ≡ false) → bitOf x j ≡ false
     go zero e zero h ih = bit-zero x ∙ ap (λ (m : ℕ). eqb m 1) e
     go zero e (suc j) h ih = bit-suc x j ∙ ih j (le-of-suc-le-suc h)
     go (suc d) e j h ih = absurd (not-suc-le-zero h)
 
 -- the place that is counted, if there is one, is set
-trailing-set : (k x : ℕ) → trailingZeros k x < k → bit x (trailingZeros k x) ≡ true
+trailing-set : (k x : ℕ) → trailingZeros k x < k → bitOf x (trailingZeros k x) ≡ true
 unfolding trailingZeros
 trailing-set zero x h = absurd (not-suc-le-zero h)
 trailing-set (suc k) x h = go (x % 2) refl h (trailing-set k (x / 2))
   where
-    go : (d : ℕ) → x % 2 ≡ d → under d (trailingZeros k (x / 2)) < suc k → (trailingZeros k (x / 2) < k → bit (x / 2) (trailingZeros k (x / 2)) ≡ true) → bit x (under d (trailingZeros k (x / 2))) ≡ true
+    go : (d : ℕ) → x % 2 ≡ d → under d (trailingZeros k (x / 2)) < suc k → (trailingZeros k (x / 2) < k → bitOf (x / 2) (trailingZeros k (x / 2)) ≡ true) → bitOf x (under d (trailingZeros k (x / 2))) ≡ true
     go zero e h ih = bit-suc x (trailingZeros k (x / 2)) ∙ ih (le-of-suc-le-suc h)
     go (suc d) e h ih = bit-zero x ∙ eq-eqb (x % 2) 1 (let l : x % 2 < 2 = omega arith in omega arith)
 

@@ -8,12 +8,12 @@ use lib.Bits.{bitAnd, bitOr, bitXor}
 use borrow.Author.Tests.{eq-eqb, ne-eqb, eqb-true, eqb-false}
 use Rattle.access_set.specs.declared.Bits.{Bits}
 use Rattle.rules.specs.declared.Found.the-variants.{At, Nothing}
-use Rattle.access_set.specs.Member.{bit, Lowest, wordOf, member, each, meet, join, Least}
+use Rattle.access_set.specs.Member.{bitOf, Lowest, wordOf, member, each, meet, join, Least}
 use Rattle.access_set.specs.Laws.Bit.{bit-and, bit-or, bit-xor, bit-none, bit-pow}
 
 pub member-empty : (j : ℕ) → member (record { a = 0; b = 0; c = 0; d = 0 }) j ≡ false
 unfolding member wordOf
-member-empty j = ap (λ (x : ℕ). bit x (j % 64)) (go (eqb (j / 64) 0) (eqb (j / 64) 1) (eqb (j / 64) 2) (eqb (j / 64) 3)) ∙ bit-none (j % 64)
+member-empty j = ap (λ (x : ℕ). bitOf x (j % 64)) (go (eqb (j / 64) 0) (eqb (j / 64) 1) (eqb (j / 64) 2) (eqb (j / 64) 3)) ∙ bit-none (j % 64)
   where
     go : (s t u v : Bool) → _≡_ {A = ℕ} (cond s 0 (cond t 0 (cond u 0 (cond v 0 0)))) 0
     go true t u v = refl
@@ -38,17 +38,17 @@ module _ (f : ℕ → ℕ → ℕ) (z : f 0 0 ≡ 0) (s o : Bits) where
 
 pub member-meet : (s o r : Bits) → r ≡ meet s o → (j : ℕ) → member r j ≡ (member s j && member o j)
 unfolding member
-member-meet s o r e j = ap (λ (x : Bits). bit (wordOf x (j / 64)) (j % 64)) e ∙ ap (λ (x : ℕ). bit x (j % 64)) (word-each bitAnd refl s o (j / 64)) ∙ bit-and (wordOf s (j / 64)) (wordOf o (j / 64)) (j % 64)
+member-meet s o r e j = ap (λ (x : Bits). bitOf (wordOf x (j / 64)) (j % 64)) e ∙ ap (λ (x : ℕ). bitOf x (j % 64)) (word-each bitAnd refl s o (j / 64)) ∙ bit-and (wordOf s (j / 64)) (wordOf o (j / 64)) (j % 64)
 
 pub member-join : (s o r : Bits) → r ≡ join s o → (j : ℕ) → member r j ≡ (member s j || member o j)
 unfolding member
-member-join s o r e j = ap (λ (x : Bits). bit (wordOf x (j / 64)) (j % 64)) e ∙ ap (λ (x : ℕ). bit x (j % 64)) (word-each bitOr refl s o (j / 64)) ∙ bit-or (wordOf s (j / 64)) (wordOf o (j / 64)) (j % 64)
+member-join s o r e j = ap (λ (x : Bits). bitOf (wordOf x (j / 64)) (j % 64)) e ∙ ap (λ (x : ℕ). bitOf x (j % 64)) (word-each bitOr refl s o (j / 64)) ∙ bit-or (wordOf s (j / 64)) (wordOf o (j / 64)) (j % 64)
 
 -- one bit of one word is set
 pub member-with : (s r : Bits) (i : ℕ) → ((k : ℕ) → wordOf r k ≡ cond (eqb k (i / 64)) (bitOr (wordOf s k) (2 ^ (i % 64))) (wordOf s k))
     → (j : ℕ) → member r j ≡ (eqb j i || member s j)
 unfolding member
-member-with s r i h j = ap (λ (x : ℕ). bit x (j % 64)) (h (j / 64)) ∙ go (eqb (j / 64) (i / 64)) refl
+member-with s r i h j = ap (λ (x : ℕ). bitOf x (j % 64)) (h (j / 64)) ∙ go (eqb (j / 64) (i / 64)) refl
   where
     W : ℕ
     W = wordOf s (j / 64)
@@ -66,20 +66,20 @@ member-with s r i h j = ap (λ (x : ℕ). bit x (j % 64)) (h (j / 64)) ∙ go (e
         by true f = let g : j % 64 ≡ i % 64 = eqb-true (j % 64) (i % 64) f in sym (eq-eqb j i (omega arith))
         by false f = let g : j % 64 ≡ i % 64 → ⊥ = eqb-false (j % 64) (i % 64) f in sym (ne-eqb j i (λ q. g (ap (λ (x : ℕ). x % 64) q)))
 
-    go : (t : Bool) → eqb (j / 64) (i / 64) ≡ t → bit (cond t (bitOr W (2 ^ (i % 64))) W) (j % 64) ≡ (eqb j i || bit W (j % 64))
+    go : (t : Bool) → eqb (j / 64) (i / 64) ≡ t → bitOf (cond t (bitOr W (2 ^ (i % 64))) W) (j % 64) ≡ (eqb j i || bitOf W (j % 64))
     go true e =
         bit-or W (2 ^ (i % 64)) (j % 64)
-        ∙ flip (bit W (j % 64)) (bit (2 ^ (i % 64)) (j % 64))
-        ∙ ap (λ (b : Bool). b || bit W (j % 64)) (bit-pow (i % 64) (j % 64) ∙ same (eqb-true (j / 64) (i / 64) e))
+        ∙ flip (bitOf W (j % 64)) (bitOf (2 ^ (i % 64)) (j % 64))
+        ∙ ap (λ (b : Bool). b || bitOf W (j % 64)) (bit-pow (i % 64) (j % 64) ∙ same (eqb-true (j / 64) (i / 64) e))
     go false e =
         let d : j / 64 ≡ i / 64 → ⊥ = eqb-false (j / 64) (i / 64) e in
-        ap (λ (b : Bool). b || bit W (j % 64)) (sym (ne-eqb j i (λ q. d (ap (λ (x : ℕ). x / 64) q))))
+        ap (λ (b : Bool). b || bitOf W (j % 64)) (sym (ne-eqb j i (λ q. d (ap (λ (x : ℕ). x / 64) q))))
 
 -- one bit of one word is cleared
 pub member-without : (s r : Bits) (i : ℕ) → member s i ≡ true → ((k : ℕ) → wordOf r k ≡ cond (eqb k (i / 64)) (bitXor (wordOf s k) (2 ^ (i % 64))) (wordOf s k))
     → (j : ℕ) → member r j ≡ (member s j && not (eqb j i))
 unfolding member
-member-without s r i m h j = ap (λ (x : ℕ). bit x (j % 64)) (h (j / 64)) ∙ go (eqb (j / 64) (i / 64)) refl (eqb j i) refl
+member-without s r i m h j = ap (λ (x : ℕ). bitOf x (j % 64)) (h (j / 64)) ∙ go (eqb (j / 64) (i / 64)) refl (eqb j i) refl
   where
     W : ℕ
     W = wordOf s (j / 64)
@@ -92,10 +92,10 @@ member-without s r i m h j = ap (λ (x : ℕ). bit x (j % 64)) (h (j / 64)) ∙ 
     plain true = refl
     plain false = refl
 
-    go : (t : Bool) → eqb (j / 64) (i / 64) ≡ t → (u : Bool) → eqb j i ≡ u → bit (cond t (bitXor W (2 ^ (i % 64))) W) (j % 64) ≡ (bit W (j % 64) && not u)
+    go : (t : Bool) → eqb (j / 64) (i / 64) ≡ t → (u : Bool) → eqb j i ≡ u → bitOf (cond t (bitXor W (2 ^ (i % 64))) W) (j % 64) ≡ (bitOf W (j % 64) && not u)
     go true e true f =
         let q : j ≡ i = eqb-true j i f in
-        let g : bit W (j % 64) ≡ true = ap (λ (n : ℕ). bit (wordOf s (n / 64)) (n % 64)) q ∙ m in
+        let g : bitOf W (j % 64) ≡ true = ap (λ (n : ℕ). bitOf (wordOf s (n / 64)) (n % 64)) q ∙ m in
         bit-xor W (2 ^ (i % 64)) (j % 64)
         ∙ ap₂ (λ (a b : Bool). cond a (not b) b) g (bit-pow (i % 64) (j % 64) ∙ eq-eqb (j % 64) (i % 64) (ap (λ (n : ℕ). n % 64) q))
         ∙ ap (λ (a : Bool). a && false) (sym g)
@@ -103,10 +103,10 @@ member-without s r i m h j = ap (λ (x : ℕ). bit x (j % 64)) (h (j / 64)) ∙ 
         let q : j ≡ i → ⊥ = eqb-false j i f in
         let p : j / 64 ≡ i / 64 = eqb-true (j / 64) (i / 64) e in
         bit-xor W (2 ^ (i % 64)) (j % 64)
-        ∙ ap (λ (b : Bool). cond (bit W (j % 64)) (not b) b) (bit-pow (i % 64) (j % 64) ∙ ne-eqb (j % 64) (i % 64) (λ z. q (omega arith)))
-        ∙ plain (bit W (j % 64))
+        ∙ ap (λ (b : Bool). cond (bitOf W (j % 64)) (not b) b) (bit-pow (i % 64) (j % 64) ∙ ne-eqb (j % 64) (i % 64) (λ z. q (omega arith)))
+        ∙ plain (bitOf W (j % 64))
     go false e true f = absurd (eqb-false (j / 64) (i / 64) e (ap (λ (n : ℕ). n / 64) (eqb-true j i f)))
-    go false e false f = all (bit W (j % 64))
+    go false e false f = all (bitOf W (j % 64))
 
 -- ---- one word changes
 
@@ -222,7 +222,7 @@ pub least-at : (s : Bits) (k i : ℕ) → k < 4 → ((m : ℕ) → m < k → wor
 unfolding member
 least-at s k i h before low = (
   omega (arith, low .within),
-  ap₂ (λ (m j : ℕ). bit (wordOf s m) j) quotient remainder ∙ low .set,
+  ap₂ (λ (m j : ℕ). bitOf (wordOf s m) j) quotient remainder ∙ low .set,
   λ j l. go j l,
 )
   where
@@ -235,18 +235,18 @@ least-at s k i h before low = (
     remainder : (k * 64 + i) % 64 ≡ i
     remainder = omega (arith, w)
 
-    go : (j : ℕ) → j < k * 64 + i → bit (wordOf s (j / 64)) (j % 64) ≡ false
+    go : (j : ℕ) → j < k * 64 + i → bitOf (wordOf s (j / 64)) (j % 64) ≡ false
     go j l = by (eqb (j / 64) k) refl
       where
-        by : (t : Bool) → eqb (j / 64) k ≡ t → bit (wordOf s (j / 64)) (j % 64) ≡ false
-        by true e = let f : j / 64 ≡ k = eqb-true (j / 64) k e in ap (λ (m : ℕ). bit (wordOf s m) (j % 64)) f ∙ low .below (j % 64) (omega (arith, w))
+        by : (t : Bool) → eqb (j / 64) k ≡ t → bitOf (wordOf s (j / 64)) (j % 64) ≡ false
+        by true e = let f : j / 64 ≡ k = eqb-true (j / 64) k e in ap (λ (m : ℕ). bitOf (wordOf s m) (j % 64)) f ∙ low .below (j % 64) (omega (arith, w))
         by false e =
             let f : j / 64 ≡ k → ⊥ = eqb-false (j / 64) k e in
-            ap (λ (m : ℕ). bit m (j % 64)) (before (j / 64) (omega (arith, w))) ∙ bit-none (j % 64)
+            ap (λ (m : ℕ). bitOf m (j % 64)) (before (j / 64) (omega (arith, w))) ∙ bit-none (j % 64)
 
 pub least-none : (s : Bits) → s .a ≡ 0 → s .b ≡ 0 → s .c ≡ 0 → s .d ≡ 0 → Least (member s) Nothing
 unfolding member wordOf
-least-none s p q r t j = ap (λ (x : ℕ). bit x (j % 64)) (go (eqb (j / 64) 0) (eqb (j / 64) 1) (eqb (j / 64) 2) (eqb (j / 64) 3)) ∙ bit-none (j % 64)
+least-none s p q r t j = ap (λ (x : ℕ). bitOf x (j % 64)) (go (eqb (j / 64) 0) (eqb (j / 64) 1) (eqb (j / 64) 2) (eqb (j / 64) 3)) ∙ bit-none (j % 64)
   where
     go : (e f g h : Bool) → cond e (s .a) (cond f (s .b) (cond g (s .c) (cond h (s .d) 0))) ≡ 0
     go true f g h = p
@@ -288,6 +288,6 @@ pub member-beyond : (s : Bits) (j : ℕ) → 256 ≤ j → member s j ≡ false
 unfolding member wordOf
 member-beyond s j h =
     let k = j / 64 in
-    ap (λ (x : ℕ). bit x (j % 64))
+    ap (λ (x : ℕ). bitOf x (j % 64))
     (rw (ne-eqb k 0 (λ e. omega arith), ne-eqb k 1 (λ e. omega arith), ne-eqb k 2 (λ e. omega arith), ne-eqb k 3 (λ e. omega arith)))
     ∙ bit-none (j % 64)

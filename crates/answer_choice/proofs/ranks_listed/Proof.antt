@@ -9,7 +9,7 @@ use lib.ListN.{length}
 use denote.Ref.{now}
 use Rattle.rules.specs.Lists.{any}
 use Rattle.rules.specs.Places.{linesAt, typesOf}
-use Rattle.access_set.specs.Member.{bit}
+use Rattle.access_set.specs.Member.{bitOf}
 use Rattle.access_set.specs.Laws.Bit.{bit-none}
 use Rattle.tables.specs.Book.{width, schema}
 use Rattle.tables.specs.Held.{typeAt, Distinct}
@@ -21,7 +21,7 @@ use Rattle.answer_choice.proofs.ranks_listed.Tie as tie
 
 abbrev Inv-loop : tie.InvT-loop
 Inv-loop book q i n types w ranks₀ j₀ left₀ ranks j left = (k : ℕ) → k < length (schema book)
-    → (bit ranks k || any (eqb (typeAt (schema book) k)) (typesOf left (linesAt (width book) q j))) ≡ any (eqb (typeAt (schema book) k)) (typesOf n (linesAt (width book) q i))
+    → (bitOf ranks k || any (eqb (typeAt (schema book) k)) (typesOf left (linesAt (width book) q j))) ≡ any (eqb (typeAt (schema book) k)) (typesOf n (linesAt (width book) q i))
 
 abbrev μ-loop : tie.MeasureT-loop
 μ-loop book q i n types w ranks₀ j₀ left₀ ranks j left = left
@@ -50,29 +50,29 @@ loop-again c =
     let L = c .before .before .before .before .before .before .loop in
     let e = sym (c .before .before .before .before .take .ensures) ∙ c .before .before .x .given .1 in
     let s = c .before .before .before .before .before .before .before .before .schema .ensures in
-    let told = subst (λ (ks : List ℕ). (k : ℕ) → k < length ks → bit (c .with-type .result) k ≡ (eqb (typeAt ks k) (c .before .before .x .given .0 .0 .a) || bit (L .ranks) k)) s (c .with-type .ensures) in
-    λ k l. listed-more (width b) (now (A .q)) (L .j) (eqb (typeAt (schema b) k)) (L .left) (c .before .before .before .before .before .loop-test .taken) _ e (bit (L .ranks) k) (bit (c .with-type .result) k) _ (told k l) (L .inv k l)
+    let told = subst (λ (ks : List ℕ). (k : ℕ) → k < length ks → bitOf (c .with-type .result) k ≡ (eqb (typeAt ks k) (c .before .before .x .given .0 .0 .a) || bitOf (L .ranks) k)) s (c .with-type .ensures) in
+    λ k l. listed-more (width b) (now (A .q)) (L .j) (eqb (typeAt (schema b) k)) (L .left) (c .before .before .before .before .before .loop-test .taken) _ e (bitOf (L .ranks) k) (bitOf (c .with-type .result) k) _ (told k l) (L .inv k l)
 
 returns : tie.Need-returns Inv-loop μ-loop
 returns c =
     let A = c .before .before .before .before .before .before .before .before .before .args in
     let b = now (A .book) in
     let L = c .before .before .before .before .loop in
-    λ k l. or-none (bit (L .ranks) k) _ (listed-broken (width b) (now (A .q)) (L .j) (eqb (typeAt (schema b) k)) (L .left) (c .before .before .before .loop-test .taken) (sym (c .before .before .take .ensures) ∙ c .enum-told .given .1)) ∙ L .inv k l
+    λ k l. or-none (bitOf (L .ranks) k) _ (listed-broken (width b) (now (A .q)) (L .j) (eqb (typeAt (schema b) k)) (L .left) (c .before .before .before .loop-test .taken) (sym (c .before .before .take .ensures) ∙ c .enum-told .given .1)) ∙ L .inv k l
 
 returns-2 : tie.Need-returns-2 Inv-loop μ-loop
 returns-2 c =
     let A = c .before .before .before .before .before .before .before .before .before .args in
     let b = now (A .book) in
     let L = c .before .before .before .before .loop in
-    λ k l. or-none (bit (L .ranks) k) _ (listed-end (width b) (now (A .q)) (L .j) (eqb (typeAt (schema b) k)) (L .left) (c .before .before .before .loop-test .taken) (sym (c .before .before .take .ensures) ∙ c .enum-told2 .given .1)) ∙ L .inv k l
+    λ k l. or-none (bitOf (L .ranks) k) _ (listed-end (width b) (now (A .q)) (L .j) (eqb (typeAt (schema b) k)) (L .left) (c .before .before .before .loop-test .taken) (sym (c .before .before .take .ensures) ∙ c .enum-told2 .given .1)) ∙ L .inv k l
 
 returns-3 : tie.Need-returns-3 Inv-loop μ-loop
 returns-3 c =
     let A = c .before .before .before .before .before .before .args in
     let b = now (A .book) in
     let L = c .before .loop in
-    λ k l. or-none (bit (L .ranks) k) _ (listed-done (width b) (now (A .q)) (L .j) (eqb (typeAt (schema b) k)) (L .left) (c .loop-test .left)) ∙ L .inv k l
+    λ k l. or-none (bitOf (L .ranks) k) _ (listed-done (width b) (now (A .q)) (L .j) (eqb (typeAt (schema b) k)) (L .left) (c .loop-test .left)) ∙ L .inv k l
 
 pub ranks-listed-spec : {M : Type 1} → statement M
 ranks-listed-spec =

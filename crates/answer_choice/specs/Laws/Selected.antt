@@ -24,7 +24,7 @@ use Rattle.name.specs.Schema.{rankIn}
 use Rattle.name.specs.Laws.Schema.{rank-first}
 use Rattle.request_sheet.specs.Noted as Requests
 use Rattle.request_sheet.specs.declared.Asked.{Asked}
-use Rattle.access_set.specs.Member.{bit}
+use Rattle.access_set.specs.Member.{bitOf}
 use Rattle.access_set.specs.Laws.Bit.{bit-or, bit-pow, one-shl}
 use Rattle.tables.specs.Held.{typeAt, Distinct}
 use Rattle.tables.specs.declared.plan.Choice.{Choice}
@@ -64,16 +64,16 @@ module _ (ks : List ℕ) (t : ℕ) where
 
   -- .. as the code sets it
   pub rank-in : Distinct ks → (i : ℕ) → i < length ks → i < 64 → typeAt ks i ≡ t → (ranks : ℕ) (r : ℕ) → r < length ks
-      → bit (bitOr ranks (1 * 2 ^ i % 2 ^ 64)) r ≡ (eqb (typeAt ks r) t || bit ranks r)
+      → bitOf (bitOr ranks (1 * 2 ^ i % 2 ^ 64)) r ≡ (eqb (typeAt ks r) t || bitOf ranks r)
   rank-in distinct i l small e ranks r m =
       bit-or ranks (1 * 2 ^ i % 2 ^ 64) r
-      ∙ ap (λ (x : ℕ). bit ranks r || bit x r) (one-shl i small)
-      ∙ ap (λ (b : Bool). bit ranks r || b) (bit-pow i r ∙ same-rank distinct i l e r m)
-      ∙ or-comm (bit ranks r) (eqb (typeAt ks r) t)
+      ∙ ap (λ (x : ℕ). bitOf ranks r || bitOf x r) (one-shl i small)
+      ∙ ap (λ (b : Bool). bitOf ranks r || b) (bit-pow i r ∙ same-rank distinct i l e r m)
+      ∙ or-comm (bitOf ranks r) (eqb (typeAt ks r) t)
 
   -- no rank has it
-  pub rank-out : length ks ≤ rankIn ks t → (ranks r : ℕ) → r < length ks → bit ranks r ≡ (eqb (typeAt ks r) t || bit ranks r)
-  rank-out none ranks r m = ap (λ (b : Bool). b || bit ranks r) (sym (ne-eqb (typeAt ks r) t (λ e. absurd (omega (arith, none, m, rank-first ks t r m e)))))
+  pub rank-out : length ks ≤ rankIn ks t → (ranks r : ℕ) → r < length ks → bitOf ranks r ≡ (eqb (typeAt ks r) t || bitOf ranks r)
+  rank-out none ranks r m = ap (λ (b : Bool). b || bitOf ranks r) (sym (ne-eqb (typeAt ks r) t (λ e. absurd (omega (arith, none, m, rank-first ks t r m e)))))
 
 -- ---- the lines one by one
 
@@ -140,15 +140,15 @@ below-at test (suc n) h r l = go (eqb r n) refl (λ e m. below-at test n e r m)
     go true e ih = ap test (eqb-true r n e) ∙ and-left (test n) (below test n) h
     go false e ih = let d : r ≡ n → ⊥ = eqb-false r n e in ih (and-right (test n) (below test n) h) (omega arith)
 
-pub all-ranks : (r : ℕ) → r < 64 → bit 18446744073709551615 r ≡ true
-unfolding below bit
-all-ranks r l = below-at (bit 18446744073709551615) 64 refl r l
+pub all-ranks : (r : ℕ) → r < 64 → bitOf 18446744073709551615 r ≡ true
+unfolding below bitOf
+all-ranks r l = below-at (bitOf 18446744073709551615) 64 refl r l
 
 -- ---- the whole selection
 
 module _ (w : ℕ) (q : Bytes) (asked : Asked) (s : Selection) (h : Selects w q s asked) (schema : List ℕ) where
   pub chooses-listed : asked .listed ≡ true → (c : Choice)
-      → ((k : ℕ) → k < length schema → bit (c .ranks) k ≡ any (eqb (typeAt schema k)) (typesOf (asked .«types_listed») (linesAt w q (asked .types))))
+      → ((k : ℕ) → k < length schema → bitOf (c .ranks) k ≡ any (eqb (typeAt schema k)) (typesOf (asked .«types_listed») (linesAt w q (asked .types))))
       → c .values ≡ asked .values → c .nothing ≡ eqb (asked .«types_listed») 0 → Chooses schema s c
   unfolding selected
   chooses-listed e c ranks values nothing = record {
@@ -164,7 +164,7 @@ module _ (w : ℕ) (q : Bytes) (asked : Asked) (s : Selection) (h : Selects w q 
   pub chooses-all : asked .listed ≡ false → length schema ≤ 64 → (c : Choice) → c .ranks ≡ 18446744073709551615 → c .values ≡ asked .values → c .nothing ≡ false → Chooses schema s c
   unfolding selected
   chooses-all e few c ranks values nothing = record {
-    ranks = λ r l. ap (λ (x : ℕ). bit x r) ranks ∙ all-ranks r (omega arith) ∙ sym (ap (λ (b : Bool). not b || any (eqb (typeAt schema r)) (s .types)) (h .listed ∙ e));
+    ranks = λ r l. ap (λ (x : ℕ). bitOf x r) ranks ∙ all-ranks r (omega arith) ∙ sym (ap (λ (b : Bool). not b || any (eqb (typeAt schema r)) (s .types)) (h .listed ∙ e));
     values = values ∙ sym (h .values);
     nothing = nothing ∙ sym (ap (λ (b : Bool). b && isEmpty (s .types)) (h .listed ∙ e));
   }

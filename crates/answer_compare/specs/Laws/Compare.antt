@@ -27,7 +27,7 @@ use Rattle.tables.specs.Laws.Outcome.{refused-planned}
 use Rattle.rules.specs.declared.Found.the-variants.{At}
 use Rattle.name.specs.Schema.{syntaxIn, equalBy}
 use Rattle.name.specs.Laws.Schema.{allowed-at, equal-at}
-use Rattle.tables.specs.Book.{types, schema}
+use Rattle.tables.specs.Book.{schemaColumn, typeCount, schema}
 use Rattle.tables.specs.Held.{typeAt}
 use Rattle.tables.specs.World.{Entries}
 use Rattle.tables.specs.Laws.Book.{schema-length, type-at}
@@ -102,21 +102,21 @@ module _ (σ : Setting) (es : List Stored) (k : ℕ) where
 
 -- ---- by the rank of the type
 
-module _ {σ : Setting} {es : List Stored} {d : Bytes} {book held : List ℕ} (h : Entries σ es d book held) (r : ℕ) (l : r < types book) where
+module _ {σ : Setting} {es : List Stored} {d : Bytes} {book held : List ℕ} (h : Entries σ es d book held) (r : ℕ) (l : r < typeCount book) where
   inside : r < length (schema book)
   inside = omega (arith, l, schema-length (h .fits))
 
-  syntax : syntaxIn (schema book) (typeAt (schema book) r) ≡ At (getD book (8 + r) 0 % 4)
+  syntax : syntaxIn (schema book) (typeAt (schema book) r) ≡ At (getD book (schemaColumn + r) 0 % 4)
   syntax = syntax-ranked (schema book) (h .distinct) r inside ∙ ap (λ (k : ℕ). At (k % 4)) (type-at book r l)
 
-  pub type-is : getD book (8 + r) 0 / 4 ≡ typeAt (schema book) r
+  pub type-is : getD book (schemaColumn + r) 0 / 4 ≡ typeAt (schema book) r
   type-is = ap (λ (k : ℕ). k / 4) (sym (type-at book r l))
 
-  pub allowed-rank : (v : Bytes) → allowed (σ .schema) (typeAt (schema book) r) v ≡ fits (getD book (8 + r) 0 % 4) v
-  allowed-rank v = ap (λ (S : Schema). allowed S (typeAt (schema book) r) v) (h .schema-is) ∙ allowed-at (schema book) (typeAt (schema book) r) (getD book (8 + r) 0 % 4) syntax v
+  pub allowed-rank : (v : Bytes) → allowed (σ .schema) (typeAt (schema book) r) v ≡ fits (getD book (schemaColumn + r) 0 % 4) v
+  allowed-rank v = ap (λ (S : Schema). allowed S (typeAt (schema book) r) v) (h .schema-is) ∙ allowed-at (schema book) (typeAt (schema book) r) (getD book (schemaColumn + r) 0 % 4) syntax v
 
-  pub equal-rank : (v u : Bytes) → equal (σ .schema) (typeAt (schema book) r) v u ≡ equalBy (getD book (8 + r) 0 % 4) v u
-  equal-rank v u = ap (λ (S : Schema). equal S (typeAt (schema book) r) v u) (h .schema-is) ∙ equal-at (schema book) (typeAt (schema book) r) (getD book (8 + r) 0 % 4) syntax v u
+  pub equal-rank : (v u : Bytes) → equal (σ .schema) (typeAt (schema book) r) v u ≡ equalBy (getD book (schemaColumn + r) 0 % 4) v u
+  equal-rank v u = ap (λ (S : Schema). equal S (typeAt (schema book) r) v u) (h .schema-is) ∙ equal-at (schema book) (typeAt (schema book) r) (getD book (schemaColumn + r) 0 % 4) syntax v u
 
 -- ---- the plan
 

@@ -12,7 +12,7 @@ use Rattle.rules.specs.Permission.{DiscloseOnError}
 use Rattle.rules.specs.Decision.{Setting, entry}
 use Rattle.rules.specs.Request.{Selection}
 use Rattle.rules.specs.Answer.{outcome, noSuchObject, named, opened}
-use Rattle.rules.specs.Laws.Directory.{Accepted}
+use Rattle.rules.specs.Derived.{Accepted}
 use Rattle.tables.specs.Laws.Resolve.{numbered, entryBy, named-walk}
 use Rattle.rules.specs.declared.Outcome.{Outcome}
 use Rattle.rules.specs.declared.Outcome.the-variants.{Result, NoSuchObject, InsufficientAccessRights, NoSuchAttributeOrValue, InvalidAttributeSyntax, AliasProblem}

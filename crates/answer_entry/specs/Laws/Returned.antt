@@ -16,7 +16,7 @@ use Rattle.rules.specs.Permission.{Read, Browse, ReturnDN, DiscloseOnError}
 use Rattle.rules.specs.Decision.{Setting, entry, granted}
 use Rattle.rules.specs.Request.{Selection}
 use Rattle.rules.specs.Answer as Answer
-use Rattle.rules.specs.Laws.Directory.{Accepted}
+use Rattle.rules.specs.Derived.{Accepted}
 use Rattle.tables.specs.Numbers.{walk}
 use Rattle.tables.specs.Laws.Resolve.{numbered, disclosed-walk, entryBy, test}
 use Rattle.rules.specs.declared.Found.{Found}

@@ -14,7 +14,7 @@ use Rattle.rules.specs.Request.{Selection}
 use Rattle.rules.specs.Answer as Answer
 use Rattle.rules.specs.Answer.{named, noSuchObject}
 use Rattle.rules.specs.Laws.Absent.{present′}
-use Rattle.rules.specs.Laws.Directory.{Accepted}
+use Rattle.rules.specs.Derived.{Accepted}
 use Rattle.tables.specs.Numbers.{walk}
 use Rattle.tables.specs.Laws.Resolve.{named-walk, entryBy}
 use Rattle.rules.specs.declared.Found.{Found}

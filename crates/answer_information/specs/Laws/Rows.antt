@@ -8,7 +8,7 @@ use lib.ListN.{length, getD, take, drop, length-drop}
 use Rattle.rules.specs.Sheet.{Bytes}
 use Rattle.rules.specs.Directory.{Stored, blank, nameAt}
 use Rattle.rules.specs.Decision.{Setting, Thing, granted}
-use Rattle.tables.specs.Book.{types, entries, schema, firstAt}
+use Rattle.tables.specs.Book.{schemaColumn, typeCount, entryCount, schema, firstAt}
 use Rattle.tables.specs.Laws.Book.{schema-length, type-at}
 use Rattle.tables.specs.Held.{rankAt, placeAt, sizeAt, typeAt, HeldAt}
 use Rattle.tables.specs.Sets.{grantedAt}
@@ -29,18 +29,18 @@ granted-named σ es zero h x q = absurd (omega arith)
 granted-named σ es (suc k) h x q = refl
 
 module _ {σ : Setting} {es : List Stored} {d : Bytes} {book held : List ℕ} (E : Entries σ es d book held) where
-  pub ranked : (rank : ℕ) → rank < types book → rank < length (schema book)
+  pub ranked : (rank : ℕ) → rank < typeCount book → rank < length (schema book)
   ranked rank l = omega (arith, l, schema-length (E .fits))
 
   -- the number of a type, as the code makes it
-  pub type-number : (rank : ℕ) → rank < types book → getD book (8 + rank) 0 / 4 ≡ typeAt (schema book) rank
+  pub type-number : (rank : ℕ) → rank < typeCount book → getD book (schemaColumn + rank) 0 / 4 ≡ typeAt (schema book) rank
   type-number rank l = ap (λ (x : ℕ). x / 4) (sym (type-at book rank l))
 
-  module _ (e : ℕ) (some : 1 ≤ e) (entry : e ≤ entries book) where
+  module _ (e : ℕ) (some : 1 ≤ e) (entry : e ≤ entryCount book) where
     pub there : e ≤ length es
     there = omega (arith, entry, E .count)
 
-    index : e - 1 < entries book
+    index : e - 1 < entryCount book
     index = omega (arith, some, entry)
 
     -- its rows
@@ -53,7 +53,7 @@ module _ {σ : Setting} {es : List Stored} {d : Bytes} {book held : List ℕ} (E
       before : i < firstAt book (suc (e - 1))
       before = subst (λ (n : ℕ). i < firstAt book n) (index-suc e some) until
 
-      pub row-rank : rankAt held i < types book
+      pub row-rank : rankAt held i < typeCount book
       row-rank = World.rank-within E (e - 1) index i from before
 
       pub row-within : placeAt held i + sizeAt held i ≤ length d

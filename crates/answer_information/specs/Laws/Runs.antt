@@ -17,33 +17,33 @@ use Rattle.rules.specs.Decision.{Setting, ofType, granted}
 use Rattle.rules.specs.Request.{Selection}
 use Rattle.rules.specs.Answer.{selected, valueLines, typeLines, information}
 use Rattle.rules.specs.Laws.Held.{valuesAhead, afterType, held-first}
-use Rattle.tables.specs.Book.{width, entries, schema, firstAt}
+use Rattle.tables.specs.Book.{width, entryCount, schema, firstAt}
 use Rattle.tables.specs.Held.{rankAt, bytesAt, typeAt, HeldAt}
 use Rattle.tables.specs.World.{Entries}
 use Rattle.answer_line.specs.Emit.{Emits}
 use Rattle.answer_line.specs.Laws.Emit.{emits-none, emits-append}
 use Rattle.tables.specs.Plan.{informationAt}
-use Rattle.answer_information.specs.Information.{EndsAt, rowValues, heldBy, readable, shown, returned}
+use Rattle.answer_information.specs.Information.{EndsAt, rowValues, heldBy, readable, shownType, returned}
 use Rattle.answer_information.specs.Laws.Rows.{index-suc, rows-of}
 
 -- ---- what is returned of a type
 
 module _ (σ : Setting) (s : Selection) (n : Name) (t : ℕ) where
-  pub shown-yes : {b : Bool} → selected s t ≡ true → b ≡ granted σ n (ofType t) Read → b ≡ shown σ s n t
+  pub shown-yes : {b : Bool} → selected s t ≡ true → b ≡ granted σ n (ofType t) Read → b ≡ shownType σ s n t
   shown-yes e f = f ∙ ap (λ (x : Bool). x && granted σ n (ofType t) Read) (sym e)
 
-  pub shown-not : selected s t ≡ false → false ≡ shown σ s n t
+  pub shown-not : selected s t ≡ false → false ≡ shownType σ s n t
   shown-not e = ap (λ (x : Bool). x && granted σ n (ofType t) Read) (sym e)
 
 module _ (σ : Setting) (s : Selection) (n : Name) (h : Held) where
-  pub returned-not : shown σ s n (h .type) ≡ false → returned σ s n h ≡ []
+  pub returned-not : shownType σ s n (h .type) ≡ false → returned σ s n h ≡ []
   returned-not e = rw e
 
-  pub returned-type : shown σ s n (h .type) ≡ true → s .values ≡ false → (t : ℕ) → t ≡ h .type → returned σ s n h ≡ line 34 t 0 0 [] ∷ []
+  pub returned-type : shownType σ s n (h .type) ≡ true → s .values ≡ false → (t : ℕ) → t ≡ h .type → returned σ s n h ≡ line 34 t 0 0 [] ∷ []
   unfolding typeLines
   returned-type e f t g = rw (e, f) (ap (λ (u : ℕ). line 34 u 0 0 [] ∷ []) (sym g))
 
-  pub returned-values : shown σ s n (h .type) ≡ true → s .values ≡ true → returned σ s n h ≡ valueLines (h .type) (readable σ n (h .type) (h .values))
+  pub returned-values : shownType σ s n (h .type) ≡ true → s .values ≡ true → returned σ s n h ≡ valueLines (h .type) (readable σ n (h .type) (h .values))
   unfolding typeLines
   returned-values e f = rw (e, f)
 
@@ -141,7 +141,7 @@ information-is : (σ : Setting) (es : List Stored) (s : Selection) (k : ℕ)
 unfolding informationAt entryOf nameAt
 information-is σ es s k = refl
 
-module _ (out : Bytes) (at : ℕ) {σ : Setting} {es : List Stored} {d : Bytes} {book held : List ℕ} (E : Entries σ es d book held) (s : Selection) (e : ℕ) (some : 1 ≤ e) (entry : e ≤ entries book)
+module _ (out : Bytes) (at : ℕ) {σ : Setting} {es : List Stored} {d : Bytes} {book held : List ℕ} (E : Entries σ es d book held) (s : Selection) (e : ℕ) (some : 1 ≤ e) (entry : e ≤ entryCount book)
   where
     here : List Part
     here = getD es (e - 1) blank .values

@@ -1,5 +1,5 @@
 -- Laws of values written and counted: one value, one more, and then the K 34 line before them.
-use Prim.Native.Nat.{ℕ, zero, suc, _+_, _*_}
+use Prim.Native.Nat.{ℕ, zero, suc, _+_}
 use mathlib.Core.Path.{_≡_, refl, sym, ap, _∙_, subst}
 use mathlib.Core.Bool.{Bool, true, false}
 use mathlib.Core.List.{List, [], _∷_, _++_, map}
@@ -7,7 +7,7 @@ use native.Mathlib.Numerals.{add-one}
 use native.Mathlib.Omega.{arith}
 use lib.ListN.{length, length-append}
 use Rattle.rules.specs.Lists.{given, gather}
-use Rattle.rules.specs.Sheet.{Bytes, Line, line}
+use Rattle.rules.specs.Sheet.{Bytes, Line, line, lineSize}
 use Rattle.rules.specs.Name.{Name}
 use Rattle.rules.specs.Permission.{Read}
 use Rattle.rules.specs.Decision.{Setting, ofValue, granted}
@@ -80,7 +80,7 @@ module _ (w : ℕ) (out : Bytes) (at t : ℕ) (from to : Written) (vs : List Byt
       go [] q = subst (λ (o : Bytes). Emits w out at [] o at) (sym (q .lines .bytes)) (emits-none w out at)
       go (v ∷ vs) q = absurd (omega (arith, e, q .counted))
 
-  pub lines-some : (to .count ≡ 0 → ⊥) → from .next ≡ at + (5 * w + 1) → (t′ : ℕ) → t′ ≡ t → {out₂ : Bytes} {m : ℕ} → Emits w out₁ at (line 34 t′ (to .count) 0 [] ∷ []) out₂ m
+  pub lines-some : (to .count ≡ 0 → ⊥) → from .next ≡ at + lineSize w 0 → (t′ : ℕ) → t′ ≡ t → {out₂ : Bytes} {m : ℕ} → Emits w out₁ at (line 34 t′ (to .count) 0 [] ∷ []) out₂ m
       → Emits w out at (valueLines t vs) out₂ (to .next)
   unfolding valueLines
   lines-some ne f t′ k {out₂} {m} q = go vs p

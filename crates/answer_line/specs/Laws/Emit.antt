@@ -1,5 +1,5 @@
 -- Laws of `Emit`: lines after lines are lines, all are written where all fit, and nothing changes in an empty buffer.
-use Prim.Native.Nat.{ℕ, _+_, _-_, _*_, _≤_, _<_}
+use Prim.Native.Nat.{ℕ, _+_, _-_, _≤_, _<_}
 use native.Mathlib.Nat.{zero-add}
 use mathlib.Core.Path.{_≡_, refl, sym, ap, _∙_, subst}
 use mathlib.Core.List.{List, [], _∷_, _++_, append-assoc, append-nil}
@@ -8,9 +8,10 @@ use native.Mathlib.Decide.{decLt}
 use lib.ListN.{length, take, drop, length-append, length-drop, take-append-drop}
 use lib.Seq.{length-take-le, take-append-seam, drop-append-add, drop-drop, take-append-add, drop-append-seam}
 use borrow.Author.Tests.{lt-ltb, le-ltb}
-use Rattle.rules.specs.Sheet.{Bytes, Line, lineBytes, print}
+use Rattle.rules.specs.Sheet.{Bytes, Line, lineSize, lineBytes, print}
+use Rattle.rules.specs.Laws.Loops.{gather-append}
 use Rattle.rules.specs.Laws.Sheet.{line-length}
-use Rattle.sheet_write.specs.Put.{putAt}
+use Rattle.rules.specs.Derived.{putAt}
 use Rattle.sheet_write.specs.Laws.Put.{put-none, put-length, put-append}
 use Rattle.answer_line.specs.Emit.{emitAt, emitLines, Emits}
 
@@ -40,8 +41,7 @@ emit-length d at s = go (decLt (length d) (at + length s))
 
 print-append : (w : ℕ) (xs ys : List Line) → print w (xs ++ ys) ≡ print w xs ++ print w ys
 unfolding print
-print-append w [] ys = refl
-print-append w (x ∷ xs) ys = ap (λ (r : Bytes). lineBytes w x ++ r) (print-append w xs ys) ∙ sym (append-assoc (lineBytes w x) (print w xs) (print w ys))
+print-append w xs ys = gather-append (lineBytes w) xs ys
 
 print-cons : (w : ℕ) (x : Line) (ls : List Line) → length (print w (x ∷ ls)) ≡ length (lineBytes w x) + length (print w ls)
 unfolding print
@@ -90,24 +90,24 @@ module _ (w : ℕ) (d : Bytes) (at : ℕ) where
   }
 
   -- the place after one line
-  pub emits-length : (x : Line) {d′ : Bytes} {r : ℕ} → Emits w d at (x ∷ []) d′ r → r ≡ at + (5 * w + 1 + length (x .bytes))
+  pub emits-length : (x : Line) {d′ : Bytes} {r : ℕ} → Emits w d at (x ∷ []) d′ r → r ≡ at + lineSize w (length (x .bytes))
   emits-length x p =
-      let l : length (lineBytes w x) ≡ 5 * w + 1 + length (x .bytes) = line-length w x in
+      let l : length (lineBytes w x) ≡ lineSize w (length (x .bytes)) = line-length w x in
       let m : length (print w (x ∷ [])) ≡ length (lineBytes w x) + length (print w []) = print-cons w x [] in
       let z : length (print w []) ≡ 0 = ap length (print-none w) in
       omega (arith, l, m, z, p .next)
 
   -- a line that fits is written
-  pub emits-written : (x : Line) {d′ : Bytes} {r : ℕ} → at + (5 * w + 1 + length (x .bytes)) ≤ length d → d′ ≡ putAt d at (lineBytes w x)
-      → r ≡ at + (5 * w + 1 + length (x .bytes)) → Emits w d at (x ∷ []) d′ r
+  pub emits-written : (x : Line) {d′ : Bytes} {r : ℕ} → at + lineSize w (length (x .bytes)) ≤ length d → d′ ≡ putAt d at (lineBytes w x)
+      → r ≡ at + lineSize w (length (x .bytes)) → Emits w d at (x ∷ []) d′ r
   emits-written x h e n =
-      let l : length (lineBytes w x) ≡ 5 * w + 1 + length (x .bytes) = line-length w x in
+      let l : length (lineBytes w x) ≡ lineSize w (length (x .bytes)) = line-length w x in
       emits-one x (e ∙ sym (emit-fits d at (lineBytes w x) (omega arith))) (omega arith)
 
   -- a line that does not fit is not, and the place is moved all the same
-  pub emits-not : (x : Line) {r : ℕ} → length d < at + (5 * w + 1 + length (x .bytes)) → r ≡ at + (5 * w + 1 + length (x .bytes)) → Emits w d at (x ∷ []) d r
+  pub emits-not : (x : Line) {r : ℕ} → length d < at + lineSize w (length (x .bytes)) → r ≡ at + lineSize w (length (x .bytes)) → Emits w d at (x ∷ []) d r
   emits-not x h n =
-      let l : length (lineBytes w x) ≡ 5 * w + 1 + length (x .bytes) = line-length w x in
+      let l : length (lineBytes w x) ≡ lineSize w (length (x .bytes)) = line-length w x in
       emits-one x (sym (emit-not d at (lineBytes w x) (omega arith))) (omega arith)
 
 -- ---- a line after those that follow it
@@ -182,10 +182,10 @@ unfolding emitLines
 lines-cons w d at x ls = refl
 
 -- a line may be written after those that follow it, in the room left for it
-pub emits-before : (w : ℕ) (d : Bytes) (at : ℕ) (x : Line) (ls : List Line) {d₁ d₂ : Bytes} {m n r : ℕ} → m ≡ at + (5 * w + 1 + length (x .bytes))
+pub emits-before : (w : ℕ) (d : Bytes) (at : ℕ) (x : Line) (ls : List Line) {d₁ d₂ : Bytes} {m n r : ℕ} → m ≡ at + lineSize w (length (x .bytes))
     → Emits w d m ls d₁ r → Emits w d₁ at (x ∷ []) d₂ n → Emits w d at (x ∷ ls) d₂ r
 emits-before w d at x ls {d₁} {d₂} {m} {n} {r} e p q =
-    let l : length (lineBytes w x) ≡ 5 * w + 1 + length (x .bytes) = line-length w x in
+    let l : length (lineBytes w x) ≡ lineSize w (length (x .bytes)) = line-length w x in
     let k : m ≡ at + length (lineBytes w x) = omega (arith, e, l) in
     let c : length (print w (x ∷ ls)) ≡ length (lineBytes w x) + length (print w ls) = print-cons w x ls in
     record {

@@ -10,7 +10,7 @@ use lib.ListN.{length-set}
 use Rattle.rules.specs.Sheet.{Bytes}
 use Rattle.rules.specs.Directory.{Stored}
 use Rattle.rules.specs.Decision.{Setting}
-use Rattle.tables.specs.Book.{entries}
+use Rattle.tables.specs.Book.{entryCount}
 use Rattle.tables.specs.World.{World}
 use Rattle.answer_entry.specs.Passing.{Indices, passing}
 use Rattle.answer_entry.specs.Laws.Passing.{no-indices, index-in, index-out, pass-in, pass-out}
@@ -20,10 +20,10 @@ use Rattle.answer_list.proofs.children.Statement.{statement}
 use Rattle.answer_list.proofs.children.Tie as tie
 
 abbrev Inv-loop : tie.InvT-loop
-Inv-loop book sets b hits₀ count n₀ k₀ hits n k = (k ≤ entries book) × (length hits ≡ 256) × Indices k n hits₀ hits × ((σ : Setting) (es : List Stored) (d p : Bytes) (held : List ℕ) → World σ es d p book held sets → take n hits ≡ passing (listedAt σ es b) k)
+Inv-loop book sets b hits₀ count n₀ k₀ hits n k = (k ≤ entryCount book) × (length hits ≡ 256) × Indices k n hits₀ hits × ((σ : Setting) (es : List Stored) (d p : Bytes) (held : List ℕ) → World σ es d p book held sets → take n hits ≡ passing (listedAt σ es b) k)
 
 abbrev μ-loop : tie.MeasureT-loop
-μ-loop book sets b hits₀ count n₀ k₀ hits n k = entries book - k
+μ-loop book sets b hits₀ count n₀ k₀ hits n k = entryCount book - k
 
 loop-holds : tie.Need-loop-holds Inv-loop μ-loop
 loop-holds c = (omega arith, c .before .pre .1, no-indices 0 _, λ σ es d p held w. unfold passing in refl)
@@ -53,7 +53,7 @@ loop-again c = let A = c .before .before .before .before .before .args in
 
 returns : tie.Need-returns Inv-loop μ-loop
 returns c = let L = c .before .loop in let b = now (c .before .before .before .args .book) in
-    let e : L .k ≡ entries b = omega (arith, L .inv .0, c .loop-test .left) in
+    let e : L .k ≡ entryCount b = omega (arith, L .inv .0, c .loop-test .left) in
     (subst (λ (m : ℕ). Indices m (L .n) (now (c .before .before .before .args .hits)) (L .hits)) e (L .inv .2), λ σ es d p held w. L .inv .3 σ es d p held w ∙ ap (passing (listedAt σ es (c .before .before .before .args .b))) (e ∙ w .entries .count))
 
 pub children-spec : {M : Type 1} → statement M

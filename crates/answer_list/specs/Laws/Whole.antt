@@ -6,13 +6,13 @@ use mathlib.Core.List.{List, map}
 use lib.ListN.{length, take}
 use Rattle.rules.specs.Lists.{gather}
 use Rattle.rules.specs.Name.{Name}
-use Rattle.rules.specs.Directory.{Stored, entryOf, entries}
+use Rattle.rules.specs.Directory.{Stored, entryOf, entriesIn}
 use Rattle.rules.specs.Permission.{DiscloseOnError}
 use Rattle.rules.specs.Decision.{Setting, entry}
 use Rattle.rules.specs.Request.{Selection, list}
 use Rattle.rules.specs.Answer.{answer, listHits}
 use Rattle.rules.specs.Laws.Absent.{list-absent}
-use Rattle.rules.specs.Laws.Directory.{Accepted}
+use Rattle.rules.specs.Derived.{Accepted}
 use Rattle.rules.specs.declared.Found.{Found}
 use Rattle.rules.specs.declared.Found.the-variants.{At, Nothing}
 use Rattle.tables.specs.declared.plan.Plan.{Plan}
@@ -31,7 +31,7 @@ use Rattle.answer_list.specs.Laws.Hits.{list-hits}
 module _ (σ : Setting) (es : List Stored) (ok : Accepted (σ .schema) es) (n : Name) (base : Found) (missing : ℕ) (h : Base σ es n base missing) (plan : Plan) (hits : List ℕ) where
   -- the base is absent
   pub list-none : base ≡ Nothing → (s : Selection) (limit : ℕ) → plan ≡ absentPlan 3 missing → planned σ es s plan hits ≡ answer σ (map entryOf es) (aliasesOf σ es) n (list limit)
-  unfolding entries directoryOf
+  unfolding entriesIn directoryOf
   list-none e s limit q =
       planned-absent σ es ok n base missing h plan hits s 3 q
       ∙ sym (list-absent σ (directoryOf σ es) refl ok n (not-root σ es ok n base missing h e) (not-present σ es ok n base missing h e) (aliasesOf σ es) limit)

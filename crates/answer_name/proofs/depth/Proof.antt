@@ -3,13 +3,13 @@ use native.Mathlib.Omega.{arith}
 use Prim.Native.Nat.{_+_, _-_, _≤_}
 use Rattle.answer_name.specs.Laws.Name.{Climbed, climb-start, climb-on, climb-end}
 use Rattle.tables.specs.Laws.World.{parent-falls}
-use Rattle.tables.specs.Book.{entries}
+use Rattle.tables.specs.Book.{entryCount}
 use borrow.Author.Needs.{needs}
 use Rattle.answer_name.proofs.depth.Statement.{statement}
 use Rattle.answer_name.proofs.depth.Tie as tie
 
 abbrev Inv-loop : tie.InvT-loop
-Inv-loop book e n₀ j₀ n j = (j ≤ entries book) × (n + j ≤ e) × Climbed book e n j
+Inv-loop book e n₀ j₀ n j = (j ≤ entryCount book) × (n + j ≤ e) × Climbed book e n j
 
 abbrev μ-loop : tie.MeasureT-loop
 μ-loop book e n₀ j₀ n j = j

@@ -14,7 +14,7 @@ use Rattle.rules.specs.Directory.{Stored, blank, nameAt, isAlias}
 use Rattle.rules.specs.Decision.{Setting}
 use Rattle.rules.specs.Judge.{nameLines}
 use Rattle.rules.specs.Answer.{entryLines}
-use Rattle.tables.specs.Book.{width, entries, placeAt, parentAt, namingAt, lengthAt, namingOf, targetAt}
+use Rattle.tables.specs.Book.{width, entryCount, namingPlace, parentAt, namingAt, lengthAt, namingOf, targetAt}
 use Rattle.tables.specs.World.{Entries}
 use Rattle.tables.specs.Laws.World.{entry-at, parent-is}
 use Rattle.answer_line.specs.Emit.{Emits}
@@ -23,12 +23,12 @@ use Rattle.answer_name.specs.Name.{namingLine}
 
 -- ---- the naming part
 
-module _ {σ : Setting} {es : List Stored} {d : Bytes} {book held : List ℕ} (E : Entries σ es d book held) (k : ℕ) (l : k < entries book) where
+module _ {σ : Setting} {es : List Stored} {d : Bytes} {book held : List ℕ} (E : Entries σ es d book held) (k : ℕ) (l : k < entryCount book) where
   -- it lies within the directory, and so it is short
   pub part-short : length (namingOf book d k) ≤ 65536
   part-short =
       let h = entry-at E k l .within in
-      let n : length (namingOf book d k) ≡ lengthAt book k = length-take-le (lengthAt book k) (drop (placeAt book k) d) (rw (length-drop (placeAt book k) d) (omega (arith, h))) in
+      let n : length (namingOf book d k) ≡ lengthAt book k = length-take-le (lengthAt book k) (drop (namingPlace book k) d) (rw (length-drop (namingPlace book k) d) (omega (arith, h))) in
       omega (arith, h, n, E .small)
 
   -- the line written is the naming part's
@@ -39,7 +39,7 @@ module _ {σ : Setting} {es : List Stored} {d : Bytes} {book held : List ℕ} (E
       (ap₂ (λ (t : ℕ) (v : Bytes). line kind t 0 c v) (entry-at E k l .type) (q ∙ entry-at E k l .value)) p
 
 -- whether it is an alias
-module _ {σ : Setting} {es : List Stored} {d : Bytes} {book held : List ℕ} (E : Entries σ es d book held) (k : ℕ) (l : k < entries book) where
+module _ {σ : Setting} {es : List Stored} {d : Bytes} {book held : List ℕ} (E : Entries σ es d book held) (k : ℕ) (l : k < entryCount book) where
   aliased : isAlias (getD es k blank .target) ≡ not (eqb (targetAt book k) 0)
   aliased = entry-at E k l .target .alias
 
@@ -64,14 +64,14 @@ unfolding nameAt
 name-zero es = refl
 
 module _ {σ : Setting} {es : List Stored} {d : Bytes} {book held : List ℕ} (E : Entries σ es d book held) where
-  name-on : (e : ℕ) → 0 < e → e ≤ entries book → nameAt es e ≡ nameAt es (parentAt book (e - 1)) ++ (getD es (e - 1) blank .naming ∷ [])
+  name-on : (e : ℕ) → 0 < e → e ≤ entryCount book → nameAt es e ≡ nameAt es (parentAt book (e - 1)) ++ (getD es (e - 1) blank .naming ∷ [])
   name-on zero g l = absurd (omega arith)
   name-on (suc i) g l =
       let h : i < length es = omega (arith, l, E .count) in
       let e : suc i - 1 ≡ i = omega arith in
       rw e (name-suc es i ∙ E .accepted .names i h ∙ ap (λ (p : ℕ). nameAt es p ++ (getD es i blank .naming ∷ [])) (sym (parent-is E i l)))
 
-  depth-on : (e : ℕ) → 0 < e → e ≤ entries book → length (nameAt es e) ≡ length (nameAt es (parentAt book (e - 1))) + 1
+  depth-on : (e : ℕ) → 0 < e → e ≤ entryCount book → length (nameAt es e) ≡ length (nameAt es (parentAt book (e - 1))) + 1
   depth-on e g l = ap length (name-on e g l) ∙ length-append (nameAt es (parentAt book (e - 1))) (getD es (e - 1) blank .naming ∷ [])
 
 -- ---- the number of its parts
@@ -84,7 +84,7 @@ module _ (book : List ℕ) (e : ℕ) where
   pub climb-start : Climbed book e 0 e
   climb-start σ es d held E = omega arith
 
-  pub climb-on : (n j : ℕ) → 0 < j → j ≤ entries book → Climbed book e n j → Climbed book e (n + 1) (parentAt book (j - 1))
+  pub climb-on : (n j : ℕ) → 0 < j → j ≤ entryCount book → Climbed book e n j → Climbed book e (n + 1) (parentAt book (j - 1))
   climb-on n j g l h σ es d held E =
       let p : length (nameAt es j) ≡ length (nameAt es (parentAt book (j - 1))) + 1 = depth-on E j g l in
       let q : n + length (nameAt es j) ≡ length (nameAt es e) = h σ es d held E in
@@ -113,7 +113,7 @@ named-root w out at es e z =
     subst (λ (ls : List Line). Emits w out at ls out at) (sym (ap (λ (j : ℕ). nameLines (nameAt es j)) z ∙ ap nameLines (name-zero es) ∙ lines-none)) (emits-none w out at)
 
 -- the parent's name, and then the own part
-pub named-on : {σ : Setting} {es : List Stored} {d : Bytes} {book held : List ℕ} (E : Entries σ es d book held) (e : ℕ) → (e ≡ 0 → ⊥) → e ≤ entries book
+pub named-on : {σ : Setting} {es : List Stored} {d : Bytes} {book held : List ℕ} (E : Entries σ es d book held) (e : ℕ) → (e ≡ 0 → ⊥) → e ≤ entryCount book
     → {out : Bytes} {at : ℕ} {out₁ out₂ : Bytes} {n r : ℕ} → Emits (width book) out at (nameLines (nameAt es (parentAt book (e - 1)))) out₁ n
     → Emits (width book) out₁ n (namingLine 9 0 (getD es (e - 1) blank) ∷ []) out₂ r → Emits (width book) out at (nameLines (nameAt es e)) out₂ r
 named-on {es = es} {book = book} E e g l {out} {at} {out₁} {out₂} {n} {r} p q =

@@ -23,25 +23,22 @@ use Rattle.tables.specs.Plan.{aliasesOf}
 use Rattle.tables.specs.Choice.{KnownChoice}
 use Rattle.tables.specs.Sound.{Base, KnownBase}
 use Rattle.answer_choice.specs.Selected.{selectionOf}
-use Rattle.answer_entry.specs.declared.Target.{Target}
-use Rattle.answer_target.specs.Target.{Full, Resolves}
-use Rattle.answer_target.specs.declared.Resolved.{Resolved}
-use Rattle.answer_target.specs.declared.Resolved.the-variants as Resolved
+use Rattle.answer_entry.specs.declared.Sought.{Sought}
+use Rattle.answer_resolution.specs.Resolution.{Full, Resolves}
+use Rattle.answer_resolution.specs.declared.Resolved.{Resolved}
+use Rattle.answer_resolution.specs.declared.Resolved.the-variants as Resolved
 use Rattle.answer_entry.specs.Passing.{over}
 use Rattle.answer_operation.specs.Hits.{foundBy, foundFor}
-use Rattle.answer_operation.specs.Posed.{Posed, KnownRequest, KnownTarget}
+use Rattle.answer_operation.specs.Posed.{Posed, KnownRequest, KnownSought}
 
-module _ {d p q : Bytes} {book held sets : List ℕ} {asked : Asked} {target : Target} {choice : Choice} (h : KnownTarget d p q book held sets asked target choice) where
-  pub target-base : KnownBase d p book held sets (target .base) (target .missing)
-  target-base = (h .0, h .1, h .4, h .5 .world, h .6)
+module _ {d p q : Bytes} {book held sets : List ℕ} {asked : Asked} {sought : Sought} {choice : Choice} (h : KnownSought d p q book held sets asked sought choice) where
+  pub sought-base : KnownBase d p book held sets (sought .base) (sought .missing)
+  sought-base = (h .0, h .1, h .4, h .5 .world, h .6)
 
-  pub target-choice : KnownChoice (schema book) choice
-  target-choice = (selectionOf (h .3 .operation), h .5 .chosen)
+  pub sought-choice : KnownChoice (schema book) choice
+  sought-choice = (selectionOf (h .3 .operation), h .5 .chosen)
 
 module _ {d p q : Bytes} {book held sets : List ℕ} {asked : Asked} {choice : Choice} (h : KnownRequest d p q book held sets asked choice) where
-  pub posed-choice : KnownChoice (schema book) choice
-  posed-choice = (selectionOf (h .3 .operation), h .4 .chosen)
-
   -- all parts of the name that it asks for stand there
   pub posed-full : Full (width book) q (asked .base) (asked .«base_parts»)
   posed-full = let n = h .4 .noted .base in ap length (n .parts) ∙ n .count
@@ -55,11 +52,11 @@ module _ {σ : Setting} {es : List Stored} {G : Grammar} {x : Request} {d p q : 
     by-name : Resolves σ es (resolved (σ .schema) (aliasesOf σ es) (x .base)) r
     by-name = subst (λ (n : Name). Resolves σ es (resolved (σ .schema) (aliasesOf σ es) n) r) (Q .noted .base .parts) is
 
-    -- the name that is asked for in the end, and its target
-    pub to-target : {t : Target} → r ≡ Resolved.Target t → (n : Name) × Base σ es n (t .base) (t .missing) × (resolved (σ .schema) (aliasesOf σ es) (x .base) ≡ some n)
-    to-target {t} e = go (resolved (σ .schema) (aliasesOf σ es) (x .base)) (subst (Resolves σ es (resolved (σ .schema) (aliasesOf σ es) (x .base))) e by-name)
+    -- the name that is asked for in the end, and its sought
+    pub to-sought : {t : Sought} → r ≡ Resolved.Sought t → (n : Name) × Base σ es n (t .base) (t .missing) × (resolved (σ .schema) (aliasesOf σ es) (x .base) ≡ some n)
+    to-sought {t} e = go (resolved (σ .schema) (aliasesOf σ es) (x .base)) (subst (Resolves σ es (resolved (σ .schema) (aliasesOf σ es) (x .base))) e by-name)
       where
-        go : (v : Option Name) → Resolves σ es v (Resolved.Target t) → (n : Name) × Base σ es n (t .base) (t .missing) × (v ≡ some n)
+        go : (v : Option Name) → Resolves σ es v (Resolved.Sought t) → (n : Name) × Base σ es n (t .base) (t .missing) × (v ≡ some n)
         go none b = absurd b
         go (some n) b = (n, b, refl)
 

@@ -3,7 +3,7 @@ use Prim.Native.Nat.{ℕ}
 use mathlib.Core.Path.{_≡_, subst}
 use lib.ListN.{length}
 use Rattle.rules.specs.Sheet.{Bytes}
-use Rattle.rules.specs.Judge.{Verdict, accept, refuse}
+use Rattle.rules.specs.Judge.{Verdict, refuse}
 use Rattle.answer_reply.specs.declared.Reply.{Reply}
 use Rattle.answer_reply.specs.Reply.{replyOf, leftOf, Replies}
 

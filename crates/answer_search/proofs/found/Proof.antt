@@ -13,7 +13,7 @@ use Rattle.rules.specs.Filter.{Filter}
 use Rattle.rules.specs.Judge.{Grammar}
 use Rattle.filter_lines.specs.Lines.{positionAt}
 use Rattle.filter_tree.specs.Tree.{FilterAt}
-use Rattle.tables.specs.Book.{width, entries}
+use Rattle.tables.specs.Book.{width, entryCount}
 use Rattle.tables.specs.World.{World}
 use Rattle.answer_entry.specs.Passing.{Indices, passing}
 use Rattle.answer_entry.specs.Laws.Passing.{no-indices, index-in, index-out, pass-in, pass-out}
@@ -22,10 +22,10 @@ use Rattle.answer_search.proofs.found.Statement.{statement}
 use Rattle.answer_search.proofs.found.Tie as tie
 
 abbrev Inv-loop : tie.InvT-loop
-Inv-loop book held sets d p q rows extent hits₀ count n₀ k₀ hits n k = (k ≤ entries book) × (length hits ≡ 256) × Indices k n hits₀ hits × ((σ : Setting) (es : List Stored) (g : Grammar) (f : Filter) → World σ es d p book held sets → FilterAt g (width book) q (positionAt rows 0) f → take n hits ≡ passing (foundAt σ es (extent .base) (extent .subset) (extent .edition) f) k)
+Inv-loop book held sets d p q rows extent hits₀ count n₀ k₀ hits n k = (k ≤ entryCount book) × (length hits ≡ 256) × Indices k n hits₀ hits × ((σ : Setting) (es : List Stored) (g : Grammar) (f : Filter) → World σ es d p book held sets → FilterAt g (width book) q (positionAt rows 0) f → take n hits ≡ passing (foundAt σ es (extent .base) (extent .subset) (extent .edition) f) k)
 
 abbrev μ-loop : tie.MeasureT-loop
-μ-loop book held sets d p q rows extent hits₀ count n₀ k₀ hits n k = entries book - k
+μ-loop book held sets d p q rows extent hits₀ count n₀ k₀ hits n k = entryCount book - k
 
 element-copy-out-count : tie.Need-element-copy-out-count Inv-loop μ-loop
 element-copy-out-count c = omega (arith, c .before .before .before .pre .0 .world .entries .fits .size)
@@ -73,7 +73,7 @@ loop-again c = let A = c .before .before .before .before .before .before .before
 
 returns : tie.Need-returns Inv-loop μ-loop
 returns c = let A = c .before .before .before .before .before .before .args in let L = c .before .loop in let b = now (A .book) in
-    let e : L .k ≡ entries b = omega (arith, L .inv .0, c .loop-test .left) in
+    let e : L .k ≡ entryCount b = omega (arith, L .inv .0, c .loop-test .left) in
     (subst (λ (m : ℕ). Indices m (L .n) (now (A .hits)) (L .hits)) e (L .inv .2), λ σ es g f w h. L .inv .3 σ es g f w h ∙ ap (passing (foundAt σ es (A .extent .base) (A .extent .subset) (A .extent .edition) f)) (e ∙ w .entries .count))
 
 pub found-spec : {M : Type 1} → statement M

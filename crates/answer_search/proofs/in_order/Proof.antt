@@ -5,8 +5,8 @@ use native.Mathlib.Omega.{arith}
 use lib.ListN.{take, drop}
 use denote.Ref.{now}
 use Rattle.rules.specs.Places.{orderingBy}
-use Rattle.rules.specs.Laws.Each.{Each}
-use Rattle.tables.specs.Book.{entries}
+use Rattle.rules.specs.Derived.{Each}
+use Rattle.tables.specs.Book.{entryCount}
 use Rattle.answer_arrange.specs.Arrange.{arrangedAt}
 use borrow.Author.Needs.{needs}
 use Rattle.answer_search.proofs.in_order.Statement.{statement}
@@ -17,7 +17,7 @@ from-zero n = omega arith
 
 arrange-requires : tie.Need-arrange-requires
 arrange-requires c κs = let A = c .before .before .before .before .args in let P = c .before .before .before .before .pre in
-    (P .0, subst (λ (m : ℕ). Each (λ k. k < entries (now (A .book))) (take m (now (A .hits)))) (sym (from-zero (A .n))) (P .2))
+    (P .0, subst (λ (m : ℕ). Each (λ k. k < entryCount (now (A .book))) (take m (now (A .hits)))) (sym (from-zero (A .n))) (P .2))
 
 returns : tie.Need-returns
 returns c = let A = c .before .before .before .before .before .before .before .args in λ σ es w.

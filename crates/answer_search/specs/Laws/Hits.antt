@@ -14,7 +14,7 @@ use Rattle.rules.specs.Filter.{Filter}
 use Rattle.rules.specs.Request.{Search}
 use Rattle.rules.specs.Arrange.{arranged}
 use Rattle.rules.specs.Answer as Answer
-use Rattle.rules.specs.Laws.Directory.{Accepted}
+use Rattle.rules.specs.Derived.{Accepted}
 use Rattle.tables.specs.Numbers.{climbs, withinNumber, walk}
 use Rattle.tables.specs.Laws.Hits.{candidate-number}
 use Rattle.rules.specs.declared.Edition.{Edition}

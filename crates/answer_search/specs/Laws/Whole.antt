@@ -11,16 +11,16 @@ use Rattle.rules.specs.Lists.{gather}
 use Rattle.rules.specs.Sheet.{Bytes}
 use Rattle.rules.specs.Judge.{Grammar}
 use Rattle.rules.specs.Name.{Name}
-use Rattle.rules.specs.Directory.{Stored, entryOf, entries}
+use Rattle.rules.specs.Directory.{Stored, entryOf, entriesIn}
 use Rattle.rules.specs.Permission.{DiscloseOnError}
 use Rattle.rules.specs.Decision.{Setting, entry}
 use Rattle.rules.specs.Filter.{Filter}
 use Rattle.rules.specs.Request.{Selection, Ordering, Search, search}
 use Rattle.rules.specs.Answer.{answer, searchHits}
 use Rattle.rules.specs.Places.{orderingBy}
-use Rattle.rules.specs.Laws.Each.{Each, each-at, each-by-index}
+use Rattle.rules.specs.Derived.{Each, Accepted}
+use Rattle.rules.specs.Laws.Each.{each-at, each-by-index}
 use Rattle.rules.specs.Laws.Absent.{search-absent}
-use Rattle.rules.specs.Laws.Directory.{Accepted}
 use Rattle.rules.specs.declared.Found.{Found}
 use Rattle.rules.specs.declared.Found.the-variants.{At, Nothing}
 use Rattle.tables.specs.declared.plan.Plan.{Plan}
@@ -47,7 +47,7 @@ read-at g w q f e h = subst (λ (k : ℕ). FilterAt g w q k f) (sym e) h
 module _ (σ : Setting) (es : List Stored) (ok : Accepted (σ .schema) es) (n : Name) (base : Found) (missing : ℕ) (h : Base σ es n base missing) (plan : Plan) (hits : List ℕ) where
   -- the base is absent
   pub search-none : base ≡ Nothing → (r : Search) → plan ≡ absentPlan 4 missing → planned σ es (r .selection) plan hits ≡ answer σ (map entryOf es) (aliasesOf σ es) n (search r)
-  unfolding entries directoryOf
+  unfolding entriesIn directoryOf
   search-none e r q =
       planned-absent σ es ok n base missing h plan hits (r .selection) 4 q
       ∙ sym (search-absent σ (directoryOf σ es) refl ok n (not-root σ es ok n base missing h e) (not-present σ es ok n base missing h e) (aliasesOf σ es) r)

@@ -1,6 +1,5 @@
 use mathlib.Core.Path.{refl}
 use native.Mathlib.Omega.{arith}
-use borrow.Author.Needs.{needs}
 use Rattle.caller.proofs.format_of.Statement.{statement}
 use Rattle.caller.proofs.format_of.Tie as tie
 

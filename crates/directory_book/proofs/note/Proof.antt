@@ -7,8 +7,8 @@ use lib.ListN.{length, set, length-set}
 use mir.Syntax.{w64}
 use mir.Val.{Fits}
 use denote.Ref.{now}
-use Rattle.tables.specs.Book.{BOOK}
-use Rattle.directory_book.specs.Filled.{put}
+use Rattle.tables.specs.Book.{schemaColumn, placeColumn, parentColumn, namingColumn, lengthColumn, firstColumn, targetColumn, BOOK}
+use Rattle.directory_book.specs.Filled.{columnPut}
 use Rattle.directory_book.specs.Laws.Put.{put-start, put-on, entered, entered-start}
 use Rattle.directory_book.specs.Laws.Filled.{Fit, bookColumns, entry-on, last-on, size₁}
 use Rattle.directory_book.specs.Laws.Entries.{fit-of, lines-within, filled-stands}
@@ -24,9 +24,9 @@ module _ {k : ℕ} (h : k < 256) where
   scaled : Fits w64 (k * 8)
   scaled = scaled-fits k 256 8 h (lit< tt)
 
-module _ {k : ℕ} (at : ℕ) (a : T (leb at 1353)) (h : k < 256) where
+module _ {k : ℕ} (at : ℕ) (a : T (leb at targetColumn)) (h : k < 256) where
   in-book : at + k < BOOK
-  in-book = let l : at ≤ 1353 = lit≤ a in omega (arith, l, h)
+  in-book = let l : at ≤ targetColumn = lit≤ a in omega (arith, l, h)
 
   place-fits : Fits w64 (at + k)
   place-fits = fits-under w64 (at + k) BOOK in-book tt
@@ -35,7 +35,7 @@ module _ {k : ℕ} (at : ℕ) (a : T (leb at 1353)) (h : k < 256) where
   place-scaled = scaled-fits (at + k) BOOK 8 in-book (lit< tt)
 
 abbrev Inv-loop : tie.InvT-loop
-Inv-loop f book₀ notes types count i₀ book i = (types ≤ 64) × (i ≤ types) × (book ≡ put book₀ 8 (notes .schema) i)
+Inv-loop f book₀ notes types count i₀ book i = (types ≤ 64) × (i ≤ types) × (book ≡ columnPut book₀ schemaColumn (notes .schema) i)
 
 abbrev μ-loop : tie.MeasureT-loop
 μ-loop f book₀ notes types count i₀ book i = types - i
@@ -56,7 +56,7 @@ few : (c : tie.In-loop2 Inv-loop μ-loop Inv-loop2 μ-loop2) → c .before .loop
 few c = below (c .loop2-test .taken) (c .before .loop2 .inv .0)
 
 loop-holds : tie.Need-loop-holds Inv-loop μ-loop Inv-loop2 μ-loop2
-loop-holds c = let f = fit c in (f .types, omega arith, put-start _ 8 (c .args .t2 .schema))
+loop-holds c = let f = fit c in (f .types, omega arith, put-start _ schemaColumn (c .args .t2 .schema))
 
 loop-again : tie.Need-loop-again Inv-loop μ-loop Inv-loop2 μ-loop2
 loop-again c =
@@ -67,16 +67,16 @@ loop-again c =
     let b = set (set (set (now (s .args .book)) 0 (s .args .f .width)) 1 (r .types)) 2 (r .count) in
     let more : L .i < r .types = c .before .loop-test .taken in
     let size : length b ≡ BOOK = simp length-set (s .pre .2) in
-    (f .types, omega (arith, more), put-on b 8 (r .schema) (L .i) (L .inv .2) (omega (arith, more, f, size)) (omega (arith, more, f)))
+    (f .types, omega (arith, more), put-on b schemaColumn (r .schema) (L .i) (L .inv .2) (omega (arith, more, f, size)) (omega (arith, more, f)))
 
 -- the book after the first loop
 types-put : (c : tie.After-loop Inv-loop μ-loop Inv-loop2 μ-loop2) → let A = c .before .before .args in let r = A .t2 in
-    c .before .loop .book ≡ put (set (set (set (now (A .book)) 0 (A .f .width)) 1 (r .types)) 2 (r .count)) 8 (r .schema) (r .types)
+    c .before .loop .book ≡ columnPut (set (set (set (now (A .book)) 0 (A .f .width)) 1 (r .types)) 2 (r .count)) schemaColumn (r .schema) (r .types)
 types-put c =
     let L = c .before .loop in
     let r = c .before .before .args .t2 in
     let e : L .i ≡ r .types = omega (arith, L .inv .1, c .loop-test .left) in
-    L .inv .2 ∙ ap (put _ 8 (r .schema)) e
+    L .inv .2 ∙ ap (columnPut _ schemaColumn (r .schema)) e
 
 types-size : (c : tie.After-loop Inv-loop μ-loop Inv-loop2 μ-loop2) → length (c .before .loop .book) ≡ BOOK
 types-size c = let s = c .before .before in ap length (types-put c) ∙ size₁ (s .args .f .width) (s .args .t2) (now (s .args .book)) (fit s) (s .pre .2)
@@ -84,17 +84,17 @@ types-size c = let s = c .before .before in ap length (types-put c) ∙ size₁ 
 loop2-holds : tie.Need-loop2-holds Inv-loop μ-loop Inv-loop2 μ-loop2
 loop2-holds c = let s = c .before .before in (fit s .count, omega arith, entered-start (bookColumns (s .args .f .width) (s .args .t2)) (c .before .loop .book))
 
-add-book-2 : tie.Need-add-book-2 Inv-loop μ-loop Inv-loop2 μ-loop2
-add-book-2 c =
-    let s = c .before .before .before .before .before .before in
-    omega (arith, s .pre .0 .most, lines-within (s .args .f) (s .pre .1 .3) (s .pre .1 .4) (c .before .before .before .loop2 .k) (c .before .before .loop2-test .taken))
+place-requires : tie.Need-place-requires Inv-loop μ-loop Inv-loop2 μ-loop2
+place-requires c κs =
+    let s = c .before .before .before .before .before in
+    omega (arith, s .pre .0 .most, lines-within (s .args .f) (s .pre .1 .3) (s .pre .1 .4) (c .before .before .loop2 .k) (c .before .loop2-test .taken))
 
 loop2-again : tie.Need-loop2-again Inv-loop μ-loop Inv-loop2 μ-loop2
 loop2-again c =
     let s = c .before .before .before .before .before .before .before .before .before .before .before in
     let L = c .before .before .before .before .before .before .before .before .loop2 in
     let more = c .before .before .before .before .before .before .before .loop2-test .taken in
-    (L .inv .0, omega (arith, more), entry-on (s .args .f .width) (s .args .t2) (c .before .before .before .before .before .before .before .before .before .before .loop .book) (fit s) (types-size (c .before .before .before .before .before .before .before .before .before)) (L .k) more (L .inv .2))
+    (L .inv .0, omega (arith, more), rw (c .before .before .before .before .before .place .ensures) (entry-on (s .args .f .width) (s .args .t2) (c .before .before .before .before .before .before .before .before .before .before .loop .book) (fit s) (types-size (c .before .before .before .before .before .before .before .before .before)) (L .k) more (L .inv .2)))
 
 returns : tie.Need-returns Inv-loop μ-loop Inv-loop2 μ-loop2
 returns c =
@@ -113,24 +113,23 @@ note-spec =
     (tie.spec Inv-loop μ-loop Inv-loop2 μ-loop2 (λ c. search needs) (λ c. search needs) (λ c. search needs) loop-holds (λ c. omega (arith, typed c))
     (λ c. omega (arith, typed c)) (λ c. omega (arith, typed (c .before))) (λ c. omega (arith, typed (c .before)))
     (λ c. omega (arith, typed (c .before))) (λ c. omega (arith, typed (c .before))) (λ c. search needs) loop-again loop2-holds (λ c. scaled (few c))
-    few (λ c. omega (arith, c .before .before .before .before .before .before .pre .0 .most)) add-book-2
-    (λ c. place-fits 72 tt (few (c .before .before))) (λ c. place-scaled 72 tt (few (c .before .before)))
-    (λ c. in-book 72 tt (few (c .before .before))) (λ c. scaled (few (c .before .before))) (λ c. few (c .before .before))
-    (λ c. place-fits 328 tt (few (c .before .before .before))) (λ c. place-scaled 328 tt (few (c .before .before .before)))
-    (λ c. in-book 328 tt (few (c .before .before .before))) (λ c. scaled (few (c .before .before .before))) (λ c. few (c .before .before .before))
-    (λ c. place-fits 584 tt (few (c .before .before .before .before))) (λ c. place-scaled 584 tt (few (c .before .before .before .before)))
-    (λ c. in-book 584 tt (few (c .before .before .before .before))) (λ c. scaled (few (c .before .before .before .before)))
-    (λ c. few (c .before .before .before .before)) (λ c. place-fits 840 tt (few (c .before .before .before .before .before)))
-    (λ c. place-scaled 840 tt (few (c .before .before .before .before .before)))
-    (λ c. in-book 840 tt (few (c .before .before .before .before .before))) (λ c. scaled (few (c .before .before .before .before .before)))
+    few place-requires (λ c. place-fits placeColumn tt (few (c .before .before))) (λ c. place-scaled placeColumn tt (few (c .before .before)))
+    (λ c. in-book placeColumn tt (few (c .before .before))) (λ c. scaled (few (c .before .before))) (λ c. few (c .before .before))
+    (λ c. place-fits parentColumn tt (few (c .before .before .before))) (λ c. place-scaled parentColumn tt (few (c .before .before .before)))
+    (λ c. in-book parentColumn tt (few (c .before .before .before))) (λ c. scaled (few (c .before .before .before))) (λ c. few (c .before .before .before))
+    (λ c. place-fits namingColumn tt (few (c .before .before .before .before))) (λ c. place-scaled namingColumn tt (few (c .before .before .before .before)))
+    (λ c. in-book namingColumn tt (few (c .before .before .before .before))) (λ c. scaled (few (c .before .before .before .before)))
+    (λ c. few (c .before .before .before .before)) (λ c. place-fits lengthColumn tt (few (c .before .before .before .before .before)))
+    (λ c. place-scaled lengthColumn tt (few (c .before .before .before .before .before)))
+    (λ c. in-book lengthColumn tt (few (c .before .before .before .before .before))) (λ c. scaled (few (c .before .before .before .before .before)))
     (λ c. omega (arith, few (c .before .before .before .before .before)))
-    (λ c. place-fits 1096 tt (few (c .before .before .before .before .before .before)))
-    (λ c. place-scaled 1096 tt (few (c .before .before .before .before .before .before)))
-    (λ c. in-book 1096 tt (few (c .before .before .before .before .before .before)))
+    (λ c. place-fits firstColumn tt (few (c .before .before .before .before .before .before)))
+    (λ c. place-scaled firstColumn tt (few (c .before .before .before .before .before .before)))
+    (λ c. in-book firstColumn tt (few (c .before .before .before .before .before .before)))
     (λ c. scaled (few (c .before .before .before .before .before .before))) (λ c. few (c .before .before .before .before .before .before))
-    (λ c. place-fits 1353 tt (few (c .before .before .before .before .before .before .before)))
-    (λ c. place-scaled 1353 tt (few (c .before .before .before .before .before .before .before)))
-    (λ c. in-book 1353 tt (few (c .before .before .before .before .before .before .before)))
+    (λ c. place-fits targetColumn tt (few (c .before .before .before .before .before .before .before)))
+    (λ c. place-scaled targetColumn tt (few (c .before .before .before .before .before .before .before)))
+    (λ c. in-book targetColumn tt (few (c .before .before .before .before .before .before .before)))
     (λ c. omega (arith, few (c .before .before .before .before .before .before .before))) (λ c. search needs) loop2-again
     (λ c. omega (arith, c .before .loop2 .inv .0)) (λ c. omega (arith, c .before .loop2 .inv .0))
     (λ c. omega (arith, c .before .before .loop2 .inv .0)) (λ c. omega (arith, c .before .before .loop2 .inv .0))

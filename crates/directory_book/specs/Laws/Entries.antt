@@ -17,7 +17,8 @@ use Rattle.rules.specs.Directory.{blank, Directory, directoryOf}
 use Rattle.rules.specs.Decision.{Setting}
 use Rattle.rules.specs.Laws.Directory.{accepted-means}
 use Rattle.rules.specs.Laws.Judge.{not-refused}
-use Rattle.directory_schema.specs.Schema.{Rising}
+use Rattle.name.specs.Schema.{Rising}
+use Rattle.name.specs.Laws.Schema.{rising-above}
 use Rattle.tables.specs.Book.{BOOK, schema, firstAt}
 use Rattle.tables.specs.Held.{typeAt, HeldAt}
 use Rattle.tables.specs.World.{EntryAt, Entries}
@@ -28,15 +29,10 @@ use Rattle.directory_book.specs.Laws.Filled.{Fit, Copied, copied}
 
 -- ---- types that rise differ
 
-above : (n : ℕ) (ks : List ℕ) → Rising n ks → (i : ℕ) → i < length ks → n < typeAt ks i
-above n [] r i h = absurd (not-suc-le-zero h)
-above n (k ∷ ks) r zero h = r .0
-above n (k ∷ ks) r (suc i) h = let q = above (k / 4) ks (r .1) i (le-of-suc-le-suc h) in omega (arith, r .0, q)
-
 rises : (n : ℕ) (ks : List ℕ) → Rising n ks → (i j : ℕ) → i < j → j < length ks → typeAt ks i < typeAt ks j
 rises n [] r i j l h = absurd (not-suc-le-zero h)
 rises n (k ∷ ks) r i zero l h = absurd (not-suc-le-zero l)
-rises n (k ∷ ks) r zero (suc j) l h = above (k / 4) ks (r .1) j (le-of-suc-le-suc h)
+rises n (k ∷ ks) r zero (suc j) l h = rising-above (k / 4) ks (r .1) j (le-of-suc-le-suc h)
 rises n (k ∷ ks) r (suc i) (suc j) l h = rises (k / 4) ks (r .1) i j (le-of-suc-le-suc l) (le-of-suc-le-suc h)
 
 rising-distinct : (n : ℕ) (ks : List ℕ) → Rising n ks → (i j : ℕ) → i < length ks → j < length ks → typeAt ks i ≡ typeAt ks j → i ≡ j

@@ -23,18 +23,15 @@ returns-3 : tie.Need-returns-3
 unfolding entryRuling
 returns-3 c = λ ms ready. rw (sym (c .before .before .before .before .before .before .directory-columns .ensures) ∙ not-false _ (c .before .before .before .before .before .if1 .left), sym (c .before .before .before .before .is .ensures) ∙ not-false _ (c .before .before .before .if2 .left), ← c .before .before .misplaced .ensures, ne-eqb _ _ (c .before .if3 .taken)) (c .refusing3 .ensures)
 
-rank-requires : tie.Need-rank-requires
-rank-requires c κs = omega arith
-
 ruled-requires : tie.Need-ruled-requires
-ruled-requires c κs = let g = c .before .before .before .before .before .before .before .before .before .pre .0 in record { all = g .all; ready = g .ready; within = g .within; ranked = c .rank .ensures; low = omega (arith, place-low (now (c .before .before .before .before .before .before .before .before .before .args .depths)) (c .before .before .before .before .before .before .before .before .before .args .count) (c .before .before .before .before .before .before .before .before .before .args .lacks) (c .before .before .before .before .before .before .before .before .before .args .line .a) (sym (c .before .before .misplaced .ensures) ∙ c .before .if3 .left), c .before .before .before .before .before .before .before .before .before .pre .1) }
+ruled-requires c κs = let g = c .before .before .before .before .before .before .before .before .before .pre .0 in record { all = g .all; ready = g .ready; within = g .within; low = omega (arith, place-low (now (c .before .before .before .before .before .before .before .before .before .args .depths)) (c .before .before .before .before .before .before .before .before .before .args .count) (c .before .before .before .before .before .before .before .before .before .args .lacks) (c .before .before .before .before .before .before .before .before .before .args .line .a) (sym (c .before .before .misplaced .ensures) ∙ c .before .if3 .left), c .before .before .before .before .before .before .before .before .before .pre .1) }
 
 returns-4 : tie.Need-returns-4
 unfolding entryRuling
-returns-4 c = λ ms ready. rw (sym (c .before .before .before .before .before .before .before .directory-columns .ensures) ∙ not-false _ (c .before .before .before .before .before .before .if1 .left), sym (c .before .before .before .before .before .is .ensures) ∙ not-false _ (c .before .before .before .before .if2 .left), ← c .before .before .before .misplaced .ensures, eq-eqb _ _ (c .before .before .if3 .left)) (c .ruled .ensures ms ready)
+returns-4 c = λ ms ready. rw (sym (c .before .before .before .before .before .before .before .directory-columns .ensures) ∙ not-false _ (c .before .before .before .before .before .before .if1 .left), sym (c .before .before .before .before .before .is .ensures) ∙ not-false _ (c .before .before .before .before .if2 .left), ← c .before .before .before .misplaced .ensures, eq-eqb _ _ (c .before .before .if3 .left), ← c .before .rank .ensures) (c .ruled .ensures ms ready)
 
 pub entry-line-spec : {M : Type 1} → statement M
 entry-line-spec =
     tie.close
     (tie.spec (λ c κs. search needs) (λ c κs. search needs) returns (λ c κs. search needs) (λ c κs. search needs) returns-2 misplaced-requires (λ c κs. search needs) returns-3
-    rank-requires ruled-requires returns-4)
+    (λ c κs. search needs) ruled-requires returns-4)

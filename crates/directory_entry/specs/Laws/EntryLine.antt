@@ -20,13 +20,15 @@ use Rattle.rules.specs.Laws.Columns.{DirectoryLine, isType, isEntry, isValue, i
 use Rattle.rules.specs.Places.{schemaOf}
 use Rattle.sheet_line.specs.declared.Line.{Line}
 use Rattle.sheet_line.specs.Line.{bytesOf, lineOf}
+use Rattle.name.specs.Schema.{rankIn, allowedAt}
+use Rattle.name.specs.Laws.Schema.{allowed-ranked}
 use Rattle.directory_schema.specs.Lines.{columnsFit}
 use Rattle.directory_schema.specs.Laws.Lines.{step-form, step-type, step-entry, step-value, step-target, step-part}
-use Rattle.directory_ruling.specs.Mark.{Mark}
-use Rattle.directory_ruling.specs.Twins.{twins, Named}
-use Rattle.directory_ruling.specs.declared.Ruling.{Ruling}
-use Rattle.directory_ruling.specs.Rulings.{reading, refusing, marking, ruledOf}
-use Rattle.directory_ruling.specs.Laws.Rulings.{Refused}
+use Rattle.directory_duplicates.specs.Mark.{Mark}
+use Rattle.directory_duplicates.specs.Twins.{twins, Named}
+use Rattle.directory_duplicates.specs.declared.Ruling.{Ruling}
+use Rattle.directory_duplicates.specs.Rulings.{reading, refusing, marking, ruledOf}
+use Rattle.directory_duplicates.specs.Laws.Rulings.{Refused}
 use Rattle.directory_entry.specs.EntryLine.{levelOf, placeNumber, placeRefusal, entryRuling}
 
 -- ---- what the code decides
@@ -64,7 +66,7 @@ pub record EntryMarked (top : ℕ) (s : Bytes) (ks depths table : List ℕ) (cou
   pub room : count < 256
   pub level : getD depths (x .a) 0 < 8
   pub fit : allowed (schemaOf ks) (x .b) (bytesOf s x) ≡ true
-  pub ruling : r ≡ marking s ks table (x .a) (x .b) (x .place) (x .length)
+  pub ruling : r ≡ marking s table (x .a) (rankIn ks (x .b)) (x .place) (x .length)
 
 -- the line, refused or taken
 abbrev pub EntryOutcome : ℕ → Bytes → List ℕ → List ℕ → List ℕ → ℕ → List Stored → Option Stored → Line → Ruling → Type 0
@@ -161,9 +163,9 @@ module _ (top : ℕ) (s : Bytes) (ks : List ℕ) (complete : List Stored) (curre
     entry-same = step-entry top (reading ks complete current) (lineOf s x) (sym formed ∙ form) two ∙ rw (known .whole, ← known .number, ← known .lacking)
 
     entry-by : (high lk many deep al tw : Bool) → ltb count (x .a) ≡ high → lacks ≡ lk → leb 256 count ≡ many → leb 8 (getD depths (x .a) 0) ≡ deep
-        → allowed (schemaOf ks) (x .b) v ≡ al → twins s ks (x .a) (x .b) v ms ≡ tw
+        → allowed (schemaOf ks) (x .b) v ≡ al → twins s ks (x .a) (rankIn ks (x .b)) v ms ≡ tw
         → EntryOutcome top s ks depths table count complete current x
-        (cond (eqb (placeNumber high lk many deep) 0) (cond al (cond tw (refusing 5) (marking s ks table (x .a) (x .b) (x .place) (x .length))) (refusing 4)) (refusing (placeNumber high lk many deep)))
+        (cond (eqb (placeNumber high lk many deep) 0) (cond al (cond tw (refusing 5) (marking s table (x .a) (rankIn ks (x .b)) (x .place) (x .length))) (refusing 4)) (refusing (placeNumber high lk many deep)))
     entry-by true lk many deep al tw p₁ p₂ p₃ p₄ p₅ p₆ = inl (record { not = λ z. omega arith; is = entry-same ∙ rw p₁ })
     entry-by false true many deep al tw p₁ p₂ p₃ p₄ p₅ p₆ = inl (record { not = λ z. omega arith; is = entry-same ∙ rw (p₁, p₂) })
     entry-by false false true deep al tw p₁ p₂ p₃ p₄ p₅ p₆ = inl (record { not = λ z. omega arith; is = entry-same ∙ rw (p₁, p₂, p₃, many-is (underAlias es (x .a)) (ltb 8 (length (added .name)))) })
@@ -175,9 +177,9 @@ module _ (top : ℕ) (s : Bytes) (ks : List ℕ) (complete : List Stored) (curre
         level : (underAlias es (x .a) || ltb 8 (length (added .name))) ≡ leb 8 (getD depths (x .a) 0)
         level = level-is (getD depths (x .a) 0) (known .levels (x .a) low)
 
-        rest : (deep al tw : Bool) → leb 8 (getD depths (x .a) 0) ≡ deep → allowed (schemaOf ks) (x .b) v ≡ al → twins s ks (x .a) (x .b) v ms ≡ tw
+        rest : (deep al tw : Bool) → leb 8 (getD depths (x .a) 0) ≡ deep → allowed (schemaOf ks) (x .b) v ≡ al → twins s ks (x .a) (rankIn ks (x .b)) v ms ≡ tw
             → EntryOutcome top s ks depths table count complete current x
-            (cond (eqb (placeNumber false false false deep) 0) (cond al (cond tw (refusing 5) (marking s ks table (x .a) (x .b) (x .place) (x .length))) (refusing 4)) (refusing (placeNumber false false false deep)))
+            (cond (eqb (placeNumber false false false deep) 0) (cond al (cond tw (refusing 5) (marking s table (x .a) (rankIn ks (x .b)) (x .place) (x .length))) (refusing 4)) (refusing (placeNumber false false false deep)))
         rest true al tw p₄ p₅ p₆ = inl (record { not = λ z. omega arith; is = entry-same ∙ rw (p₁, p₂, p₃, level, p₄) })
         rest false false tw p₄ p₅ p₆ = inl (record { not = λ z. omega arith; is = entry-same ∙ rw (p₁, p₂, p₃, level, p₄, p₅) })
         rest false true true p₄ p₅ p₆ =
@@ -199,10 +201,10 @@ entry-outcome top s ks depths table count lacks complete current ms known x form
     go : (f two : Bool) → columnsFit top x ≡ f → eqb (x .kind) 2 ≡ two
         → EntryOutcome top s ks depths table count complete current x
         (cond f (cond two (cond (eqb (placeNumber (ltb count (x .a)) lacks (leb 256 count) (leb 8 (getD depths (x .a) 0))) 0)
-        (cond (allowed (schemaOf ks) (x .b) (bytesOf s x)) (cond (twins s ks (x .a) (x .b) (bytesOf s x) ms) (refusing 5) (marking s ks table (x .a) (x .b) (x .place) (x .length))) (refusing 4))
+        (cond (allowedAt ks (rankIn ks (x .b)) (bytesOf s x)) (cond (twins s ks (x .a) (rankIn ks (x .b)) (bytesOf s x) ms) (refusing 5) (marking s table (x .a) (rankIn ks (x .b)) (x .place) (x .length))) (refusing 4))
         (refusing (placeNumber (ltb count (x .a)) lacks (leb 256 count) (leb 8 (getD depths (x .a) 0))))) (refusing 3)) (refusing 2))
     go false two p q = inl (record { not = λ z. omega arith; is = step-form top (reading ks complete current) (lineOf s x) (sym formed ∙ p) })
     go true false p q = inl (record { not = λ z. omega arith; is = misplaced top s ks complete current x formed p elsewhere (known .whole) (eqb-false (x .kind) 2 q) })
     go true true p q =
         entry-by top s ks complete current x formed p depths table count lacks ms known (eqb-true (x .kind) 2 q)
-        (ltb count (x .a)) lacks (leb 256 count) (leb 8 (getD depths (x .a) 0)) (allowed (schemaOf ks) (x .b) (bytesOf s x)) (twins s ks (x .a) (x .b) (bytesOf s x) ms) refl refl refl refl refl refl
+        (ltb count (x .a)) lacks (leb 256 count) (leb 8 (getD depths (x .a) 0)) (allowedAt ks (rankIn ks (x .b)) (bytesOf s x)) (twins s ks (x .a) (rankIn ks (x .b)) (bytesOf s x) ms) refl refl refl refl (sym (allowed-ranked ks (x .b) (bytesOf s x))) refl

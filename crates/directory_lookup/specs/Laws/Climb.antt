@@ -11,7 +11,7 @@ use Rattle.rules.specs.Sheet.{Bytes}
 use Rattle.rules.specs.Directory.{Stored, blank}
 use Rattle.rules.specs.Decision.{Setting}
 use Rattle.tables.specs.Numbers.{climbs}
-use Rattle.tables.specs.Book.{entries, parentAt}
+use Rattle.tables.specs.Book.{entryCount, parentAt}
 use Rattle.tables.specs.World.{Entries}
 use Rattle.tables.specs.Laws.World.{inside, parent-is}
 
@@ -65,11 +65,11 @@ module _ (book : List ℕ) (b e : ℕ) where
   pub climbing-start : Climbing e
   climbing-start = record { leads = λ σ es d held h. refl }
 
-  module _ (k : ℕ) (l : k ≤ entries book) (climbing : Climbing k) where
+  module _ (k : ℕ) (l : k ≤ entryCount book) (climbing : Climbing k) where
     pub climbing-on : b < k → Climbing (parentAt book (k - 1))
     climbing-on m = record { leads = λ σ es d held h. go σ es d held h k l m refl ∙ climbing .leads σ es d held h }
       where
-        go : (σ : Setting) (es : List Stored) (d : Bytes) (held : List ℕ) → Entries σ es d book held → (n : ℕ) → n ≤ entries book → b < n → n ≡ k
+        go : (σ : Setting) (es : List Stored) (d : Bytes) (held : List ℕ) → Entries σ es d book held → (n : ℕ) → n ≤ entryCount book → b < n → n ≡ k
             → climbs es (parentAt book (k - 1)) b (parentAt book (k - 1)) ≡ climbs es k b k
         go σ es d held h zero l m e = absurd (omega arith)
         go σ es d held h (suc n) l m e =

@@ -15,7 +15,7 @@ use Rattle.rules.specs.Name.{Schema, Part, part, Name, equal, samePart}
 use Rattle.rules.specs.Directory.{Stored, blank}
 use Rattle.rules.specs.Decision.{Setting}
 use Rattle.rules.specs.Places.{schemaOf, linesAt, partsOf}
-use Rattle.rules.specs.Laws.Directory.{Accepted}
+use Rattle.rules.specs.Derived.{Accepted}
 use Rattle.tables.specs.Numbers.{childFrom, walk, onFound}
 use Rattle.name.specs.Schema.{syntaxIn, equalBy}
 use Rattle.name.specs.Laws.Schema.{equal-at, equal-none}
@@ -23,7 +23,7 @@ use Rattle.sheet_line.specs.Line.{takenAt, bytesOf}
 use Rattle.sheet_line.specs.declared.Line.{Line}
 use Rattle.sheet_line.specs.declared.Taken.{Taken}
 use Rattle.sheet_line.specs.declared.Taken.the-variants as Taken
-use Rattle.tables.specs.Book.{entries, width, schema, parentAt, namingAt, namingOf}
+use Rattle.tables.specs.Book.{entryCount, width, schema, parentAt, namingAt, namingOf}
 use Rattle.tables.specs.World.{Entries}
 use Rattle.tables.specs.Laws.World.{inside}
 use Rattle.directory_lookup.specs.Find.{UpTo, isChild, byChild, LeadsWithin, stepFound, stepOf}
@@ -66,7 +66,7 @@ module _ (book : List ℕ) (d : Bytes) (k parent t s : ℕ) (v : Bytes) where
     child-by-value h = rw (eq-eqb (parentAt book k) parent e, eq-eqb t (namingAt book k) h)
 
   -- what the numbers of an entry say of it
-  child-noted : {σ : Setting} {es : List Stored} {held : List ℕ} → Entries σ es d book held → k < entries book → syntaxIn (schema book) t ≡ At s
+  child-noted : {σ : Setting} {es : List Stored} {held : List ℕ} → Entries σ es d book held → k < entryCount book → syntaxIn (schema book) t ≡ At s
       → isChild book d k parent t s v ≡ (eqb (getD es k blank .parent) parent && samePart (σ .schema) (part t v) (getD es k blank .naming))
   unfolding isChild samePart
   child-noted {σ} {es} h l q =
@@ -122,16 +122,16 @@ module _ (book : List ℕ) (d : Bytes) (parent t s : ℕ) (v : Bytes) where
   sought-start = record { leads = λ σ es held h q. from-parent (σ .schema) parent (part t v) es (h .accepted) parent (omega arith) }
 
   module _ (i : ℕ) (sought : ChildSought i) where
-    pub sought-here : i < entries book → isChild book d i parent t s v ≡ true → IsFound (At (i + 1))
+    pub sought-here : i < entryCount book → isChild book d i parent t s v ≡ true → IsFound (At (i + 1))
     sought-here l e σ es held h q =
         sym (from-here (σ .schema) parent (part t v) es i (inside h i l) (sym (child-noted book d i parent t s v h l q) ∙ e)) ∙ sought .leads σ es held h q
 
-    pub sought-on : i < entries book → isChild book d i parent t s v ≡ false → ChildSought (i + 1)
+    pub sought-on : i < entryCount book → isChild book d i parent t s v ≡ false → ChildSought (i + 1)
     sought-on l e = record {
       leads = λ σ es held h q. sym (from-on (σ .schema) parent (part t v) es i (inside h i l) (sym (child-noted book d i parent t s v h l q) ∙ e)) ∙ sought .leads σ es held h q;
     }
 
-    pub sought-end : entries book ≤ i → IsFound Nothing
+    pub sought-end : entryCount book ≤ i → IsFound Nothing
     sought-end l σ es held h q = sym (from-end (σ .schema) parent (part t v) es i (omega (arith, l, h .count))) ∙ sought .leads σ es held h q
 
 -- a type that is not in the schema names no child

@@ -1,11 +1,10 @@
 -- A move by what was noted of the sheet: the types of the schema as numbers, and its lines.
 use Prim.Native.Nat.{ℕ, _+_, _/_, _<_, _≤_}
 use mathlib.Core.Path.{_≡_, refl, sym, ap, _∙_}
-use mathlib.Core.Bool.{true, false, _||_}
+use mathlib.Core.Bool.{true, false}
 use mathlib.Core.List.{List, [], _∷_}
 use native.Mathlib.Omega.{arith}
 use native.Mathlib.Numerals.{add-one}
-use lib.Dec.{ltb}
 use lib.ListN.{length, getD, drop, drop-of-length-le}
 use lib.Seq.{drop-cons}
 use borrow.Author.Tests.{lt-ltb, le-ltb, ltb-false}
@@ -19,7 +18,7 @@ use Rattle.rules.specs.Move.{beyond, spills, moved}
 use Rattle.rules.specs.Laws.DirectoryLines.{accepted-lines}
 use Rattle.rules.specs.Laws.Judge.{not-refused}
 use Rattle.rules.specs.Laws.Theorems.{refused-type, refused-length}
-use Rattle.sheet_write.specs.Put.{putAt}
+use Rattle.rules.specs.Derived.{putAt}
 use Rattle.answer_reply.specs.Reply.{replyOf, leftOf, Replies}
 use Rattle.directory_move.specs.Rewritten.{linesOf, rewrittenFrom}
 

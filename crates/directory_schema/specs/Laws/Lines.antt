@@ -3,7 +3,7 @@ use Prim.Native.Nat.{ℕ, _≤_}
 use mathlib.Core.Path.{_≡_, refl, sym, _∙_, subst}
 use mathlib.Core.Bool.{Bool, true, false, _&&_, _||_, or-false}
 use mathlib.Core.List.{[], _∷_}
-use lib.Dec.{eqb, leb}
+use lib.Dec.{leb}
 use borrow.Author.Tests.{eq-eqb, ne-eqb, leb-true}
 use native.Mathlib.Omega.{arith}
 use Rattle.rules.specs.Sheet.{Bytes}
@@ -14,7 +14,7 @@ use Rattle.rules.specs.Judge.{accept, refuse, then, fold}
 use Rattle.rules.specs.Directory.{Reading, step, finish, typeLine, entryLine, valueLine, targetLine, partLine, ofLast}
 use Rattle.rules.specs.Places.{linesAt, valuesOf}
 use Rattle.rules.specs.Laws.Tests.{and-left, and-right}
-use Rattle.sheet_form.specs.Columns.{fits, inFormOf}
+use Rattle.sheet_form.specs.Columns.{fitsForm, inFormOf}
 use Rattle.sheet_form.specs.Laws.Columns.{columns-in-form}
 use Rattle.sheet_line.specs.declared.Line.{Line}
 use Rattle.sheet_line.specs.declared.Taken.{Taken}
@@ -110,7 +110,7 @@ module _ (top : ℕ) (x : Line) (h : columnsFit top x ≡ true) where
   At n = inFormOf (directoryForms top) n (x .a) (x .b) (x .c) (x .length)
 
   pub type-columns : x .kind ≡ 1 → (1 ≤ x .a) × (x .a ≤ top) × (x .b ≤ 2)
-  unfolding inFormOf directoryForms fits
+  unfolding inFormOf directoryForms fitsForm
   type-columns e =
       let f = or-none _ (subst (λ (n : ℕ). At n ≡ true) e h) in
       let ra = between-true 1 top (x .a) (and-left _ _ f) in
@@ -118,7 +118,7 @@ module _ (top : ℕ) (x : Line) (h : columnsFit top x ≡ true) where
       (ra .0, ra .1, rb .1)
 
   pub entry-columns : x .kind ≡ 2 → x .c ≤ 1
-  unfolding inFormOf directoryForms fits
+  unfolding inFormOf directoryForms fitsForm
   entry-columns e =
       let f = or-none _ (subst (λ (n : ℕ). At n ≡ true) e h) in
       between-true 0 1 (x .c) (and-left _ _ (and-right (leb 1 (x .b) && leb (x .b) top) _ f)) .1

@@ -1,5 +1,5 @@
 -- Laws of `Types`: a K 1 line refused, and one taken.
-use Prim.Native.Nat.{ℕ, _+_, _*_, _/_, _≤_, _<_}
+use Prim.Native.Nat.{ℕ, _+_, _*_, _/_, _%_, _≤_, _<_}
 use mathlib.Core.Path.{_≡_, refl, sym, ap, _∙_}
 use mathlib.Core.Bool.{Bool, true, false, _||_}
 use mathlib.Core.Option.{none}
@@ -10,10 +10,11 @@ use lib.Dec.{leb}
 use lib.ListN.{length, take, set, replicate, length-map, length-set, length-replicate}
 use lib.Seq.{take-suc-set, length-take-le}
 use borrow.Author.Tests.{lt-leb, leb-false}
+use Rattle.rules.specs.Lists.{lastOr}
 use Rattle.rules.specs.Sheet.{Bytes, Usable, lines}
 use Rattle.rules.specs.declared.Format.{Format}
 use Rattle.rules.specs.Columns.{directoryForms, inForm}
-use Rattle.rules.specs.Name.{AttributeType}
+use Rattle.rules.specs.Name.{AttributeType, Schema}
 use Rattle.rules.specs.Judge.{accept, refuse, refuseIf, fold}
 use Rattle.rules.specs.Directory.{Reading, lastType, typeLine, entriesOf, step, finish, nothing}
 use Rattle.rules.specs.Places.{attributeOf, schemaOf}
@@ -21,12 +22,39 @@ use Rattle.sheet_line.specs.declared.Line.{Line}
 use Rattle.sheet_line.specs.declared.Taken.the-variants as Taken
 use Rattle.sheet_line.specs.Line.{takenAt, lineOf}
 use Rattle.sheet_line.specs.Laws.{taken-fits-line}
+use Rattle.name.specs.Schema.{Rising}
 use Rattle.directory_schema.specs.Lines.{judgedFrom, none, one, columnsFit}
 use Rattle.directory_schema.specs.Laws.Lines.{formed, judged-refused, passes-judged, step-form, step-type, type-columns}
-use Rattle.directory_schema.specs.Laws.Schema.{rising-more, last-more, schema-more, attribute-of}
 use Rattle.directory_schema.specs.Laws.Zeros.{zeros, zeros-more}
 use Rattle.directory_schema.specs.Types.{typed, typeNumber, typeRefusal, typesRefused, TypesRead, TypesJudged}
 use Rattle.directory_schema.specs.declared.TypeLines.{TypeLines}
+
+-- ---- one type more
+
+-- a type and its syntax as one number
+attribute-of : (a b : ℕ) → b ≤ 2 → attributeOf (a * 4 + b) ≡ record { number = a; syntax = b }
+unfolding attributeOf
+attribute-of a b h =
+    let number : (a * 4 + b) / 4 ≡ a = omega arith in
+    let syntax : (a * 4 + b) % 4 ≡ b = omega arith in
+    rw (number, syntax)
+
+rising-more : (z : AttributeType) (ks : List ℕ) (k : ℕ) → Rising (z .number) ks → (lastOr z (schemaOf ks)) .number < k / 4 → Rising (z .number) (ks ++ (k ∷ []))
+unfolding schemaOf attributeOf
+rising-more z [] k r h = (h, tt)
+rising-more z (j ∷ ks) k r h = (r .0, rising-more (attributeOf j) ks k (r .1) h)
+
+last-more : (z : AttributeType) (ks : List ℕ) (k : ℕ) → (lastOr z (schemaOf (ks ++ (k ∷ [])))) ≡ attributeOf k
+unfolding schemaOf
+last-more z [] k = refl
+last-more z (j ∷ ks) k = last-more (attributeOf j) ks k
+
+schema-more : (ks : List ℕ) (k : ℕ) → schemaOf (ks ++ (k ∷ [])) ≡ schemaOf ks ++ (attributeOf k ∷ [])
+unfolding schemaOf
+schema-more [] k = refl
+schema-more (j ∷ ks) k = ap (λ (S : Schema). attributeOf j ∷ S) (schema-more ks k)
+
+-- ---- the lines
 
 pub types-start : (f : Format) (s : Bytes) → TypesRead f s (replicate 64 0) 0 0 0
 unfolding schemaOf

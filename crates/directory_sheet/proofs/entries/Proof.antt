@@ -2,8 +2,8 @@
 use Rattle.directory_schema.proofs.Lines.{not-line}
 use Rattle.directory_sheet.specs.Laws.Entries.{EntriesRead, answer-refused, standing-start, standing-short, standing-ended}
 use Rattle.directory_sheet.specs.Laws.Entry.{standing-refused, standing-room, standing-asked, standing-lost, standing-owed, standing-cut, standing-on, standing-further}
-use Rattle.directory_ruling.specs.Mark.{Mark, Room, heads}
-use Rattle.directory_ruling.specs.Laws.Rulings.{line-within}
+use Rattle.directory_duplicates.specs.Mark.{Mark, Room, heads}
+use Rattle.directory_duplicates.specs.Laws.Rulings.{line-within}
 use Rattle.sheet_line.specs.Laws.{taken-fits-line}
 use Rattle.rules.specs.Judge.{refuse}
 use Rattle.rules.specs.Directory.{Stored}

@@ -11,13 +11,14 @@ use borrow.Author.Tests.{le-ltb, lt-ltb}
 use Rattle.rules.specs.Sheet.{Bytes, Usable, lines}
 use Rattle.rules.specs.declared.Format.{Format}
 use Rattle.rules.specs.Judge.{accept, refuse, refuseIf, refusalOf, fold}
-use Rattle.rules.specs.Directory.{Stored, blank, Directory, entriesOf, nameAt, marked, underAlias, lacksNaming, lacksTarget, step, finish, nothing, directoryOf}
+use Rattle.rules.specs.Directory.{Stored, blank, Directory, entriesOf, nameAt, underAlias, lacksNaming, lacksTarget, step, finish, nothing, directoryOf}
 use Rattle.rules.specs.Places.{schemaOf}
 use Rattle.rules.specs.Laws.Judge.{refused-not, accepted-is}
 use Rattle.sheet_line.specs.declared.Line.{Line}
 use Rattle.sheet_line.specs.declared.Taken.{Taken}
 use Rattle.sheet_line.specs.declared.Taken.the-variants as Taken
 use Rattle.sheet_line.specs.Line.{takenAt}
+use Rattle.name.specs.Schema.{Rising}
 use Rattle.directory_schema.specs.Lines.{judgedFrom}
 use Rattle.directory_schema.specs.Laws.Lines.{judged-broken, judged-end}
 use Rattle.directory_schema.specs.Types.{TypesEnded}
@@ -25,9 +26,9 @@ use Rattle.directory_schema.specs.Laws.Types.{types-same}
 use Rattle.directory_schema.specs.Laws.Zeros.{zeros}
 use Rattle.tables.specs.Book.{FIRST-ROWS}
 use Rattle.tables.specs.Held.{noneHeld}
-use Rattle.directory_ruling.specs.Mark.{Mark, tableOf, lastIn, heads, tableLength}
-use Rattle.directory_ruling.specs.Laws.Twins.{named-start}
-use Rattle.directory_ruling.specs.Rulings.{Ready, reading}
+use Rattle.directory_duplicates.specs.Mark.{Mark, tableOf, lastIn, heads, tableLength}
+use Rattle.directory_duplicates.specs.Laws.Twins.{named-start}
+use Rattle.directory_duplicates.specs.Rulings.{Ready, reading}
 use Rattle.directory_entry.specs.EntryLine.{depthCount, levelOf}
 use Rattle.directory_entry.specs.Laws.EntryLine.{Elsewhere, EntriesCounted}
 use Rattle.directory_schema.specs.declared.TypeLines.{TypeLines}
@@ -46,6 +47,7 @@ AllNoted w s notes es = (k : ℕ) → k < notes .count
 pub record EntriesRead (f : Format) (s : Bytes) (ks : List ℕ) (notes : Notes) (depths table held : List ℕ) (n : ℕ) (lacks : Bool) (i : ℕ) (taken : Taken)
     (complete : List Stored) (current : Option Stored) (ms : List Mark) : Type 0 where
   pub ready : Ready s ks table ms
+  pub rising : Rising 0 ks
   pub usable : Usable f
   pub sized : Sized ks notes depths
   pub accepting : notes .refusal ≡ 0
@@ -105,7 +107,7 @@ module _ {f : Format} {s : Bytes} {ks : List ℕ} {notes : Notes} {depths table 
   all-noted = record {
     types = st .sized .types;
     schema = ap schemaOf (st .sized .list);
-    rising = rw (st .sized .list) (st .ready .rising);
+    rising = rw (st .sized .list) (st .rising);
     count = st .counted .number;
     most = st .counted .most;
     schema-length = st .sized .schema;
@@ -150,11 +152,11 @@ module _ {f : Format} {s : Bytes} {ks : List ℕ} {notes : Notes} {held : List �
   standing-start = record {
     ready = record {
       sheet = o .sheet;
-      rising = o .rising;
       few = o .few;
       chain = record { whole = refl; table = length-replicate {A = ℕ} tableLength 0; chained = tt; newest = λ b h. getD-replicate tableLength (heads + b) 0 0 (omega arith); slots = tt };
       room = omega arith;
     };
+    rising = o .rising;
     usable = o .usable;
     sized = o .sized;
     accepting = o .accepting;

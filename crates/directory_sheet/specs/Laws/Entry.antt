@@ -16,7 +16,7 @@ use Rattle.rules.specs.Sheet.{Bytes, bit, frontOf, valueOf, lines}
 use Rattle.rules.specs.declared.Format.{Format}
 use Rattle.rules.specs.Name.{Part, part, Name, samePart}
 use Rattle.rules.specs.Judge.{accept, refuse, fold}
-use Rattle.rules.specs.Directory.{Target, Stored, blank, entriesOf, nameAt, newEntry, marked, isAlias, isUnread, underAlias, clashes, lacksNaming, lacksTarget, step, finish, nothing, withValues, withTarget}
+use Rattle.rules.specs.Directory.{Target, Stored, blank, entriesOf, nameAt, newEntry, aliasMark, isAlias, isUnread, underAlias, clashes, lacksNaming, lacksTarget, step, finish, nothing, withValues, withTarget}
 use Rattle.rules.specs.Places.{linesAt, valuesOf, schemaOf}
 use Rattle.rules.specs.declared.Front.{Front}
 use Rattle.rules.specs.declared.Front.the-variants as Front
@@ -25,24 +25,26 @@ use Rattle.sheet_line.specs.declared.Taken.{Taken}
 use Rattle.sheet_line.specs.declared.Taken.the-variants as Taken
 use Rattle.sheet_line.specs.Line.{takenBy, takenAt, bytesOf, lineOf}
 use Rattle.sheet_line.specs.Laws.{LineFits, taken-fits-line}
+use Rattle.name.specs.Schema.{rankIn}
+use Rattle.name.specs.Laws.Schema.{allowed-within}
 use Rattle.directory_schema.specs.Lines.{judgedFrom}
 use Rattle.directory_schema.specs.Laws.Lines.{formed, judged-refused, judged-on, passes-judged, entry-columns}
 use Rattle.directory_schema.specs.Laws.Zeros.{zeros-more}
-use Rattle.directory_ruling.specs.Mark.{Mark, mark, MarkWithin, Room, withMark, heads}
-use Rattle.directory_ruling.specs.Twins.{Named}
-use Rattle.directory_ruling.specs.Laws.Twins.{any-snoc, named-entry, valued-none}
-use Rattle.directory_ruling.specs.Rulings.{Decides, markOf, reading}
-use Rattle.directory_ruling.specs.Laws.Rulings.{line-within, ready-room, ready-more}
-use Rattle.directory_ruling.specs.declared.Ruling.{Ruling}
+use Rattle.directory_duplicates.specs.Mark.{Mark, mark, MarkWithin, Room, withMark, heads}
+use Rattle.directory_duplicates.specs.Twins.{Named}
+use Rattle.directory_duplicates.specs.Laws.Twins.{any-snoc, named-entry, valued-none}
+use Rattle.directory_duplicates.specs.Rulings.{Decides, markOf, reading}
+use Rattle.directory_duplicates.specs.Laws.Rulings.{line-within, ready-room, ready-more}
+use Rattle.directory_duplicates.specs.declared.Ruling.{Ruling}
 use Rattle.directory_entry.specs.EntryLine.{levelOf, entryRuling}
 use Rattle.directory_entry.specs.Laws.EntryLine.{EntryMarked, EntryOutcome, entry-outcome}
 use Rattle.directory_values.specs.declared.Current.{Current}
 use Rattle.directory_values.specs.declared.ValueLines.{ValueLines}
 use Rattle.directory_values.specs.Values.{Begun, ValuesAsked, ValuesEnded, ValuesJudged, ValuesAnswered}
 use Rattle.directory_values.specs.Laws.Values.{values-all}
-use Rattle.directory_target.specs.declared.Last.{Last}
-use Rattle.directory_target.specs.declared.TargetLines.{TargetLines}
-use Rattle.directory_target.specs.Target.{Owed, TargetAsked, TargetEnded, TargetJudged, TargetAnswered}
+use Rattle.directory_alias.specs.declared.Last.{Last}
+use Rattle.directory_alias.specs.declared.TargetLines.{TargetLines}
+use Rattle.directory_alias.specs.Target.{Owed, TargetAsked, TargetEnded, TargetJudged, TargetAnswered}
 use Rattle.directory_sheet.specs.Judged.{EntryNoted}
 use Rattle.directory_sheet.specs.Laws.Rows.{held-more}
 use Rattle.directory_sheet.specs.declared.Notes.{Notes}
@@ -130,7 +132,7 @@ level-plain es k {n} e h = go (underAlias es k) e
     go false q = q
 
 -- an entry line's target is not read with it
-marked-unread : (b : Bool) → isUnread (marked b) ≡ true
+marked-unread : (b : Bool) → isUnread (aliasMark b) ≡ true
 marked-unread true = refl
 marked-unread false = refl
 
@@ -171,7 +173,7 @@ module _ {f : Format} {s : Bytes} {ks : List ℕ} {notes : Notes} {depths table 
 
   module _ (z : r .refusal ≡ 0) where
     abbrev m : Mark
-    m = markOf ks (x .a) (x .b) (x .place) (x .length)
+    m = markOf (x .a) (rankIn ks (x .b)) (x .place) (x .length)
 
     abbrev e : Current
     e = record { number = notes .count + 1; line = x; first = getD (notes .first) (notes .count) 0 }
@@ -190,21 +192,24 @@ module _ {f : Format} {s : Bytes} {ks : List ℕ} {notes : Notes} {depths table 
     low : x .a ≤ 256
     low = omega (arith, taking .0 .parent, taking .0 .room)
 
+    known : rankIn ks (x .b) < length ks
+    known = allowed-within ks (x .b) (bytesOf s x) (taking .0 .fit)
+
     -- the entry and its mark have their places
     pub standing-room : (notes .count < 256) × (x .a ≤ notes .count) × (getD depths (x .a) 0 < 8) × (n < heads) × Room table n r
     standing-room =
         let t = taking .0 in
-        (t .room, t .parent, t .level, omega (arith, st .marked, st .ready .room), ready-room (st .ready) (x .a) (x .b) (omega (arith, low)) (x .place) (x .length) inside n (st .marked) (t .ruling))
+        (t .room, t .parent, t .level, omega (arith, st .marked, st .ready .room), ready-room (st .ready) (x .a) (rankIn ks (x .b)) (omega (arith, low)) known (x .place) (x .length) inside n (st .marked) (t .ruling))
 
     -- its value lines follow
     standing-begun : {table′ : List ℕ} → table′ ≡ withMark table n r → Begun f s ks table′ held (n + 1) e es d (m ∷ ms)
     standing-begun noted =
         let t = taking .0 in
-        let rising = st .ready .rising in
         let few = st .ready .few in
         let number : notes .count + 1 ≡ length (es ++ (d ∷ [])) = ap (λ (q : ℕ). q + 1) (st .counted .number) ∙ sym (length-append es (d ∷ [])) in
         record {
-          ready = rw noted (ready-more (st .ready) (x .a) (x .b) (omega (arith, low)) (x .place) (x .length) inside n (st .marked) (t .ruling) (omega (arith, st .space, fits .place, fits .next, fits .within, st .ready .sheet, st .usable .least)));
+          ready = rw noted (ready-more (st .ready) (x .a) (rankIn ks (x .b)) (omega (arith, low)) known (x .place) (x .length) inside n (st .marked) (t .ruling) (omega (arith, st .space, fits .place, fits .next, fits .within, st .ready .sheet, st .usable .least)));
+          rising = st .rising;
           usable = st .usable;
           count = omega (arith, st .marked);
           number = number;
@@ -216,8 +221,8 @@ module _ {f : Format} {s : Bytes} {ks : List ℕ} {notes : Notes} {depths table 
           bytes = omega (arith, inside .bytes);
           within = fits .within;
           space = omega (arith, st .space, fits .place, fits .next, st .usable .least);
-          named = named-entry ks rising few s m (x .a) (x .b) (bytesOf s x) refl refl (t .fit) (st .counted .named) low d refl refl;
-          valued = rw number (valued-none ks rising few s m (x .a) (x .b) (bytesOf s x) refl refl (t .fit) (st .counted .named) low d refl refl);
+          named = named-entry ks few s m (x .a) (x .b) (bytesOf s x) refl refl (t .fit) (st .counted .named) low d refl refl;
+          valued = rw number (valued-none ks few s m (x .a) (x .b) (bytesOf s x) refl refl (t .fit) (st .counted .named) low d refl refl);
           rows = st .rows .table;
           fewer = omega (arith, st .fewer);
         }
@@ -248,7 +253,6 @@ module _ {f : Format} {s : Bytes} {ks : List ℕ} {notes : Notes} {depths table 
         owed = record {
           usable = st .usable;
           sheet = st .ready .sheet;
-          rising = st .ready .rising;
           number = ap (λ (q : ℕ). q + 1) (st .counted .number);
           lacking = ap not (v .read .holds);
           within = v .read .within;
@@ -341,6 +345,7 @@ module _ {f : Format} {s : Bytes} {ks : List ℕ} {notes : Notes} {depths table 
               v .all,
               record {
                 ready = v .read .ready;
+                rising = st .rising;
                 usable = st .usable;
                 sized = record {
                   types = st .sized .types;

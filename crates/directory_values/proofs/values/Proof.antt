@@ -7,8 +7,8 @@ use Rattle.sheet_kind.specs.Laws.Kinds.{is-kind, not-kind}
 use Rattle.sheet_line.specs.Laws.{taken-fits-line}
 use Rattle.tables.specs.Held.{ROWS, HELD}
 use borrow.Author.Tests.{not-true, not-false}
-use Rattle.directory_ruling.specs.Mark.{Mark, Room, heads}
-use Rattle.directory_ruling.specs.Laws.Rulings.{line-within}
+use Rattle.directory_duplicates.specs.Mark.{Mark, Room, heads}
+use Rattle.directory_duplicates.specs.Laws.Rulings.{line-within}
 use Rattle.rules.specs.Directory.{Stored}
 use Rattle.rules.specs.Name.{Part}
 use lib.ListN.{length}
@@ -45,7 +45,7 @@ returns-2 c = λ complete d ms b. let g = c .before .before .before .before .bef
 value-line-requires : tie.Need-value-line-requires Inv-loop μ-loop
 value-line-requires c κs = let P = c .before .before .before .before .before .before .before .before .before .before .pre in let g = c .before .before .before .before .before .before .before .loop .inv (P .complete) (P .entry) (P .all) (P .begun) in
     let f = taken-fits-line _ (now (c .before .before .before .before .before .before .before .before .before .before .args .s)) (c .before .before .before .before .before .before .before .loop .at) (sym (c .before .before .before .before .before .before .take .ensures) ∙ c .before .before .before .before .taken .given .1) in
-    (record { all = g .1; ready = g .2 .ready; within = line-within f }, P .begun .most, g .2 .low, is-kind (c .before .before .is .ensures) (not-false _ (c .before .if1 .left)))
+    (record { all = g .1; ready = g .2 .ready; within = line-within f }, P .begun .most, g .2 .low _, is-kind (c .before .before .is .ensures) (not-false _ (c .before .if1 .left)))
 
 returns-3 : tie.Need-returns-3 Inv-loop μ-loop
 returns-3 c = λ complete d ms b. let g = c .before .before .before .before .before .before .before .before .before .before .before .loop .inv complete d ms b in

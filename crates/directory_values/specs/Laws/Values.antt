@@ -19,17 +19,17 @@ use Rattle.sheet_line.specs.declared.Line.{Line}
 use Rattle.sheet_line.specs.declared.Taken.the-variants as Taken
 use Rattle.sheet_line.specs.Line.{takenAt, bytesOf, lineOf}
 use Rattle.sheet_line.specs.Laws.{taken-fits-line}
+use Rattle.name.specs.Schema.{rankIn}
+use Rattle.name.specs.Laws.Schema.{rank-type, rank-rises, allowed-within}
 use Rattle.directory_schema.specs.Laws.Lines.{formed, judged-refused, passes-judged, values-on, values-none}
 use Rattle.directory_schema.specs.Lines.{judgedFrom, none, one}
-use Rattle.directory_schema.specs.Schema.{rankOf}
-use Rattle.directory_schema.specs.Laws.Schema.{allowed-known}
 use Rattle.tables.specs.Held.{ROWS, HELD}
-use Rattle.directory_ruling.specs.Mark.{Mark, mark, MarkWithin, Room, withMark, heads}
-use Rattle.directory_ruling.specs.Twins.{ownerOf}
-use Rattle.directory_ruling.specs.Laws.Twins.{any-snoc, last-snoc, part-same, named-value, valued-more}
-use Rattle.directory_ruling.specs.Rulings.{markOf, reading}
-use Rattle.directory_ruling.specs.Laws.Rulings.{line-within, ready-room, ready-more}
-use Rattle.directory_ruling.specs.declared.Ruling.{Ruling}
+use Rattle.directory_duplicates.specs.Mark.{Mark, mark, MarkWithin, Room, withMark, heads}
+use Rattle.directory_duplicates.specs.Twins.{ownerOf}
+use Rattle.directory_duplicates.specs.Laws.Twins.{any-snoc, last-snoc, part-same, named-value, valued-more}
+use Rattle.directory_duplicates.specs.Rulings.{markOf, reading}
+use Rattle.directory_duplicates.specs.Laws.Rulings.{line-within, ready-room, ready-more}
+use Rattle.directory_duplicates.specs.declared.Ruling.{Ruling}
 use Rattle.directory_values.specs.ValueLine.{broughtBy, valueRuling}
 use Rattle.directory_values.specs.Laws.ValueLine.{ValueMarked, ValueOutcome, value-outcome}
 use Rattle.directory_values.specs.Rows.{written}
@@ -47,7 +47,7 @@ going-start {s = s} {ks = ks} {held = held} {e = e} b = record {
   start = omega arith;
   within = b .within;
   newest = refl;
-  low = omega arith;
+  low = λ t h. omega arith;
   holds = refl;
   named = b .named;
   valued = b .valued;
@@ -101,8 +101,11 @@ module _ {f : Format} {s : Bytes} {ks table₀ before table held : List ℕ} {n�
     abbrev here : Bytes
     here = bytesOf s x
 
-    rank : r .rank ≡ rankOf ks (x .a)
+    rank : r .rank ≡ rankIn ks (x .a)
     rank = ap (λ (y : Ruling). y .rank) (taking z .0 .ruling)
+
+    known : rankIn ks (x .a) < length ks
+    known = allowed-within ks (x .a) here (taking z .0 .fit)
 
     inside : MarkWithin s (mark 0 (x .place) (x .length))
     inside = line-within (taken-fits-line (f .width) s i took)
@@ -110,8 +113,8 @@ module _ {f : Format} {s : Bytes} {ks table₀ before table held : List ℕ} {n�
     -- the mark and the row have their places
     pub going-room : Room table n r × (r .rank < length ks) × (x .place + x .length ≤ length s) × (n < heads) × (to < ROWS) × (length held ≡ HELD)
     going-room = (
-      ready-room (g .ready) owner (x .a) (omega (arith, b .most)) (x .place) (x .length) inside n (g .count) (taking z .0 .ruling),
-      rw rank (allowed-known 0 ks (g .ready .rising) (x .a) here (taking z .0 .fit) .within),
+      ready-room (g .ready) owner (rankIn ks (x .a)) (omega (arith, b .most)) known (x .place) (x .length) inside n (g .count) (taking z .0 .ruling),
+      rw rank known,
       omega (arith, inside .bytes),
       omega (arith, g .count, g .ready .room),
       omega (arith, g .fewer, g .count, g .ready .room),
@@ -121,27 +124,27 @@ module _ {f : Format} {s : Bytes} {ks table₀ before table held : List ℕ} {n�
     -- whether the naming value is among the values now
     pub going-on : (found′ : Bool) → found′ ≡ (found || (eqb (e .line .b) (x .a) && same (getD ks (r .rank) 0 % 4) (bytesOf s (e .line)) here))
         → {held′ : List ℕ} → held′ ≡ written held to (r .rank) (x .place) (x .length) → {table′ : List ℕ} → table′ ≡ withMark table n r
-        → ValuesRead f s ks table′ before held′ (n + 1) found′ (x .a) (r .rank) (x .next) (to + 1) e complete d (vs ++ (broughtBy s x ∷ [])) (markOf ks owner (x .a) (x .place) (x .length) ∷ ms)
+        → ValuesRead f s ks table′ before held′ (n + 1) found′ (x .a) (r .rank) (x .next) (to + 1) e complete d (vs ++ (broughtBy s x ∷ [])) (markOf owner (rankIn ks (x .a)) (x .place) (x .length) ∷ ms)
     going-on found′ now-found row mark-noted =
         let t = taking z .0 in
         let h = taken-fits-line (f .width) s i took in
         let ready = g .ready in
         let room = going-room in
         let names : (eqb (e .line .b) (x .a) && same (getD ks (r .rank) 0 % 4) (bytesOf s (e .line)) here) ≡ samePart (schemaOf ks) (d .naming) (broughtBy s x)
-        = rw (b .type, b .value, rank) (sym (part-same ks (ready .rising) (ready .few) (d .naming .type) (x .a) (d .naming .value) here (b .fit) (t .fit))) in
+        = rw (b .type, b .value, rank) (sym (part-same ks (ready .few) (d .naming .type) (x .a) (d .naming .value) here (b .fit) (t .fit))) in
         record {
-          ready = rw mark-noted (ready-more ready owner (x .a) (omega (arith, b .most)) (x .place) (x .length) inside n (g .count) (t .ruling) (omega (arith, g .space, h .place, h .next, h .within, ready .sheet, b .usable .least)));
+          ready = rw mark-noted (ready-more ready owner (rankIn ks (x .a)) (omega (arith, b .most)) known (x .place) (x .length) inside n (g .count) (t .ruling) (omega (arith, g .space, h .place, h .next, h .within, ready .sheet, b .usable .least)));
           count = omega (arith, g .count);
           space = omega (arith, g .space, h .place, h .next, b .usable .least);
           start = omega (arith, g .start, h .place, h .next);
           within = h .within;
           newest = sym (ap (λ (p : Part). p .type) (last-snoc (part 0 []) vs (broughtBy s x)));
-          low = rw rank (omega arith);
+          low = λ u l. rw rank (rank-rises 0 ks (b .rising) (x .a) u known l);
           holds = now-found ∙ or-comm found _ ∙ ap₂ _||_ names (g .holds) ∙ sym (any-snoc (samePart (schemaOf ks) (d .naming)) vs (broughtBy s x));
-          named = named-value ks (ready .rising) (ready .few) s (markOf ks owner (x .a) (x .place) (x .length)) owner (x .a) here refl refl (t .fit) (g .named) (g .valued) (ap ownerOf (b .number));
-          valued = valued-more ks (ready .rising) (ready .few) s (markOf ks owner (x .a) (x .place) (x .length)) owner (x .a) here refl refl (t .fit) (g .named) (g .valued) (ap ownerOf (b .number));
+          named = named-value ks (ready .few) s (markOf owner (rankIn ks (x .a)) (x .place) (x .length)) owner (x .a) here refl refl (t .fit) (g .named) (g .valued) (ap ownerOf (b .number));
+          valued = valued-more ks (ready .few) s (markOf owner (rankIn ks (x .a)) (x .place) (x .length)) owner (x .a) here refl refl (t .fit) (g .named) (g .valued) (ap ownerOf (b .number));
           sofar = g .sofar ∙ ap (λ (y : List Part). vs ++ y) (values-on f s i took kind) ∙ sym (append-assoc vs (broughtBy s x ∷ []) _);
           passed = one (g .passed) took (taking z .1);
-          rows = rw row (rows-more (g .rows) (broughtBy s x) (r .rank) (x .place) (x .length) (room .4) (room .1) (rw rank (allowed-known 0 ks (ready .rising) (x .a) here (t .fit) .number)) (room .2) (h .short) refl);
+          rows = rw row (rows-more (g .rows) (broughtBy s x) (r .rank) (x .place) (x .length) (room .4) (room .1) (rw rank (rank-type ks (x .a) known)) (room .2) (h .short) refl);
           fewer = omega (arith, g .fewer);
         }

@@ -9,20 +9,20 @@ use Rattle.rules.specs.Sheet.{Bytes, Usable, print}
 use Rattle.rules.specs.declared.Format.{Format}
 use Rattle.rules.specs.Name.{Schema}
 use Rattle.rules.specs.Judge.{Grammar, accept}
-use Rattle.rules.specs.Directory.{Stored, Directory, directoryOf, entries, aliases, entryOf}
+use Rattle.rules.specs.Directory.{Stored, Directory, directoryOf, entriesIn, aliases, entryOf}
 use Rattle.rules.specs.Permission.{Item}
 use Rattle.rules.specs.Decision.{Setting, Requester}
 use Rattle.rules.specs.Request.{Request}
 use Rattle.rules.specs.Answer.{answerTo}
 use Rattle.rules.specs.Serve.{Ground, settingOf, fitting, respond}
 use Rattle.rules.specs.Places.{schemaOf}
-use Rattle.rules.specs.Laws.First.{Ranked}
+use Rattle.rules.specs.Derived.{Ranked}
 use Rattle.tables.specs.Numbers.{reachOf}
 use Rattle.request_sheet.specs.Noted as Requests
 use Rattle.request_sheet.specs.declared.Asked.{Asked}
 use Rattle.permission_sheet.specs.Noted.{Table}
 use Rattle.tables.specs.Book as Book
-use Rattle.directory_schema.specs.Schema.{Rising}
+use Rattle.name.specs.Schema.{Rising}
 use Rattle.directory_sheet.specs.declared.Notes.{Notes}
 use Rattle.directory_sheet.specs.Judged as Directories
 use Rattle.directory_book.specs.Filled.{filled, StandsFor}
@@ -36,7 +36,7 @@ use Rattle.access_scope.specs.Scopes.{Asker, reachesBy}
 use Rattle.access_scope.specs.Laws.Resolved.{reaches-are}
 use Rattle.access_scope.specs.declared.Requester as Scopes
 use Rattle.access_items.specs.Sorted.{Sorted}
-use Rattle.access_items.specs.Rank.{orderOf}
+use Rattle.access_items.specs.Rank.{weightOrder}
 use Rattle.access_items.specs.Laws.Rank.{length-orderOf, ranked-order}
 use Rattle.access_covers.specs.Noted.{rightsNoted}
 use Rattle.access_covers.specs.Sources.{Sources}
@@ -79,7 +79,7 @@ reached-of {σ} {es} {book = book} E w p rights scopes order parents q s r = rec
 
 pub respond-is : (f : Format) (w : ℕ) (g : Ground) (y : Request) (room : ℕ) → w ≡ f .width
     → fitting room (print w (answerTo (settingOf (g .directory) (g .items) (y .requester)) (map entryOf (g .directory .entries)) (aliasesOf (settingOf (g .directory) (g .items) (y .requester)) (g .directory .entries)) (y .base) (y .operation))) ≡ respond f g y room
-unfolding respond entries aliases
+unfolding respond entriesIn aliases
 respond-is f w g y room e = rw e
 
 -- ---- the tables
@@ -115,15 +115,15 @@ reach-is σ es w p rights scopes q who asker table reach n e h =
     ap (λ (m : ℕ). take m reach) (sym e) ∙ h ∙ ap (reachesBy (σ .schema) es w p rights scopes q who) e ∙ reaches-are σ es w p rights scopes q who asker table
 
 -- the numbers of the items in order, as far as there are items
-pub order-front : (w : ℕ) (p : Bytes) (is : List Item) (rights scopes order behind : List ℕ) (n : ℕ) → Table w p is rights scopes → n ≡ length is → order ≡ orderOf rights n ++ behind
+pub order-front : (w : ℕ) (p : Bytes) (is : List Item) (rights scopes order behind : List ℕ) (n : ℕ) → Table w p is rights scopes → n ≡ length is → order ≡ weightOrder rights n ++ behind
     → Ranked is (take (n - 0) order) × (length (take (n - 0) order) ≡ length is)
 order-front w p is rights scopes order behind n table e q =
     let z : n - 0 ≡ n = omega arith in
-    let front : take (n - 0) order ≡ orderOf rights (length is) = ap (λ (m : ℕ). take m order) z ∙ ap (take n) q ∙ take-at (orderOf rights n) behind n (length-orderOf rights n) ∙ ap (orderOf rights) e in
+    let front : take (n - 0) order ≡ weightOrder rights (length is) = ap (λ (m : ℕ). take m order) z ∙ ap (take n) q ∙ take-at (weightOrder rights n) behind n (length-orderOf rights n) ∙ ap (weightOrder rights) e in
     (subst (Ranked is) (sym front) (ranked-order w p is rights scopes table), ap length front ∙ length-orderOf rights (length is))
 
-pub order-room : (rights order behind : List ℕ) (n : ℕ) → order ≡ orderOf rights n ++ behind → n ≤ length order
-order-room rights order behind n q = omega (arith, ap length q, length-append (orderOf rights n) behind, length-orderOf rights n)
+pub order-room : (rights order behind : List ℕ) (n : ℕ) → order ≡ weightOrder rights n ++ behind → n ≤ length order
+order-room rights order behind n q = omega (arith, ap length q, length-append (weightOrder rights n) behind, length-orderOf rights n)
 
 -- the items in columns of the same width by another word
 pub sorted-in : {v w : ℕ} {p : Bytes} {is : List Item} {rights scopes order : List ℕ} → v ≡ w → Sorted w p is rights scopes order → Sorted v p is rights scopes order

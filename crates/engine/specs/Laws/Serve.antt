@@ -3,7 +3,6 @@ use Prim.Native.Nat.{ℕ}
 use mathlib.Core.Path.{_≡_, refl}
 use mathlib.Core.Bool.{true, false}
 use mathlib.Core.List.{List}
-use lib.ListN.{length}
 use Rattle.rules.specs.Sheet.{Bytes}
 use Rattle.rules.specs.Judge.{Verdict, accept, refuse, refusalOf, then}
 use Rattle.rules.specs.Directory.{Directory, directoryOf}

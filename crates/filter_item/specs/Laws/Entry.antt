@@ -22,8 +22,8 @@ use Rattle.rules.specs.declared.Truth.{Truth}
 use Rattle.rules.specs.declared.Truth.the-variants.{Undefined}
 use Rattle.name.specs.Schema.{rankIn, syntaxIn}
 use Rattle.name.specs.Laws.Schema.{rank-type, syntax-known, syntax-unknown}
-use Rattle.access_set.specs.Member.{bit}
-use Rattle.tables.specs.Book.{types, schema, firstAt}
+use Rattle.access_set.specs.Member.{bitOf}
+use Rattle.tables.specs.Book.{firstColumn, schemaColumn, typeCount, schema, firstAt}
 use Rattle.tables.specs.Held.{rankAt, bytesAt, typeAt, ValueAt}
 use Rattle.tables.specs.Sets.{grantedAt}
 use Rattle.tables.specs.World.{Entries}
@@ -73,7 +73,7 @@ module _ (σ : Setting) (es : List Stored) (d : Bytes) (book held : List ℕ) (n
       ∙ some-parts (λ i. eqb (rankAt held i) rank) (λ p. eqb (p .type) t) parts (firstAt book k) same-rank
       ∙ sym (holds-flat name parts t)
 
-  module _ (asked types : ℕ) (values : List ℕ) (seen : MatchableAt σ es d book held k asked types values) (wanted : bit asked rank ≡ true) where
+  module _ (asked typeCount : ℕ) (values : List ℕ) (seen : MatchableAt σ es d book held k asked typeCount values) (wanted : bitOf asked rank ≡ true) where
     -- a row counts where its value does
     row-counts : (test : Bytes → Bool) (j : ℕ) → j < length parts
         → (matchableAt held values (firstAt book k) rank (firstAt book k + j) && test (bytesAt d held (firstAt book k + j))) ≡ countsBy σ name t FilterMatch test (getD parts j (part 0 []))
@@ -84,7 +84,7 @@ module _ (σ : Setting) (es : List Stored) (d : Bytes) (book held : List ℕ) (n
             → bitAt values (firstAt book k + j - firstAt book k) ≡ granted σ name (ofValue (getD parts j (part 0 []) .type) (getD parts j (part 0 []) .value)) FilterMatch
         granted-row e =
             seen .values-matchable .value (firstAt book k + j) (omega arith) (omega (arith, m, noted .values k l .count))
-            ∙ ap (λ (b : Bool). b && grantedAt σ es (suc k) (ofValue (typeAt (schema book) (rankAt held (firstAt book k + j))) (bytesAt d held (firstAt book k + j))) FilterMatch) (ap (bit asked) e ∙ wanted)
+            ∙ ap (λ (b : Bool). b && grantedAt σ es (suc k) (ofValue (typeAt (schema book) (rankAt held (firstAt book k + j))) (bytesAt d held (firstAt book k + j))) FilterMatch) (ap (bitOf asked) e ∙ wanted)
             ∙ ap₂ (λ (x : ℕ) (u : Bytes). granted σ name (ofValue x u) FilterMatch) (row j m .type) (row j m .value)
 
         go : (b : Bool) → eqb (rankAt held (firstAt book k + j)) rank ≡ b
@@ -113,12 +113,12 @@ module _ (σ : Setting) (es : List Stored) (d : Bytes) (book held : List ℕ) (n
   abbrev found : Truth
   found = itemTruth σ (entryOf (getD es k blank)) (assertionBy kind t v ps)
 
-  pub item-beyond : types book ≤ place → Undefined ≡ found
+  pub item-beyond : typeCount book ≤ place → Undefined ≡ found
   unfolding entryOf
   item-beyond b =
       sym (item-unknown σ (getD es k blank .name) (getD es k blank .values) (schema book) (noted .schema-is) kind t v ps (syntax-unknown (schema book) t (omega (arith, b, is, schema-length (noted .fits)))))
 
-  module _ (few : place < types book) where
+  module _ (few : place < typeCount book) where
     known : place < length (schema book)
     known = omega (arith, few, schema-length (noted .fits))
 
@@ -126,7 +126,7 @@ module _ (σ : Setting) (es : List Stored) (d : Bytes) (book held : List ℕ) (n
     type-is = ap (typeAt (schema book)) is ∙ rank-type (schema book) t (rw is at known)
 
     abbrev syntax : ℕ
-    syntax = getD book (8 + place) 0 % 4
+    syntax = getD book (schemaColumn + place) 0 % 4
 
     with-syntax : syntaxIn (schema book) t ≡ At syntax
     with-syntax = syntax-known (schema book) t (rw is at known) ∙ ap (λ (i : ℕ). At (getD (schema book) i 0 % 4)) (sym is) ∙ ap (λ (x : ℕ). At (x % 4)) (type-at book place few)
@@ -135,16 +135,16 @@ module _ (σ : Setting) (es : List Stored) (d : Bytes) (book held : List ℕ) (n
     unfolding entryOf
     undecided h = sym (item-undecided σ (getD es k blank .name) (getD es k blank .values) (schema book) (noted .schema-is) kind t v ps syntax with-syntax h)
 
-    module _ (asked types : ℕ) (values : List ℕ) (seen : MatchableAt σ es d book held k asked types values) (wanted : bit asked place ≡ true) where
+    module _ (asked typeCount : ℕ) (values : List ℕ) (seen : MatchableAt σ es d book held k asked typeCount values) (wanted : bitOf asked place ≡ true) where
       -- the type's bit
-      type-bit : bit types place ≡ granted σ (getD es k blank .name) (ofType t) FilterMatch
+      type-bit : bitOf typeCount place ≡ granted σ (getD es k blank .name) (ofType t) FilterMatch
       unfolding grantedAt
       type-bit =
           seen .types-matchable .type place known
           ∙ ap (λ (b : Bool). b && grantedAt σ es (suc k) (ofType (typeAt (schema book) place)) FilterMatch) wanted
           ∙ ap (λ (x : ℕ). granted σ (getD es k blank .name) (ofType x) FilterMatch) type-is
 
-      swapped : (bit types place && definedBy syntax kind ps v) ≡ (definedBy syntax kind ps v && granted σ (getD es k blank .name) (ofType t) FilterMatch)
+      swapped : (bitOf typeCount place && definedBy syntax kind ps v) ≡ (definedBy syntax kind ps v && granted σ (getD es k blank .name) (ofType t) FilterMatch)
       swapped = ap (λ (b : Bool). b && definedBy syntax kind ps v) type-bit ∙ swap (granted σ (getD es k blank .name) (ofType t) FilterMatch) (definedBy syntax kind ps v)
         where
           swap : (a b : Bool) → (a && b) ≡ (b && a)
@@ -154,16 +154,16 @@ module _ (σ : Setting) (es : List Stored) (d : Bytes) (book held : List ℕ) (n
           swap false false = refl
 
       -- `b` is whether the item is decidable, `c` whether it is satisfied, as the code found it
-      pub item-undecidable : (b : Bool) → b ≡ (bit types place && definedBy syntax kind ps v) → b ≡ false → Undefined ≡ found
+      pub item-undecidable : (b : Bool) → b ≡ (bitOf typeCount place && definedBy syntax kind ps v) → b ≡ false → Undefined ≡ found
       item-undecidable b e h = undecided (sym swapped ∙ sym e ∙ h)
 
-      told : (bit types place && definedBy syntax kind ps v) ≡ true → truth (satisfiedIn d held values (firstAt book k) (firstAt book (suc k)) place syntax kind ps v) ≡ found
+      told : (bitOf typeCount place && definedBy syntax kind ps v) ≡ true → truth (satisfiedIn d held values (firstAt book k) (firstAt book (suc k)) place syntax kind ps v) ≡ found
       unfolding entryOf
       told h =
-          ap truth (satisfied-in σ es d book held noted k l place known asked types values seen wanted syntax kind ps v)
+          ap truth (satisfied-in σ es d book held noted k l place known asked typeCount values seen wanted syntax kind ps v)
           ∙ ap (λ (x : ℕ). truth (satisfiedBy σ (record { name = getD es k blank .name; held = heldOf (getD es k blank .values) }) syntax kind x ps v)) type-is
           ∙ sym (item-decided σ (getD es k blank .name) (getD es k blank .values) (schema book) (noted .schema-is) kind t v ps syntax with-syntax (sym swapped ∙ h))
 
-      pub item-told : (b c : Bool) (r : Truth) → b ≡ (bit types place && definedBy syntax kind ps v) → b ≡ true
-          → c ≡ satisfiedIn d held values (firstAt book k) (getD book (1097 + k) 0) place syntax kind ps v → r ≡ truth c → r ≡ found
+      pub item-told : (b c : Bool) (r : Truth) → b ≡ (bitOf typeCount place && definedBy syntax kind ps v) → b ≡ true
+          → c ≡ satisfiedIn d held values (firstAt book k) (getD book (firstColumn + 1 + k) 0) place syntax kind ps v → r ≡ truth c → r ≡ found
       item-told b c r e h s q = q ∙ ap truth (s ∙ ap (λ (end : ℕ). satisfiedIn d held values (firstAt book k) end place syntax kind ps v) (end-is book k)) ∙ told (sym e ∙ h)

@@ -9,7 +9,7 @@ use lib.Dec.{eqb}
 use lib.ListN.{length, getD, drop, length-drop}
 use lib.Seq.{length-take-le}
 use borrow.Author.Tests.{eq-eqb, ne-eqb}
-use Rattle.access_set.specs.Member.{bit}
+use Rattle.access_set.specs.Member.{bitOf}
 use Rattle.rules.specs.Sheet.{Bytes}
 use Rattle.tables.specs.Held.{rankAt, placeAt, sizeAt, bytesAt}
 use Rattle.filter_matchable.specs.Matchable.{bitAt}
@@ -22,7 +22,7 @@ module _ (held values : List ℕ) (first rank i : ℕ) where
   matchable-other d = rw (ne-eqb (rankAt held i) rank d)
 
   pub matchable-same : rankAt held i ≡ rank → eqb (getD values ((i - first) / 64) 0 / 2 ^ ((i - first) % 64) % 2) 1 ≡ matchableAt held values first rank i
-  unfolding matchableAt bitAt bit
+  unfolding matchableAt bitAt bitOf
   matchable-same e = rw (eq-eqb (rankAt held i) rank e)
 
 module _ (p : ℕ → Bool) (i end : ℕ) where

@@ -16,12 +16,12 @@ use Rattle.sheet_line.specs.Laws.{LineFits, linesBy, taken-lines, taken-fits-li
 use Rattle.sheet_line.specs.declared.Line.{Line}
 use Rattle.sheet_line.specs.declared.Taken.the-variants as Taken
 use Rattle.name.specs.Schema.{rankIn}
-use Rattle.filter_lines.specs.Lines.{LINES, kindAt, firstAt, secondAt, positionAt, placeAt, typeRank, nextAt, valueAt, lineAt, LineRow, LinesNoted, Beyond, noted}
+use Rattle.filter_lines.specs.Lines.{LINES, kindAt, columnA, columnB, positionAt, valuePlace, typeRank, nextPosition, lineValue, lineAt, LineRow, LinesNoted, Beyond, noted}
 
 -- ---- a row's line
 
 -- the next line begins where the next row says
-pub next-is : (rows : List ℕ) (k : ℕ) → nextAt rows k ≡ positionAt rows (k + 1)
+pub next-is : (rows : List ℕ) (k : ℕ) → nextPosition rows k ≡ positionAt rows (k + 1)
 next-is rows k = let e : k * 6 + 9 ≡ (k + 1) * 6 + 3 = omega arith in ap (λ (i : ℕ). getD rows i 0) e
 
 module _ {w : ℕ} {q : Bytes} {rows : List ℕ} {k : ℕ} (r : LineRow w q rows k) where
@@ -29,21 +29,21 @@ module _ {w : ℕ} {q : Bytes} {rows : List ℕ} {k : ℕ} (r : LineRow w q rows
   row-fits = taken-fits-line w q (positionAt rows k) (r .taken)
 
   -- its bytes lie on the sheet
-  row-begins : placeAt rows k < nextAt rows k
+  row-begins : valuePlace rows k < nextPosition rows k
   row-begins = omega (arith, row-fits .next)
 
-  row-ends : nextAt rows k ≤ length q
+  row-ends : nextPosition rows k ≤ length q
   row-ends = row-fits .within
 
-  row-short : nextAt rows k ≤ placeAt rows k + 65
+  row-short : nextPosition rows k ≤ valuePlace rows k + 65
   row-short = omega (arith, row-fits .next, row-fits .short)
 
-  pub row-lines : linesAt w q (positionAt rows k) ≡ row (line (kindAt rows k) (firstAt rows k) (secondAt rows k) (r .third) (valueAt q rows k)) (linesAt w q (positionAt rows (k + 1)))
+  pub row-lines : linesAt w q (positionAt rows k) ≡ row (line (kindAt rows k) (columnA rows k) (columnB rows k) (r .third) (lineValue q rows k)) (linesAt w q (positionAt rows (k + 1)))
   row-lines =
-      let n : r .size ≡ nextAt rows k - 1 - placeAt rows k = omega (arith, row-fits .next) in
+      let n : r .size ≡ nextPosition rows k - 1 - valuePlace rows k = omega (arith, row-fits .next) in
       taken-lines w q (positionAt rows k)
       ∙ ap (linesBy w q) (r .taken)
-      ∙ ap₂ (λ (m i : ℕ). row (line (kindAt rows k) (firstAt rows k) (secondAt rows k) (r .third) (take m (drop (placeAt rows k) q))) (linesAt w q i)) n (next-is rows k)
+      ∙ ap₂ (λ (m i : ℕ). row (line (kindAt rows k) (columnA rows k) (columnB rows k) (r .third) (take m (drop (valuePlace rows k) q))) (linesAt w q i)) n (next-is rows k)
 
 -- ---- one line more
 
@@ -131,7 +131,7 @@ pub record Noting (schema : List ℕ) (w : ℕ) (q : Bytes) (rows : List ℕ) (a
   pub first : positionAt rows 0 ≡ at
   pub last : positionAt rows n ≡ j
   pub line : (k : ℕ) → k < n → LineRow w q rows k
-  pub rank : (k : ℕ) → k < n → typeRank rows k ≡ rankIn schema (firstAt rows k)
+  pub rank : (k : ℕ) → k < n → typeRank rows k ≡ rankIn schema (columnA rows k)
 
 pub noting-start : (schema : List ℕ) (w : ℕ) (q : Bytes) (rows : List ℕ) (at : ℕ) → 6 ≤ length rows → Noting schema w q (set rows 3 at) at 0 at
 noting-start schema w q rows at room = record {
@@ -193,17 +193,17 @@ module _ (schema : List ℕ) (w : ℕ) (q : Bytes) (rows : List ℕ) (at n j : �
       first = position 0 (omega arith) ∙ o .first;
       last = sym (next-is more n) ∙ noted-next rows (n * 6) (x .kind) (x .a) (x .b) (x .place) rank (x .next) room;
       line = λ k h. each (LineRow w q more) old this k h (decLt k n);
-      rank = λ k h. each (λ k. typeRank more k ≡ rankIn schema (firstAt more k)) old-rank this-rank k h (decLt k n);
+      rank = λ k h. each (λ k. typeRank more k ≡ rankIn schema (columnA more k)) old-rank this-rank k h (decLt k n);
     }
       where
         each : (P : ℕ → Type 0) → ((k : ℕ) → k < n → P k) → P n → (k : ℕ) → k < n + 1 → Dec (k < n) → P k
         each P before last k h (yes m) = before k m
         each P before last k h (no m) = let z : n ≡ k = omega (arith, h, m) in subst P z last
 
-        old-rank : (k : ℕ) → k < n → typeRank more k ≡ rankIn schema (firstAt more k)
+        old-rank : (k : ℕ) → k < n → typeRank more k ≡ rankIn schema (columnA more k)
         old-rank k h = rw (kept (k * 6 + 1) (omega (arith, h)), kept (k * 6 + 5) (omega (arith, h))) (o .rank k h)
 
-        this-rank : typeRank more n ≡ rankIn schema (firstAt more n)
+        this-rank : typeRank more n ≡ rankIn schema (columnA more n)
         this-rank = rw (
           noted-first rows (n * 6) (x .kind) (x .a) (x .b) (x .place) rank (x .next) room,
           noted-rank rows (n * 6) (x .kind) (x .a) (x .b) (x .place) rank (x .next) room,

@@ -11,14 +11,15 @@ use Rattle.rules.specs.Lists.{all}
 use Rattle.rules.specs.Sheet.{Bytes, Line, Sheet, end, broken, row}
 use Rattle.rules.specs.Value.{Piece, text, tidied, folded, normal, fits, used, matches, normalPiece, contains}
 use Rattle.rules.specs.Places.{linesAt}
-use Rattle.rules.specs.Laws.Substrings.{compared, matches-on, matches-off}
+use Rattle.rules.specs.Derived.{compared}
+use Rattle.rules.specs.Laws.Substrings.{matches-on, matches-off}
 use Rattle.rules.specs.Laws.Blanks.{tidied-length}
 use Rattle.value_blank.specs.declared.Text.{Text}
 use Rattle.value_blank.specs.Blank.{isTidy, textOf}
 use Rattle.value_blank.specs.Laws.Blank.{tidy-tidied}
 use Rattle.value_blank.specs.Laws.Text.{text-bytes}
 use Rattle.tables.specs.FilterLines.{piecesOf, afterLines}
-use Rattle.filter_lines.specs.Lines.{LinesNoted, positionAt, firstAt, placeAt, nextAt, valueAt, piecesIn, piecesStand, lesser}
+use Rattle.filter_lines.specs.Lines.{LinesNoted, positionAt, columnA, valuePlace, nextPosition, lineValue, piecesIn, piecesStand, lesser}
 use Rattle.filter_lines.specs.Laws.Lines.{row-lines}
 use Rattle.rules.specs.declared.Found.the-variants.{At, Nothing}
 
@@ -94,7 +95,7 @@ lesser-on (suc n) lines j h l =
 
 -- ---- row by row
 
-pub value-short : (q : Bytes) (rows : List ℕ) (k : ℕ) → nextAt rows k ≤ placeAt rows k + 65 → length (valueAt q rows k) ≤ 64
+pub value-short : (q : Bytes) (rows : List ℕ) (k : ℕ) → nextPosition rows k ≤ valuePlace rows k + 65 → length (lineValue q rows k) ≤ 64
 value-short q rows k h = simp length-take (omega arith)
 
 module _ (q : Bytes) (rows : List ℕ) (lines : ℕ) where
@@ -111,7 +112,7 @@ module _ (q : Bytes) (rows : List ℕ) (lines : ℕ) where
     unfolding piecesIn
     from-over h = rw (lesser-over n lines j h)
 
-    pub from-on : j < lines → 0 < n → (v : Bytes) → v ≡ valueAt q rows j → piecesFrom j n ≡ record { place = firstAt rows j; bytes = v } ∷ piecesFrom (j + 1) (n - 1)
+    pub from-on : j < lines → 0 < n → (v : Bytes) → v ≡ lineValue q rows j → piecesFrom j n ≡ record { place = columnA rows j; bytes = v } ∷ piecesFrom (j + 1) (n - 1)
     unfolding piecesIn
     from-on l m v e = rw (lesser-on n lines j l m, e)
 
@@ -177,8 +178,8 @@ module _ {w : ℕ} {q : Bytes} {rows : List ℕ} {lines : ℕ} (h : LinesNoted w
       go (yes x) ih =
           let z : suc n - 1 ≡ n = omega arith in
           pieces-on (row-lines (h .line k x)) (suc n) (omega arith)
-          ∙ rw z (ap (λ (ps : List Piece). record { place = firstAt rows k; bytes = valueAt q rows k } ∷ ps) (ih x))
-          ∙ sym (rw z at (from-on q rows lines k (suc n) x (omega arith) (valueAt q rows k) refl))
+          ∙ rw z (ap (λ (ps : List Piece). record { place = columnA rows k; bytes = lineValue q rows k } ∷ ps) (ih x))
+          ∙ sym (rw z at (from-on q rows lines k (suc n) x (omega arith) (lineValue q rows k) refl))
       go (no x) ih =
           let z : k ≡ lines = omega (arith, l, x) in
           ap (λ (y : ℕ). piecesOf (suc n) (at y)) z ∙ pieces-stop (h .unread) (h .ends) (suc n) ∙ sym (from-over q rows lines k (suc n) (omega (arith, z)))

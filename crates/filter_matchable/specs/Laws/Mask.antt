@@ -9,7 +9,7 @@ use native.Mathlib.Omega.{arith}
 use lib.Bits.{bitOr}
 use lib.Dec.{eqb, ltb}
 use borrow.Author.Tests.{eq-eqb, ne-eqb, eqb-true, eqb-false, ltb-true, ltb-false}
-use Rattle.access_set.specs.Member.{bit}
+use Rattle.access_set.specs.Member.{bitOf}
 use Rattle.access_set.specs.Laws.Bit.{bit-none}
 use Rattle.filter_lines.specs.Lines.{kindAt, typeRank}
 use Rattle.filter_matchable.specs.Mask.{operatorAt, occurs, Masks}
@@ -51,7 +51,7 @@ mask-on rows k x y b g e h = record { rank = λ r l. rw (add-one k) (here r l) }
     swap false true = refl
     swap false false = refl
 
-    here : (r : ℕ) → r < 64 → bit (bitOr x y) r ≡ (not (operatorAt rows k) && eqb (typeRank rows k) r || occurs rows k r)
+    here : (r : ℕ) → r < 64 → bitOf (bitOr x y) r ≡ (not (operatorAt rows k) && eqb (typeRank rows k) r || occurs rows k r)
     here r l =
         word-more x y b (typeRank rows k % 64) e r
         ∙ ap₂ _||_ (h .rank r l) (ap (λ (c : Bool). eqb r (typeRank rows k % 64) && c) g ∙ added k (typeRank rows k) r l (not (operatorAt rows k)) (ltb (typeRank rows k) 64) refl)

@@ -12,9 +12,9 @@ use Rattle.rules.specs.Sheet.{Bytes}
 use Rattle.rules.specs.Directory.{Stored}
 use Rattle.rules.specs.Permission.{FilterMatch}
 use Rattle.rules.specs.Decision.{Setting, ofType}
-use Rattle.access_set.specs.Member.{bit}
+use Rattle.access_set.specs.Member.{bitOf}
 use Rattle.access_set.specs.Laws.Bit.{bit-none}
-use Rattle.tables.specs.Book.{BookFits, types, entries, schema, firstAt}
+use Rattle.tables.specs.Book.{firstColumn, BookFits, typeCount, entryCount, schema, firstAt}
 use Rattle.tables.specs.Held.{typeAt}
 use Rattle.tables.specs.Sets.{grantedAt}
 use Rattle.tables.specs.World.{Entries}
@@ -28,7 +28,7 @@ use Rattle.filter_matchable.specs.Laws.Bits.{word-other, word-here, bits
 
 -- no bit from `n` on is set
 abbrev pub Clear : ℕ → ℕ → Type 0
-Clear x n = (j : ℕ) → n ≤ j → bit x j ≡ false
+Clear x n = (j : ℕ) → n ≤ j → bitOf x j ≡ false
 
 pub clear-none : Clear 0 0
 clear-none j l = bit-none j
@@ -40,20 +40,20 @@ module _ (x y : ℕ) (b : Bool) (r : ℕ) (small : r < 64) (e : y ≡ cond b (2 
   pub clear-on : Clear x r → Clear (bitOr x y) (r + 1)
   clear-on h j l = word-other x y b r one j (λ z. omega arith) ∙ h j (omega arith)
 
-  pub types-on : (σ : Setting) (es : List Stored) (book : List ℕ) (n asked : ℕ) → Clear x r → b ≡ (bit asked r && grantedAt σ es n (ofType (typeAt (schema book) r)) FilterMatch) → MatchableTypes σ es book n asked r x → MatchableTypes σ es book n asked (r + 1) (bitOr x y)
+  pub types-on : (σ : Setting) (es : List Stored) (book : List ℕ) (n asked : ℕ) → Clear x r → b ≡ (bitOf asked r && grantedAt σ es n (ofType (typeAt (schema book) r)) FilterMatch) → MatchableTypes σ es book n asked r x → MatchableTypes σ es book n asked (r + 1) (bitOr x y)
   types-on σ es book n asked h g s = record { type = λ j l. go j l (decLt j r) }
     where
-      go : (j : ℕ) → j < r + 1 → Dec (j < r) → bit (bitOr x y) j ≡ (bit asked j && grantedAt σ es n (ofType (typeAt (schema book) j)) FilterMatch)
+      go : (j : ℕ) → j < r + 1 → Dec (j < r) → bitOf (bitOr x y) j ≡ (bitOf asked j && grantedAt σ es n (ofType (typeAt (schema book) j)) FilterMatch)
       go j l (yes m) = word-other x y b r one j (λ z. omega arith) ∙ s .type j m
       go j l (no m) =
           let z : r ≡ j = omega arith in
-          subst (λ (i : ℕ). bit (bitOr x y) i ≡ (bit asked i && grantedAt σ es n (ofType (typeAt (schema book) i)) FilterMatch)) z (word-here x y b r one (h r (omega arith)) ∙ g)
+          subst (λ (i : ℕ). bitOf (bitOr x y) i ≡ (bitOf asked i && grantedAt σ es n (ofType (typeAt (schema book) i)) FilterMatch)) z (word-here x y b r one (h r (omega arith)) ∙ g)
 
 pub types-none : (σ : Setting) (es : List Stored) (book : List ℕ) (n asked : ℕ) → MatchableTypes σ es book n asked 0 0
 types-none σ es book n asked = record { type = λ j l. absurd (omega arith) }
 
 -- all types of the schema, as code counts them
-pub types-full : (σ : Setting) (es : List Stored) (book : List ℕ) (k asked x : ℕ) → BookFits book → MatchableTypes σ es book (k + 1) asked (types book) x → MatchableTypes σ es book (suc k) asked (length (schema book)) x
+pub types-full : (σ : Setting) (es : List Stored) (book : List ℕ) (k asked x : ℕ) → BookFits book → MatchableTypes σ es book (k + 1) asked (typeCount book) x → MatchableTypes σ es book (suc k) asked (length (schema book)) x
 types-full σ es book k asked x f s = subst (λ (n : ℕ). MatchableTypes σ es book n asked (length (schema book)) x) (add-one k) (subst (λ (n : ℕ). MatchableTypes σ es book (k + 1) asked n x) (sym (schema-length f)) s)
 
 -- ---- values
@@ -69,7 +69,7 @@ zeros (suc m) (suc i) = zeros m i
 
 pub blank-none : (m n : ℕ) → Blank (replicate m 0) n
 unfolding bitAt
-blank-none m n j l = ap (λ (x : ℕ). bit x (j % 64)) (zeros m (j / 64)) ∙ bit-none (j % 64)
+blank-none m n j l = ap (λ (x : ℕ). bitOf x (j % 64)) (zeros m (j / 64)) ∙ bit-none (j % 64)
 
 module _ (words : List ℕ) (first i y : ℕ) (b : Bool) (e : y ≡ cond b (2 ^ ((i - first) % 64)) 0) (room : (i - first) / 64 < length words) (low : first ≤ i) where
   abbrev more : List ℕ
@@ -98,6 +98,6 @@ values-until σ es d book held k asked i end words l s = record { value = λ j m
 -- ---- the rows of an entry
 
 -- the rows as code takes them
-pub values-within : {σ : Setting} {es : List Stored} {d : Bytes} {book held : List ℕ} → Entries σ es d book held → (k : ℕ) → k < entries book
-    → RowsWithin d held (firstAt book k) (getD book (1097 + k) 0)
+pub values-within : {σ : Setting} {es : List Stored} {d : Bytes} {book held : List ℕ} → Entries σ es d book held → (k : ℕ) → k < entryCount book
+    → RowsWithin d held (firstAt book k) (getD book (firstColumn + 1 + k) 0)
 values-within {book = book} E k l = rw (end-is book k) record { room = rows-within E k l .1; part = λ i from to. bytes-within E k l i from to; short = λ i from to. bytes-short E k l i from to }

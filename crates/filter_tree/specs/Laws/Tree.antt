@@ -14,10 +14,9 @@ use Rattle.rules.specs.Places.{linesAt}
 use Rattle.tables.specs.FilterLines.{bothIn, eitherIn, startIn, assertionOf, afterItem, Evaluated, evaluated, partsFrom, evaluateLine, evaluateSheet, evaluateLines}
 use Rattle.tables.specs.Laws.Filter.{filter-read}
 use Rattle.rules.specs.declared.Edition.{Edition}
-use Rattle.rules.specs.declared.Edition.the-variants.{FirstEdition}
 use Rattle.rules.specs.declared.Truth.{Truth}
 use Rattle.rules.specs.declared.Truth.the-variants.{True, False, Undefined}
-use Rattle.filter_lines.specs.Lines.{LinesNoted, kindAt, firstAt, secondAt, positionAt, valueAt, piecesAt}
+use Rattle.filter_lines.specs.Lines.{LinesNoted, kindAt, columnA, columnB, positionAt, lineValue, piecesAt}
 use Rattle.filter_lines.specs.Laws.Lines.{row-lines}
 use Rattle.filter_lines.specs.Laws.Pieces.{pieces-are}
 use Rattle.filter_item.specs.Items.{assertionBy}
@@ -50,7 +49,7 @@ module _ (ed : Edition) (m : Assertion → Truth) {w : ℕ} {q : Bytes} {rows : 
     rest = linesAt w q (positionAt rows (k + 1))
 
     by-line : evaluateLines ed m depth (linesAt w q (positionAt rows k))
-        ≡ evaluateLine ed m one (line (kindAt rows k) (firstAt rows k) (secondAt rows k) (h .line k l .third) (valueAt q rows k)) rest
+        ≡ evaluateLine ed m one (line (kindAt rows k) (columnA rows k) (columnB rows k) (h .line k l .third) (lineValue q rows k)) rest
     unfolding evaluateLines evaluateSheet
     by-line = deeper depth nz
         ∙ ap (evaluateSheet ed m (evaluateLine ed m one)) (row-lines (h .line k l))
@@ -65,30 +64,30 @@ module _ (ed : Edition) (m : Assertion → Truth) {w : ℕ} {q : Bytes} {rows : 
 
     -- "and", or else "or"
     pub tree-group : (eqb (kindAt rows k) 20 || eqb (kindAt rows k) 21) ≡ true
-        → evaluateLines ed m depth (linesAt w q (positionAt rows k)) ≡ partsFrom (joinBy ed (eqb (kindAt rows k) 20)) one (firstAt rows k) (startIn ed (truth (eqb (kindAt rows k) 20)) (firstAt rows k)) rest
+        → evaluateLines ed m depth (linesAt w q (positionAt rows k)) ≡ partsFrom (joinBy ed (eqb (kindAt rows k) 20)) one (columnA rows k) (startIn ed (truth (eqb (kindAt rows k) 20)) (columnA rows k)) rest
     unfolding evaluateLine
     tree-group e = by-line ∙ go (eqb (kindAt rows k) 20) (eqb (kindAt rows k) 21) e _
       where
         go : (x y : Bool) → (x || y) ≡ true → (other : Evaluated)
-            → cond x (partsFrom (bothIn ed) one (firstAt rows k) (startIn ed True (firstAt rows k)) rest) (cond y (partsFrom (eitherIn ed) one (firstAt rows k) (startIn ed False (firstAt rows k)) rest) other)
-            ≡ partsFrom (joinBy ed x) one (firstAt rows k) (startIn ed (truth x) (firstAt rows k)) rest
+            → cond x (partsFrom (bothIn ed) one (columnA rows k) (startIn ed True (columnA rows k)) rest) (cond y (partsFrom (eitherIn ed) one (columnA rows k) (startIn ed False (columnA rows k)) rest) other)
+            ≡ partsFrom (joinBy ed x) one (columnA rows k) (startIn ed (truth x) (columnA rows k)) rest
         go true y e other = refl
         go false true e other = refl
         go false false e other = absurd (true≢false (sym e))
 
     pub tree-item : (kindAt rows k ≡ 22 → ⊥) → (eqb (kindAt rows k) 20 || eqb (kindAt rows k) 21) ≡ false
         → evaluateLines ed m depth (linesAt w q (positionAt rows k))
-        ≡ evaluated (m (assertionBy (kindAt rows k) (firstAt rows k) (valueAt q rows k) (piecesAt q rows lines k))) (afterBy (kindAt rows k) (secondAt rows k) rest)
+        ≡ evaluated (m (assertionBy (kindAt rows k) (columnA rows k) (lineValue q rows k) (piecesAt q rows lines k))) (afterBy (kindAt rows k) (columnB rows k) rest)
     unfolding evaluateLine assertionOf afterItem afterBy
     tree-item ne e = by-line ∙ go (eqb (kindAt rows k) 20) (eqb (kindAt rows k) 21) e _ _
       where
         go : (x y : Bool) → (x || y) ≡ false → (a b : Evaluated)
             → cond x a (cond y b (cond (eqb (kindAt rows k) 22) (evaluated (negation (one rest .truth)) (one rest .rest))
-            (evaluated (m (assertionOf (line (kindAt rows k) (firstAt rows k) (secondAt rows k) (h .line k l .third) (valueAt q rows k)) rest)) (afterItem (line (kindAt rows k) (firstAt rows k) (secondAt rows k) (h .line k l .third) (valueAt q rows k)) rest))))
-            ≡ evaluated (m (assertionBy (kindAt rows k) (firstAt rows k) (valueAt q rows k) (piecesAt q rows lines k))) (afterBy (kindAt rows k) (secondAt rows k) rest)
+            (evaluated (m (assertionOf (line (kindAt rows k) (columnA rows k) (columnB rows k) (h .line k l .third) (lineValue q rows k)) rest)) (afterItem (line (kindAt rows k) (columnA rows k) (columnB rows k) (h .line k l .third) (lineValue q rows k)) rest))))
+            ≡ evaluated (m (assertionBy (kindAt rows k) (columnA rows k) (lineValue q rows k) (piecesAt q rows lines k))) (afterBy (kindAt rows k) (columnB rows k) rest)
         go true y e a b = absurd (true≢false e)
         go false true e a b = absurd (true≢false e)
-        go false false e a b = rw (ne-eqb (kindAt rows k) 22 ne, pieces-are h (secondAt rows k) (k + 1) (omega (arith, l)))
+        go false false e a b = rw (ne-eqb (kindAt rows k) 22 ne, pieces-are h (columnB rows k) (k + 1) (omega (arith, l)))
 
 -- ---- the parts one by one
 

@@ -1,24 +1,23 @@
--- Laws of `Schema`: what the rules ask of a type, by the syntax found.
-use Prim.Native.Nat.{ℕ, zero, suc, _+_, _/_, _%_, _<_, _≤_}
-use mathlib.Core.Path.{_≡_, refl, sym, ap, _∙_}
+-- Laws of `Schema`: what the rules ask of a type, by its rank and by the syntax found.
+use Prim.Native.Nat.{ℕ, zero, suc, _/_, _%_, _<_, _≤_}
+use mathlib.Core.Path.{_≡_, refl, sym, _∙_}
 use mathlib.Core.Bool.{Bool, true, false, _&&_, cond}
 use mathlib.Core.Option.{Option, none, some}
 use mathlib.Core.List.{List, [], _∷_}
-use native.Mathlib.Numerals.{add-one}
 use native.Mathlib.Nat.{le-of-suc-le-suc, not-suc-le-zero}
 use native.Mathlib.Omega.{arith}
 use lib.Dec.{eqb, ltb, leb·suc-suc}
-use lib.ListN.{length, getD, drop, drop-of-length-le}
-use lib.Seq.{drop-cons}
-use borrow.Author.Tests.{eq-eqb, ne-eqb, eqb-true, lt-ltb, le-ltb}
+use lib.ListN.{length, getD}
+use borrow.Author.Tests.{eq-eqb, eqb-true, lt-ltb, le-ltb, ltb-true}
 use Rattle.rules.specs.Lists.{first, firstOr}
 use Rattle.rules.specs.Sheet.{Bytes}
 use Rattle.rules.specs.Value.{fits, same, ordered, order, byFound}
 use Rattle.rules.specs.Name.{AttributeType, Schema, bySyntax, ofSyntax, known, allowed, equal, orderBy, orderOf}
 use Rattle.rules.specs.FilterItem.{isLess}
+use Rattle.rules.specs.Laws.Tests.{and-left, and-right}
 use Rattle.rules.specs.Places.{attributeOf, schemaOf}
 use Rattle.rules.specs.declared.Found.the-variants.{At, Nothing}
-use Rattle.name.specs.Schema.{rankIn, syntaxIn, equalBy}
+use Rattle.name.specs.Schema.{Rising, rankIn, syntaxIn, allowedAt, equalBy}
 
 -- ---- the rank
 
@@ -51,6 +50,29 @@ rank-first (k ∷ ks) t (suc r) h e = go (eqb (k / 4) t) (rank-first ks t r (le-
     go : (b : Bool) → rankIn ks t ≤ r → cond b 0 (suc (rankIn ks t)) ≤ suc r
     go true i = omega arith
     go false i = omega arith
+
+-- ---- the rank, where the types rise
+
+-- all types are above `n`
+pub rising-above : (n : ℕ) (ks : List ℕ) → Rising n ks → (i : ℕ) → i < length ks → n < getD ks i 0 / 4
+rising-above n [] rising i h = absurd (not-suc-le-zero h)
+rising-above n (k ∷ ks) rising zero h = rising .0
+rising-above n (k ∷ ks) rising (suc i) h = omega (arith, rising .0, rising-above (k / 4) ks (rising .1) i (le-of-suc-le-suc h))
+
+known-above : (n : ℕ) (ks : List ℕ) → Rising n ks → (t : ℕ) → rankIn ks t < length ks → n < t
+known-above n ks rising t h = omega (arith, rising-above n ks rising (rankIn ks t) h, rank-type ks t h)
+
+-- no later type has a lower rank
+pub rank-rises : (n : ℕ) (ks : List ℕ) → Rising n ks → (t u : ℕ) → rankIn ks t < length ks → t ≤ u → rankIn ks t ≤ rankIn ks u
+unfolding rankIn
+rank-rises n [] rising t u h l = omega arith
+rank-rises n (k ∷ ks) rising t u h l = go (eqb (k / 4) t) (eqb (k / 4) u) refl h (λ i. rank-rises (k / 4) ks (rising .1) t u i l)
+  where
+    go : (b d : Bool) → eqb (k / 4) u ≡ d → cond b 0 (suc (rankIn ks t)) < suc (length ks) → (rankIn ks t < length ks → rankIn ks t ≤ rankIn ks u)
+        → cond b 0 (suc (rankIn ks t)) ≤ cond d 0 (suc (rankIn ks u))
+    go true d e h ih = omega arith
+    go false true e h ih = absurd (omega (arith, l, eqb-true (k / 4) u e, known-above (k / 4) ks (rising .1) t (le-of-suc-le-suc h)))
+    go false false e h ih = omega (arith, ih (le-of-suc-le-suc h))
 
 -- ---- the syntax, by the rank
 
@@ -121,20 +143,34 @@ module _ (ks : List ℕ) (t : ℕ) where
     unfolding equal
     equal-none v u = by-syntax ks (λ s. fits s v && (fits s u && same s v u)) t ∙ rw e
 
--- ---- the loop
+-- ---- a value, by the rank of its type
 
-module _ (ks : List ℕ) (t i : ℕ) where
-  pub rank-here : i < length ks → getD ks i 0 / 4 ≡ t → rankIn (drop i ks) t ≡ 0
-  unfolding rankIn
-  rank-here h e = rw (drop-cons ks i 0, eq-eqb (getD ks i 0 / 4) t e)
+-- it is allowed by the rules
+pub allowed-ranked : (ks : List ℕ) (t : ℕ) (v : Bytes) → allowedAt ks (rankIn ks t) v ≡ allowed (schemaOf ks) t v
+unfolding allowedAt allowed syntaxIn
+allowed-ranked ks t v = go (ltb (rankIn ks t) (length ks)) ∙ sym (by-syntax ks (λ s. fits s v) t)
+  where
+    go : (b : Bool) → (b && fits (getD ks (rankIn ks t) 0 % 4) v) ≡ byFound (cond b (At (getD ks (rankIn ks t) 0 % 4)) Nothing) (λ s. fits s v)
+    go true = refl
+    go false = refl
 
-  pub rank-on : i < length ks → (getD ks i 0 / 4 ≡ t → ⊥) → rankIn (drop i ks) t ≡ suc (rankIn (drop (i + 1) ks) t)
-  unfolding rankIn
-  rank-on h e = rw (add-one, drop-cons ks i 0, ne-eqb (getD ks i 0 / 4) t e)
+-- its type is there, and it is within the syntax
+pub allowed-known : (ks : List ℕ) (r : ℕ) (v : Bytes) → allowedAt ks r v ≡ true → (r < length ks) × (fits (getD ks r 0 % 4) v ≡ true)
+unfolding allowedAt
+allowed-known ks r v e = (ltb-true r (length ks) (and-left _ _ e), and-right (ltb r (length ks)) _ e)
 
-  pub rank-end : length ks ≤ i → rankIn (drop i ks) t ≡ 0
-  unfolding rankIn
-  rank-end h = rw drop-of-length-le
+-- the schema has the type of a value that it allows
+pub allowed-within : (ks : List ℕ) (t : ℕ) (v : Bytes) → allowed (schemaOf ks) t v ≡ true → rankIn ks t < length ks
+allowed-within ks t v a = allowed-known ks (rankIn ks t) v (allowed-ranked ks t v ∙ a) .0
+
+-- two values of a type that the schema allows
+pub equal-ranked : (ks : List ℕ) (t : ℕ) (v u : Bytes) → allowed (schemaOf ks) t v ≡ true → allowed (schemaOf ks) t u ≡ true
+    → equal (schemaOf ks) t v u ≡ same (getD ks (rankIn ks t) 0 % 4) v u
+unfolding equalBy
+equal-ranked ks t v u p q =
+    let a = allowed-known ks (rankIn ks t) v (allowed-ranked ks t v ∙ p) in
+    let b = allowed-known ks (rankIn ks t) u (allowed-ranked ks t u ∙ q) in
+    equal-at ks t _ (syntax-known ks t (a .0)) v u ∙ rw (a .1, b .1)
 
 -- ---- equality, told apart first
 

@@ -3,7 +3,7 @@ use Prim.Native.Nat.{ℕ, _≤_}
 use mathlib.Core.Path.{_≡_}
 use mathlib.Core.Bool.{true}
 use native.Mathlib.Omega.{arith}
-use Rattle.rules.specs.Columns.{unnamed, exactly, between, types, bytes, parts, form, permissionForms}
+use Rattle.rules.specs.Columns.{unnamed, exactly, between, typeRange, bytes, parts, form, permissionForms}
 use Rattle.sheet_form.specs.Columns.{inFormOf}
 use Rattle.sheet_due.specs.Laws.Bounds.{by-form, no-form}
 
@@ -29,8 +29,8 @@ module _ (top a b c l : ℕ) where
   unfolding inFormOf permissionForms
   target-bounds =
       by-form a b c l (form 7 (between 0 2) unnamed unnamed unnamed) _ (λ r. omega (arith, r .0, r .1))
-      (by-form a b c l (form 7 (between 3 4) (types top) unnamed unnamed) _ (λ r. omega (arith, r .0, r .1))
-      (by-form a b c l (form 7 (exactly 5) (types top) unnamed bytes) _ (λ r. omega (arith, r .0, r .1))
+      (by-form a b c l (form 7 (between 3 4) (typeRange top) unnamed unnamed) _ (λ r. omega (arith, r .0, r .1))
+      (by-form a b c l (form 7 (exactly 5) (typeRange top) unnamed bytes) _ (λ r. omega (arith, r .0, r .1))
       no-form))
 
   pub mask-bounds : inFormOf (permissionForms top) 8 a b c l ≡ true → (1 ≤ a) × (a ≤ 63)

@@ -1,6 +1,5 @@
 -- The invariant is `ItemsRead`: the items so far are noted, and the rules from here give what they give from the start.
 use Prim.Native.Nat.{_-_}
-use mathlib.Core.Path.{ap, _∙_}
 use lib.ListN.{length}
 use denote.Ref.{now}
 use Rattle.rules.specs.Places.{schemaOf}
@@ -32,17 +31,17 @@ returns-2 c = let A = c .before .before .before .before .before .before .before 
 returns-3 : tie.Need-returns-3 Inv-loop μ-loop
 returns-3 c = let A = c .before .before .before .before .before .before .before .before .before .before .args in rw (c .refused3 .ensures) (judged-item (A .f) (now (A .p)) (now (A .schema)) (c .before .before .before .before .before .before .before .if1 .left) (c .before .before .before .before .before .before .loop .inv) (ahead (c .before .before .before)) (c .before .if3 .taken))
 
-note-rights-requires : tie.Need-note-rights-requires Inv-loop μ-loop
-note-rights-requires c κs = let s = c .before .before .before .before .before .before .loop .inv in let n = ahead (c .before .before .before) in let z = c .before .if3 .left in (n .room, reading-lengths s .0, item-small s n z, item-value s n z)
+store-rights-requires : tie.Need-store-rights-requires Inv-loop μ-loop
+store-rights-requires c κs = let s = c .before .before .before .before .before .before .loop .inv in let n = ahead (c .before .before .before) in let z = c .before .if3 .left in (n .room, reading-lengths s .0, item-small s n z, item-value s n z)
 
-note-scopes-requires : tie.Need-note-scopes-requires Inv-loop μ-loop
-note-scopes-requires c κs = (ahead (c .before .before .before .before .before) .room, reading-lengths (c .before .before .before .before .before .before .before .before .loop .inv) .1)
+store-scopes-requires : tie.Need-store-scopes-requires Inv-loop μ-loop
+store-scopes-requires c κs = (ahead (c .before .before .before .before .before) .room, reading-lengths (c .before .before .before .before .before .before .before .before .loop .inv) .1)
 
 loop-less : tie.Need-loop-less Inv-loop μ-loop
 loop-less c = item-less (c .before .before .before .before .before .before .before .before .before .loop .inv) (ahead (c .before .before .before .before .before .before)) (c .before .before .before .before .if3 .left)
 
 loop-again : tie.Need-loop-again Inv-loop μ-loop
-loop-again c = reading-on (c .before .before .before .before .before .before .before .before .before .loop .inv) (ahead (c .before .before .before .before .before .before)) (c .before .before .before .before .if3 .left) (c .before .before .note-rights .ensures) (c .note-scopes .ensures)
+loop-again c = reading-on (c .before .before .before .before .before .before .before .before .before .loop .inv) (ahead (c .before .before .before .before .before .before)) (c .before .before .before .before .if3 .left) (c .before .before .store-rights .ensures) (c .store-scopes .ensures)
 
 returns-4 : tie.Need-returns-4 Inv-loop μ-loop
 returns-4 c = let A = c .before .before .before .before .before .args in judged-end (A .f) (now (A .p)) (now (A .schema)) (c .before .before .if1 .left) (c .before .loop .inv) (c .loop-test .left)
@@ -51,5 +50,5 @@ pub judge-spec : {M : Type 1} → statement M
 judge-spec =
     tie.close
     (tie.spec Inv-loop μ-loop (λ c κs. search needs) returns loop-holds (λ c κs. search needs) (λ c κs. search needs) returns-2
-    (λ c κs. search needs) (λ c κs. search needs) returns-3 note-rights-requires note-scopes-requires (λ c. search needs)
+    (λ c κs. search needs) (λ c κs. search needs) returns-3 store-rights-requires store-scopes-requires (λ c. search needs)
     loop-less loop-again returns-4)

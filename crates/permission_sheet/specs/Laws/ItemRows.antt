@@ -6,11 +6,11 @@ use native.Mathlib.Omega.{arith}
 use native.Mathlib.Nat.{not-suc-le-zero, le-of-suc-le-suc}
 use lib.Dec.{eqb}
 use lib.ListN.{length, getD, length-take}
-use Rattle.rules.specs.Sheet.{Bytes}
+use Rattle.rules.specs.Sheet.{Bytes, bit}
 use Rattle.rules.specs.declared.Format.{Format}
 use Rattle.rules.specs.Decision.{rank, explicit}
-use Rattle.rules.specs.Laws.Decision.{weight}
-use Rattle.permission_sheet.specs.Noted.{Bounded, ItemRow, score, bit}
+use Rattle.rules.specs.Derived.{weight, score}
+use Rattle.permission_sheet.specs.Noted.{Bounded, ItemRow}
 use Rattle.permission_weight.specs.Weight.{rankOf, explicitOf, weightOf, scoreOf}
 use Rattle.permission_sheet.specs.Rows.{rightsRow, scopesRow}
 use Rattle.permission_weight.specs.Laws.{weight-small}
@@ -30,7 +30,11 @@ weight-is w p i = rw (explicit-by (eqb (i .target .a) 3) (eqb (i .target .a) 5))
 
 score-is : (w : ℕ) (p : Bytes) (i : ItemLines) → score (itemOf w p i) ≡ scoreOf (weightOf (i .head .a) (i .user .a) (i .target .a)) (i .head .c)
 unfolding score scoreOf itemOf
-score-is w p i = ap (λ (m : ℕ). cond (eqb (i .head .c) 1) (m * 2 + 2) (m * 2 + 3)) (weight-is w p i)
+score-is w p i = ap (λ (m : ℕ). m * 2 + cond (eqb (i .head .c) 1) 2 3) (weight-is w p i) ∙ go (eqb (i .head .c) 1)
+  where
+    go : (g : Bool) → weightOf (i .head .a) (i .user .a) (i .target .a) * 2 + cond g 2 3 ≡ cond g (weightOf (i .head .a) (i .user .a) (i .target .a) * 2 + 2) (weightOf (i .head .a) (i .user .a) (i .target .a) * 2 + 3)
+    go true = refl
+    go false = refl
 
 -- ---- the rows
 

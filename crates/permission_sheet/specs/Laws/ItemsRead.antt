@@ -5,7 +5,7 @@ use mathlib.Core.List.{List, [], _∷_, _++_, map, map-append}
 use native.Mathlib.Omega.{arith}
 use native.Mathlib.Nat.{not-suc-le-zero}
 use native.Mathlib.Decide.{decLt}
-use lib.ListN.{length, getD, drop, replicate, length-append, length-map, List·getD-append, List·getD-map}
+use lib.ListN.{length, getD, replicate, length-append, length-map, List·getD-append, List·getD-map}
 use lib.Seq.{getD-at}
 use borrow.Author.Tests.{le-ltb, lt-ltb, eq-eqb, ne-eqb}
 use Rattle.rules.specs.Sheet.{Bytes, lines}
@@ -15,13 +15,14 @@ use Rattle.rules.specs.Judge.{Verdict, accept, refuse, refusalOf}
 use Rattle.rules.specs.Permission.{Item, permissionGrammar, item, items, permissionsOf}
 use Rattle.rules.specs.Places.{linesAt, partsOf, schemaOf}
 use Rattle.rules.specs.Laws.Judge.{refused-not, accepted-is}
-use Rattle.permission_sheet.specs.Noted.{PermissionsJudged, PermissionsNoted, Table, FirstItems, ItemRow, blank, refused}
+use Rattle.permission_sheet.specs.Noted.{ALL-RIGHTS, ALL-SCOPES, PermissionsJudged, PermissionsNoted, Table, FirstItems, ItemRow, itemsRefused}
 use Rattle.rules.specs.Columns.{permissionForms}
+use Rattle.rules.specs.Derived.{noItem, putAt}
 use Rattle.sheet_due.specs.Lines.{seenAt, misplacedBy, noLine}
 use Rattle.sheet_due.specs.Laws.Lines.{after, misplaced-at, misplaced-some}
 use Rattle.permission_item.specs.Item.{itemLines, itemOf}
 use Rattle.permission_item.specs.Laws.Item.{item-is, TookItem, took-item, item-further, item-within}
-use Rattle.permission_sheet.specs.Rows.{rightsRow, scopesRow, putAt}
+use Rattle.permission_sheet.specs.Rows.{rightsRow, scopesRow}
 use Rattle.permission_sheet.specs.Laws.End.{not-at-end, at-end}
 use Rattle.permission_sheet.specs.Laws.Rows.{filled, filled-none, filled-length, filled-rest, filled-more, filled-at}
 use Rattle.permission_sheet.specs.Laws.ItemRows.{rights-long, scopes-long, row-is}
@@ -58,7 +59,7 @@ each-more P d xs x h e k l = go (decLt k (length xs))
     go (yes q) = subst P (sym (List·getD-append xs (x ∷ []) d k q)) (h k q)
     go (no q) = subst P (sym (getD-at xs x [] d k (omega (arith, length-append xs (x ∷ []))))) e
 
-pub reading-start : (f : Format) (p : Bytes) (S : Schema) → ItemsRead f p S 0 0 (replicate 2048 0) (replicate 1792 0)
+pub reading-start : (f : Format) (p : Bytes) (S : Schema) → ItemsRead f p S 0 0 (replicate ALL-RIGHTS 0) (replicate ALL-SCOPES 0)
 reading-start f p S = record {
   its = [];
   counted = refl;
@@ -80,7 +81,7 @@ module _ {f : Format} {p : Bytes} {S : Schema} {count at : ℕ} {rights scopes :
   abbrev w : ℕ
   w = f .width
 
-  pub reading-lengths : (length rights ≡ 2048) × (length scopes ≡ 1792)
+  pub reading-lengths : (length rights ≡ ALL-RIGHTS) × (length scopes ≡ ALL-SCOPES)
   reading-lengths = (
     ap length (s .rights-are) ∙ filled-length (rightsRow p) 8 (rights-long p) 256 (s .its) (s .few),
     ap length (s .scopes-are) ∙ filled-length scopesRow 7 scopes-long 256 (s .its) (s .few),
@@ -149,7 +150,7 @@ module _ {f : Format} {p : Bytes} {S : Schema} {count at : ℕ} {rights scopes :
       go zero = at-end w p at (map (itemOf w p) (s .its)) _ h
       go (suc n) = at-end w p at (map (itemOf w p) (s .its)) _ h
 
-  item-at : (k : ℕ) → getD (map (itemOf w p) (s .its)) k blank ≡ itemOf w p (getD (s .its) k none)
+  item-at : (k : ℕ) → getD (map (itemOf w p) (s .its)) k noItem ≡ itemOf w p (getD (s .its) k none)
   unfolding itemOf partsOf
   item-at k = List·getD-map (itemOf w p) (s .its) k none
 
@@ -186,12 +187,12 @@ module _ {f : Format} {p : Bytes} {S : Schema} {count at : ℕ} {rights scopes :
 -- ---- what is given
 
 module _ (f : Format) (p : Bytes) (schema : List ℕ) where
-  judged-refused : {n : ℕ} {rights scopes : List ℕ} → FirstItems f p (schemaOf schema) rights scopes → permissionsOf f (schemaOf schema) p ≡ refuse n → (n ≡ 0 → ⊥) → PermissionsJudged f p schema (refused n) rights scopes
+  judged-refused : {n : ℕ} {rights scopes : List ℕ} → FirstItems f p (schemaOf schema) rights scopes → permissionsOf f (schemaOf schema) p ≡ refuse n → (n ≡ 0 → ⊥) → PermissionsJudged f p schema (itemsRefused n) rights scopes
   judged-refused {n} b e z = record {
     refusal = sym (ap refusalOf e);
     accepted = λ q. absurd (z q);
     noted = λ is q. absurd (refused-not n is (sym e ∙ q));
-    nothing = λ m q. let h : n ≡ m = cc in (ap refused h, b);
+    nothing = λ m q. let h : n ≡ m = cc in (ap itemsRefused h, b);
   }
 
   judged-accepted : {r : NotedItems} {rights scopes : List ℕ} {is : List Item} → permissionsOf f (schemaOf schema) p ≡ accept is → PermissionsNoted f p is r rights scopes → PermissionsJudged f p schema r rights scopes
@@ -203,7 +204,7 @@ module _ (f : Format) (p : Bytes) (schema : List ℕ) where
   }
 
   -- too long
-  pub judged-long : 65536 < length p → PermissionsJudged f p schema (refused 11) (replicate 2048 0) (replicate 1792 0)
+  pub judged-long : 65536 < length p → PermissionsJudged f p schema (itemsRefused 11) (replicate ALL-RIGHTS 0) (replicate ALL-SCOPES 0)
   unfolding permissionsOf
   judged-long h = judged-refused (reading-begun (reading-start f p (schemaOf schema))) (rw (lt-ltb 65536 (length p) h)) (λ e. omega arith)
 
@@ -218,9 +219,9 @@ module _ (f : Format) (p : Bytes) (schema : List ℕ) where
       judged-end l = judged-accepted (by-items (items-end s l)) (reading-noted s)
 
       -- over the count
-      pub judged-over : at < length p → 256 ≤ count → {n : ℕ} → n ≡ misplacedBy 10 (seenAt (permissionForms (f .top)) (f .width) p at) → PermissionsJudged f p schema (refused n) rights scopes
+      pub judged-over : at < length p → 256 ≤ count → {n : ℕ} → n ≡ misplacedBy 10 (seenAt (permissionForms (f .top)) (f .width) p at) → PermissionsJudged f p schema (itemsRefused n) rights scopes
       judged-over g l e = rw e (judged-refused (reading-begun s) (by-items (items-over s g l)) (misplaced-some 10 (seenAt (permissionForms (f .top)) (f .width) p at)))
 
       -- at an item that is refused
-      pub judged-item : {i : ItemLines} → ItemAhead f p (schemaOf schema) count at i → (i .refusal ≡ 0 → ⊥) → PermissionsJudged f p schema (refused (i .refusal)) rights scopes
+      pub judged-item : {i : ItemLines} → ItemAhead f p (schemaOf schema) count at i → (i .refusal ≡ 0 → ⊥) → PermissionsJudged f p schema (itemsRefused (i .refusal)) rights scopes
       judged-item n z = judged-refused (reading-begun s) (by-items (item-refused s n z)) z

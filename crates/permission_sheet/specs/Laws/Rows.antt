@@ -7,7 +7,7 @@ use native.Mathlib.Nat.{add-suc, add-zero, not-suc-le-zero, le-of-suc-le-suc, mu
 use lib.ListN.{length, getD, set, drop, replicate, length-append, length-replicate, replicate-append-replicate, List·getD-append}
 use lib.Seq.{sets, sets-eq, drop-at, take-append-seam, drop-append-add, getD-append-add}
 use Rattle.rules.specs.Lists.{gather}
-use Rattle.permission_sheet.specs.Rows.{putAt}
+use Rattle.rules.specs.Derived.{putAt}
 
 -- ---- a row into an array
 

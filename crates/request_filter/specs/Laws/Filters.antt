@@ -22,7 +22,7 @@ use Rattle.request_piece.specs.declared.Progress.{Progress}
 use Rattle.request_piece.specs.declared.Progress.the-variants as Progress
 use Rattle.request_piece.specs.declared.Progress.the-variants.{Read}
 use Rattle.request_filter.specs.declared.Node.{Node}
-use Rattle.request_filter.specs.Filters.{byNode, filterAt, itemOf, nodeAt, nodeBy, nodeOf, partsAt}
+use Rattle.request_filter.specs.Filters.{byNode, filterAt, itemNode, nodeAt, nodeBy, nodeOf, partsAt}
 
 -- ---- one turn of a loop
 
@@ -66,7 +66,7 @@ abbrev FilterFollows : Grammar → ℕ → Bytes → ℕ → ℕ → ℕ → Typ
 FilterFollows G w q d at left = Follows w q (filterReader G w q d at left) (filterAt G w q d at left)
 
 -- an item has no parts
-item-step : (one : ℕ → ℕ → Progress) (st : Progress) → byNode one (itemOf st) ≡ st
+item-step : (one : ℕ → ℕ → Progress) (st : Progress) → byNode one (itemNode st) ≡ st
 item-step one (Read next left) = refl
 item-step one (Progress.Refused n) = refl
 

@@ -4,7 +4,7 @@ use mathlib.Core.Path.{_≡_, refl}
 use mathlib.Core.Bool.{true}
 use native.Mathlib.Omega.{arith}
 use Rattle.rules.specs.Sheet.{Line}
-use Rattle.rules.specs.Columns.{form, between, exactly, unnamed, free, types, parts, requestForms}
+use Rattle.rules.specs.Columns.{form, between, exactly, unnamed, free, typeRange, parts, requestForms}
 use Rattle.rules.specs.Judge.{Grammar}
 use Rattle.rules.specs.Request.{requestGrammar}
 use Rattle.sheet_form.specs.Columns.{inFormOf}
@@ -40,7 +40,7 @@ module _ (top a b c l : ℕ) where
 
   ordering-columns : inFormOf (requestForms top) 16 a b c l ≡ true → 1 ≤ a
   unfolding requestForms inFormOf
-  ordering-columns = by-form a b c l (form 16 (types top) (between 0 1) unnamed unnamed) _ (λ r. r .0 .0) no-form
+  ordering-columns = by-form a b c l (form 16 (typeRange top) (between 0 1) unnamed unnamed) _ (λ r. r .0 .0) no-form
 
 pub request-bounds : (top : ℕ) → Bounds (requestGrammar top)
 request-bounds top = record { requester = requester-columns top; base = base-columns top; selection = selection-columns top; ordering = ordering-columns top; sound = λ x. refl }

@@ -6,7 +6,7 @@ use mathlib.Core.Option.{Option, none, some}
 use mathlib.Core.List.{map}
 use native.Mathlib.Omega.{arith}
 use lib.Dec.{eqb}
-use lib.ListN.{length, length-map}
+use lib.ListN.{length-map}
 use borrow.Author.Tests.{eq-eqb, ne-eqb, eqb-true, eqb-false}
 use Rattle.rules.specs.Sheet.{Bytes, Sheet}
 use Rattle.rules.specs.Sheet as Rules
@@ -29,9 +29,8 @@ use Rattle.request_piece.specs.declared.Progress.the-variants.{Read, Refused}
 use Rattle.request_filter.specs.Filters.{filterAt}
 use Rattle.request_filter.specs.Laws.Filters.{filter-follow}
 use Rattle.request_operation.specs.declared.Body.{Body}
-use Rattle.request_operation.specs.declared.Scope.{Scope}
-use Rattle.request_operation.specs.Operations.{reachedBy, filterFrom, scopeAt, selectionAt, assertionAt, searchScope, readAt, compareAt, listAt, searchAt, bodyAt}
-use Rattle.request_sheet.specs.declared.Asked.{Asked}
+use Rattle.request_operation.specs.declared.SearchLines.{SearchLines}
+use Rattle.request_operation.specs.Operations.{reachedBy, filterFrom, searchLinesAt, selectionAt, assertionAt, searchScope, readAt, compareAt, listAt, searchAt, bodyAt}
 use Rattle.request_sheet.specs.Whole.{editionIn, asked}
 use Rattle.request_sheet.specs.Noted.{NotedSelection, NotedOperation}
 use Rattle.request_sheet.specs.Laws.Bounds.{Bounds}
@@ -66,7 +65,7 @@ module _ (G : Grammar) (w : ℕ) (q : Bytes) where
 -- ---- K 16 and K 15
 
 -- what the code notes of K 16
-abbrev orderingAt : Scope → Option Ordering
+abbrev orderingAt : SearchLines → Option Ordering
 orderingAt x = orderingBy (x .ordering .a) (eqb (x .ordering .b) 1)
 
 module _ (G : Grammar) (bounds : Bounds G) (w : ℕ) (q : Bytes) (r : Reached) where
@@ -107,10 +106,10 @@ module _ (G : Grammar) (bounds : Bounds G) (w : ℕ) (q : Bytes) (r : Reached) w
   some-ordering y l = rw (ne-eqb (y .a) 0 (λ z. omega arith))
 
   -- what the rules take of both lines, the code finds
-  scope-is : {A : Type 0} (next : Option Ordering → Rules.Line → Sheet → Verdict A) → let x = scopeAt G w q r in
+  scope-is : {A : Type 0} (next : Option Ordering → Rules.Line → Sheet → Verdict A) → let x = searchLinesAt G w q r in
       after (r .refusal) (ordering G (linesAt w q (r .next)) (λ o s. due G 15 s (next o)))
       ≡ after (x .subset .refusal) (next (orderingAt x) (lineOf q (x .subset .line)) (linesAt w q (x .subset .line .next)))
-  unfolding ordering scopeAt
+  unfolding ordering searchLinesAt
   scope-is {A} next = go (eqb (first .refusal) 0) refl (follows 16 s) refl
     where
       s : Sheet
@@ -132,7 +131,7 @@ module _ (G : Grammar) (bounds : Bounds G) (w : ℕ) (q : Bytes) (r : Reached) w
       last = dueAt G w q (afterDue second) 15
 
       go : (t : Bool) → eqb (first .refusal) 0 ≡ t → (u : Bool) → follows 16 s ≡ u
-          → let x : Scope = cond t (record { ordering = noLine; subset = first }) (record { ordering = second .line; subset = last }) in
+          → let x : SearchLines = cond t (record { ordering = noLine; subset = first }) (record { ordering = second .line; subset = last }) in
           after (r .refusal) (cond u (due G 16 s K16) (K15 none s))
           ≡ after (x .subset .refusal) (next (orderingAt x) (lineOf q (x .subset .line)) (linesAt w q (x .subset .line .next)))
       go true e true f = absurd (false≢true (sym (kind-follows 15 16 (eqb-true (first .refusal) 0 e)) ∙ f))
@@ -149,12 +148,12 @@ module _ (G : Grammar) (bounds : Bounds G) (w : ℕ) (q : Bytes) (r : Reached) w
           due-is G w q r 15 (next none) ∙ rw (same, e)
 
   -- no refusal of either is none before them
-  scope-clear : scopeAt G w q r .subset .refusal ≡ 0 → r .refusal ≡ 0
-  unfolding scopeAt
+  scope-clear : searchLinesAt G w q r .subset .refusal ≡ 0 → r .refusal ≡ 0
+  unfolding searchLinesAt
   scope-clear = go (eqb (dueAt G w q r 15 .refusal) 0) refl
     where
       go : (t : Bool) → eqb (dueAt G w q r 15 .refusal) 0 ≡ t
-          → let x : Scope = cond t (record { ordering = noLine; subset = dueAt G w q r 15 }) (record { ordering = dueAt G w q r 16 .line; subset = dueAt G w q (afterDue (dueAt G w q r 16)) 15 }) in
+          → let x : SearchLines = cond t (record { ordering = noLine; subset = dueAt G w q r 15 }) (record { ordering = dueAt G w q r 16 .line; subset = dueAt G w q (afterDue (dueAt G w q r 16)) 15 }) in
           x .subset .refusal ≡ 0 → r .refusal ≡ 0
       go true e z = took G w q r 15 z .clear
       go false e z = took G w q r 16 (took G w q (afterDue (dueAt G w q r 16)) 15 z .clear) .clear

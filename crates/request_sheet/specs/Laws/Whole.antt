@@ -26,7 +26,7 @@ use Rattle.sheet_due.specs.declared.Group.{Group}
 use Rattle.request_operation.specs.Operations.{bodyAt}
 use Rattle.request_operation.specs.declared.Body.{Body}
 use Rattle.request_sheet.specs.declared.Asked.{Asked}
-use Rattle.request_sheet.specs.Noted.{NotedName, NotedOperation, RequestNoted, refused, RequestJudged}
+use Rattle.request_sheet.specs.Noted.{NotedName, NotedOperation, RequestNoted, requestRefused, RequestJudged}
 use Rattle.request_sheet.specs.Whole.{asked, endBy, orRefused, withBody, requesterAt, baseAt, askedOf, orderableBy}
 use Rattle.request_sheet.specs.Laws.Bounds.{Bounds, request-bounds}
 use Rattle.request_sheet.specs.Laws.Operations.{Leads, body-leads}
@@ -36,11 +36,11 @@ record Meets (G : Grammar) (w : ℕ) (q : Bytes) (v : Verdict Request) (r : Aske
   refusal : r .refusal ≡ refusalOf v
   noted : (x : Request) → v ≡ accept x → RequestNoted G w q x r
   accepted : r .refusal ≡ 0 → (x : Request) × (v ≡ accept x)
-  nothing : (r .refusal ≡ 0 → ⊥) → r ≡ refused (r .refusal)
+  nothing : (r .refusal ≡ 0 → ⊥) → r ≡ requestRefused (r .refusal)
 
 module _ (G : Grammar) (bounds : Bounds G) (w : ℕ) (q : Bytes) where
   -- a refusal
-  meets-refused : (n : ℕ) → (n ≡ 0 → ⊥) → Meets G w q (refuse n) (refused n)
+  meets-refused : (n : ℕ) → (n ≡ 0 → ⊥) → Meets G w q (refuse n) (requestRefused n)
   meets-refused n h = record { refusal = refl; noted = λ x e. absurd (refused-not n x e); accepted = λ z. absurd (h z); nothing = λ z. refl }
 
   -- a refusal, or what follows
@@ -126,7 +126,7 @@ module _ (G : Grammar) (bounds : Bounds G) (w : ℕ) (q : Bytes) where
       atEnd (record { requester = record { level = requester .line .a; name = nameOf (followers w q requester) }; base = nameOf base; operation = o }) s (misplaced G s))
 
   asked-by : (t : Bool) → ltb 8192 (length q) ≡ t
-      → Meets G w q (refuseIf t 21 (request G (linesAt w q 0))) (cond t (refused 21) (orRefused (base .refusal) (withBody G w q (requester .line) (base .line) body)))
+      → Meets G w q (refuseIf t 21 (request G (linesAt w q 0))) (cond t (requestRefused 21) (orRefused (base .refusal) (withBody G w q (requester .line) (base .line) body)))
   asked-by true e = meets-refused 21 (λ z. omega arith)
   asked-by false e = rw request-is (meets-after (base .refusal) (body-meets (ltb-false 8192 (length q) e)))
 
@@ -146,13 +146,13 @@ module _ (G : Grammar) (bounds : Bounds G) (w : ℕ) (q : Bytes) (S : Schema) wh
   ordered-accepted x r m = rw (ordering-noted (x .operation) r (m .noted x refl .operation)) (go (eqb (r .«order_type») 0) (ofSyntax S ordered (r .«order_type»)) refl)
     where
       go : (t u : Bool) → ofSyntax S ordered (r .«order_type») ≡ u
-          → Meets G w q (refuseIf (not (hasOrder S (cond t none (some (record { type = r .«order_type»; falling = r .falling }))))) 24 (accept x)) (cond t r (cond u r (refused 24)))
+          → Meets G w q (refuseIf (not (hasOrder S (cond t none (some (record { type = r .«order_type»; falling = r .falling }))))) 24 (accept x)) (cond t r (cond u r (requestRefused 24)))
       go true u e = m
       go false true e = rw e m
       go false false e = rw e (meets-refused G bounds w q 24 (λ z. omega arith))
 
   -- a refused request orders nothing
-  kept : (n : ℕ) (r : Asked) → r ≡ refused n → r ≡ orderableBy S r
+  kept : (n : ℕ) (r : Asked) → r ≡ requestRefused n → r ≡ orderableBy S r
   unfolding orderableBy
   kept n r e = rw e
 

@@ -11,7 +11,7 @@ use lib.Dec.{eqb}
 use Rattle.rules.specs.Lists.{any, keep}
 use Rattle.rules.specs.Sheet.{Line}
 use Rattle.rules.specs.Name.{Schema, Name, sameName, covers, childOf}
-use Rattle.rules.specs.Directory.{Stored, blank, nameAt, Directory, Entry, entryOf, entries, Alias}
+use Rattle.rules.specs.Directory.{Stored, blank, nameAt, Directory, Entry, entryOf, entriesIn, Alias}
 use Rattle.rules.specs.Decision.{Setting}
 use Rattle.rules.specs.Request.{Search, list, search}
 use Rattle.rules.specs.Arrange.{arranged}
@@ -20,8 +20,7 @@ use Rattle.rules.specs.Laws.Tests.{and-left}
 use Rattle.rules.specs.Laws.Lists.{any-at, any-none, any-weaken, keep-none}
 use Rattle.rules.specs.Laws.Name.{covers-snoc, same-covers, same-length}
 use Rattle.rules.specs.Laws.Keys.{nothing-arranged}
-use Rattle.rules.specs.Laws.Each.{Each}
-use Rattle.rules.specs.Laws.Directory.{Shallow, Accepted}
+use Rattle.rules.specs.Derived.{Each, Shallow, Accepted}
 
 -- an entry has the name
 abbrev pub present′ : Schema → List Stored → Name → Bool
@@ -92,26 +91,26 @@ none-longer S (x ∷ xs) k n l = go (sameName S n (x .name)) refl (none-longer S
 
 module _ (σ : Setting) (d : Directory) (e : σ .schema ≡ d .schema) (ok : Accepted (d .schema) (d .entries))
     (n : Name) (root : n ≡ [] → ⊥) (absent : present′ (σ .schema) (d .entries) n ≡ false) where
-  below-none : any (λ x. covers (σ .schema) n (x .name)) (entries d) ≡ false
-  unfolding entries
+  below-none : any (λ x. covers (σ .schema) n (x .name)) (entriesIn d) ≡ false
+  unfolding entriesIn
   below-none = nothing-below (σ .schema) (d .entries) (subst (λ (S : Schema). Accepted S (d .entries)) (sym e) ok) n root absent
 
-  nothing-returned : (op limit : ℕ) (hits : List (List Line)) → hits ≡ [] → returned σ (entries d) op n limit hits ≡ noSuchObject σ (entries d) op n
-  unfolding returned disclosed entries
+  nothing-returned : (op limit : ℕ) (hits : List (List Line)) → hits ≡ [] → returned σ (entriesIn d) op n limit hits ≡ noSuchObject σ (entriesIn d) op n
+  unfolding returned disclosed entriesIn
   nothing-returned op limit hits q =
       rw (q, any-weaken (disclosed σ n) (λ x. sameName (σ .schema) n (x .name)) (λ x. and-left _ _) (map entryOf (d .entries)) absent)
 
   -- a test that only names below pass keeps none
-  none-kept : (p : Entry → Bool) → ((x : Entry) → p x ≡ true → covers (σ .schema) n (x .name) ≡ true) → keep p (entries d) ≡ []
-  none-kept p h = keep-none p (entries d) (any-weaken p (λ x. covers (σ .schema) n (x .name)) h (entries d) below-none)
+  none-kept : (p : Entry → Bool) → ((x : Entry) → p x ≡ true → covers (σ .schema) n (x .name) ≡ true) → keep p (entriesIn d) ≡ []
+  none-kept p h = keep-none p (entriesIn d) (any-weaken p (λ x. covers (σ .schema) n (x .name)) h (entriesIn d) below-none)
 
-  pub list-absent : (as′ : List Alias) (limit : ℕ) → answer σ (entries d) as′ n (list limit) ≡ noSuchObject σ (entries d) 3 n
+  pub list-absent : (as′ : List Alias) (limit : ℕ) → answer σ (entriesIn d) as′ n (list limit) ≡ noSuchObject σ (entriesIn d) 3 n
   unfolding answer listHits listed childOf
   list-absent as′ limit =
       nothing-returned 3 limit _ (ap (map (listHit σ as′ n))
       (none-kept (listed σ n) (λ x r. and-left (covers (σ .schema) n (x .name)) _ (and-left (childOf (σ .schema) n (x .name)) _ r))))
 
-  pub search-absent : (as′ : List Alias) (r : Search) → answer σ (entries d) as′ n (search r) ≡ noSuchObject σ (entries d) 4 n
+  pub search-absent : (as′ : List Alias) (r : Search) → answer σ (entriesIn d) as′ n (search r) ≡ noSuchObject σ (entriesIn d) 4 n
   unfolding answer searchHits found candidate
   search-absent as′ r =
       nothing-returned 4 (r .limit) _ (ap (λ (xs : List Entry). map (searchHit σ r) (arranged σ (r .ordering) xs))

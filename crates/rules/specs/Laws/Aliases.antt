@@ -17,7 +17,8 @@ use Rattle.rules.specs.Aliases.{through, leading, followed, resolved, al
 use Rattle.rules.specs.Theorems.{ResolvedAlike}
 use Rattle.rules.specs.Laws.Tests.{and-left, and-right, both}
 use Rattle.rules.specs.Laws.Name.{samePart-join, samePart-sym, covers-nil, covers-snoc, snoc-nil}
-use Rattle.rules.specs.Laws.Directory.{Accepted, accepted-means, one-number}
+use Rattle.rules.specs.Derived.{Accepted}
+use Rattle.rules.specs.Laws.Directory.{accepted-means, one-number}
 use Rattle.rules.specs.Laws.Members.{any-members, first-members, gathered-at, gathers-at}
 
 -- ---- aliases by their entries

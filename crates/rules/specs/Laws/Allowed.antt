@@ -7,8 +7,8 @@ use lib.Dec.{eqb}
 use borrow.Author.Tests.{eqb-true}
 use Rattle.rules.specs.Name.{Schema, Part, allowed}
 use Rattle.rules.specs.Directory.{Stored, Held, hold, heldOf, Entry, entryOf}
-use Rattle.rules.specs.Laws.Each.{Each, each-map, each-mapped}
-use Rattle.rules.specs.Laws.Directory.{ValuesAllowed, Accepted}
+use Rattle.rules.specs.Derived.{Each, ValuesAllowed, Accepted}
+use Rattle.rules.specs.Laws.Each.{each-map, each-mapped}
 
 module _ (S : Schema) where
   abbrev pub HeldAllowed : Held → Type 0

@@ -20,7 +20,8 @@ use Rattle.rules.specs.Request.{Selection, Search, Operation, read, comp
 use Rattle.rules.specs.Aliases.{resolved, aliased}
 use Rattle.rules.specs.Arrange.{arranged}
 use Rattle.rules.specs.Answer.{operationNumber, outcomeNumber, outcome, entryLines, valueLines, limited, selected, orName, typeLines, information, readEntry, compareEntry, listed, listHit, found, searchHit, disclosed, matchedName, noSuchObject, named, opened, returned, listHits, searchHits, answer, answerResolved, answerTo}
-use Rattle.rules.specs.Laws.Each.{Each, IfFound, each-map, each-append, each-given, each-cond, each-take, each-drop, each-keep, each-first, each-mapped, each-gathered}
+use Rattle.rules.specs.Derived.{Each, IfFound}
+use Rattle.rules.specs.Laws.Each.{each-map, each-append, each-given, each-cond, each-take, each-drop, each-keep, each-first, each-mapped, each-gathered}
 use Rattle.rules.specs.Laws.Low.{Low}
 use Rattle.rules.specs.Laws.EntriesLow.{Short, PartLow, NameLow, HeldLow, EntryLow}
 use Rattle.rules.specs.Laws.Keys.{each-arranged}

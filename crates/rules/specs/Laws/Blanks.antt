@@ -10,14 +10,9 @@ use borrow.Author.Tests.{leb-true, eqb-true, ne-eqb, le-leb, lt-leb}
 use Rattle.rules.specs.Lists.{isEmpty, given}
 use Rattle.rules.specs.Sheet.{Bytes, strip}
 use Rattle.rules.specs.Value.{text, small, blankFirst, shorten, trim, orBlank, tidied, folded, normal}
+use Rattle.rules.specs.Derived.{words}
 
 -- ---- in one pass
-
--- The bytes of a text after those written: a blank is written only where something is written already and something follows it.
--- `started`: something is written. `gap`: a blank is due before what follows.
-unfoldable pub words : Bool → Bool → Bytes → Bytes
-words started gap [] = []
-words started gap (c ∷ cs) = cond (eqb c 32) (words started started cs) (given gap (32 ∷ []) ++ (c ∷ words true false cs))
 
 module _ (started gap : Bool) (c : ℕ) (cs : Bytes) where
   pub words-blank : c ≡ 32 → words started gap (c ∷ cs) ≡ words started started cs

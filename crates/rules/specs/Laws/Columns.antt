@@ -7,7 +7,7 @@ use lib.Dec.{leb, eqb}
 use lib.ListN.{length}
 use borrow.Author.Tests.{leb-true, eqb-true}
 use Rattle.rules.specs.Sheet.{Line, line}
-use Rattle.rules.specs.Columns.{inRange, between, unnamed, free, Form, form, types, bytes, partForm, takes, inForm, directoryForms}
+use Rattle.rules.specs.Columns.{inRange, between, unnamed, free, Form, form, typeRange, bytes, partForm, takes, inForm, directoryForms}
 use Rattle.rules.specs.Laws.Tests.{and-left, and-right}
 use Rattle.rules.specs.Laws.Sheet.{no-bytes}
 
@@ -64,17 +64,17 @@ pub data DirectoryLine (top : ℕ) (x : Line) : Type 0 where
   isPart : PairLine 9 x → DirectoryLine top x
 
 module _ (top : ℕ) (x : Line) where
-  type-line : takes (form 1 (types top) (between 0 2) unnamed unnamed) x ≡ true → TypeLine top x
+  type-line : takes (form 1 (typeRange top) (between 0 2) unnamed unnamed) x ≡ true → TypeLine top x
   type-line e =
-      let r = columns (form 1 (types top) (between 0 2) unnamed unnamed) x e in
+      let r = columns (form 1 (typeRange top) (between 0 2) unnamed unnamed) x e in
       let c = eqb-true (x .c) 0 (r .3) in
       let l = eqb-true (length (x .bytes)) 0 (r .4) in
       let n = no-bytes (x .bytes) l in
       record { kind = r .0; is = λ i. line (sym (r .0) i) (x .a) (x .b) (sym c i) (sym n i); type = high 1 top (x .a) (r .1); syntax = high 0 2 (x .b) (r .2); c = c; none = l }
 
-  entry-line : takes (form 2 free (types top) (between 0 1) bytes) x ≡ true → EntryLine x
+  entry-line : takes (form 2 free (typeRange top) (between 0 1) bytes) x ≡ true → EntryLine x
   entry-line e =
-      let r = columns (form 2 free (types top) (between 0 1) bytes) x e in
+      let r = columns (form 2 free (typeRange top) (between 0 1) bytes) x e in
       record { kind = r .0; is = λ i. line (sym (r .0) i) (x .a) (x .b) (x .c) (x .bytes); mark = high 0 1 (x .c) (r .3); short = high 0 64 (length (x .bytes)) (r .4) }
 
   target-line : takes (form 36 unnamed (between 1 8) unnamed unnamed) x ≡ true → TargetLine x
@@ -86,9 +86,9 @@ module _ (top : ℕ) (x : Line) where
       let n = no-bytes (x .bytes) l in
       record { kind = r .0; is = λ i. line (sym (r .0) i) (sym a i) (x .b) (sym c i) (sym n i); a = a; few = high 1 8 (x .b) (r .2); c = c; none = l }
 
-  pair-line : (k : ℕ) → takes (form k (types top) unnamed unnamed bytes) x ≡ true → PairLine k x
+  pair-line : (k : ℕ) → takes (form k (typeRange top) unnamed unnamed bytes) x ≡ true → PairLine k x
   pair-line k e =
-      let r = columns (form k (types top) unnamed unnamed bytes) x e in
+      let r = columns (form k (typeRange top) unnamed unnamed bytes) x e in
       let b = eqb-true (x .b) 0 (r .2) in
       let c = eqb-true (x .c) 0 (r .3) in
       record { kind = r .0; is = λ i. line (sym (r .0) i) (x .a) (sym b i) (sym c i) (x .bytes); b = b; c = c; short = high 0 64 (length (x .bytes)) (r .4) }
@@ -97,8 +97,8 @@ module _ (top : ℕ) (x : Line) where
   unfolding inForm directoryForms
   directory-line e = go _ _ _ _ _ refl refl refl refl refl e
     where
-      go : (a b c t n : Bool) → takes (form 1 (types top) (between 0 2) unnamed unnamed) x ≡ a → takes (form 2 free (types top) (between 0 1) bytes) x ≡ b
-          → takes (form 3 (types top) unnamed unnamed bytes) x ≡ c → takes (form 36 unnamed (between 1 8) unnamed unnamed) x ≡ t → takes (partForm top) x ≡ n
+      go : (a b c t n : Bool) → takes (form 1 (typeRange top) (between 0 2) unnamed unnamed) x ≡ a → takes (form 2 free (typeRange top) (between 0 1) bytes) x ≡ b
+          → takes (form 3 (typeRange top) unnamed unnamed bytes) x ≡ c → takes (form 36 unnamed (between 1 8) unnamed unnamed) x ≡ t → takes (partForm top) x ≡ n
           → (a || (b || (c || (t || (n || false))))) ≡ true → DirectoryLine top x
       go true b c t n p q r s u e = isType (type-line p)
       go false true c t n p q r s u e = isEntry (entry-line q)

@@ -7,11 +7,12 @@ use mathlib.Core.Bool.{Bool, true, false, _&&_, _||_, not, cond, true≢false, f
 use mathlib.Core.List.{List, [], _∷_, _++_, List·Memᴰ, List·Memᴰ·head, List·Memᴰ·tail, List·Memᴰ·not-nil, List·Memᴰ·cases-cons, List·Memᴰ·append-cases, List·Memᴰ·eq-of-singleton, Memᴰ·append-left, Memᴰ·append-right, append-assoc, append-nil}
 use lib.Dec.{ltb, leb, eqb}
 use borrow.Author.Tests.{ltb-true, ltb-false, lt-ltb, eqb-true, eqb-false, leb-false}
-use Rattle.rules.specs.Lists.{given, any, all, keep}
+use Rattle.rules.specs.Lists.{given, any, keep}
 use Rattle.rules.specs.Sheet.{Bytes}
 use Rattle.rules.specs.Name.{Name, equal}
 use Rattle.rules.specs.Permission.{Item}
-use Rattle.rules.specs.Decision.{Setting, Thing, ofValue, baseCovers, whoFits, whatCovers, names, levelFits, applies, rank, explicit, highest, allGrant, granted}
+use Rattle.rules.specs.Decision.{Setting, Thing, ofValue, whatCovers, names, applies, rank, explicit, highest, allGrant, granted}
+use Rattle.rules.specs.Derived.{weight}
 use Rattle.rules.specs.Laws.Tests.{and-left, and-right, both, bool-ext, not-of, of-not}
 use Rattle.rules.specs.Laws.Name.{equal-join, equal-sym}
 
@@ -144,9 +145,6 @@ module _ (f g w : Item → ℕ)
                     sandwich a b = omega arith
 
 -- ---- the weight of an item
-
-unfoldable pub weight : Item → ℕ
-weight i = (i .precedence * 3 + rank i) * 2 + explicit i
 
 rank-small : (i : Item) → rank i < 3
 unfolding rank
@@ -340,10 +338,6 @@ unfolding granted
 granted-in-one-pass σ n x q =
     ap allGrant (by-weight (keep (applies σ n x q) (σ .items)))
     ∙ verdict (keep (applies σ n x q) (σ .items)) (weighAll (applies σ n x q) start (σ .items)) (weighAll-says (applies σ n x q) (σ .items) [] start start-says)
-
--- the items whose base covers the entry, whose "who" fits and whose level is enough: what is asked of the entry is decided by these
-unfoldable pub concerns : Setting → Name → Item → Bool
-concerns σ n i = baseCovers σ i n && (whoFits σ i n && levelFits σ i)
 
 unfoldable pub answers : Setting → Thing → ℕ → Item → Bool
 answers σ x q i = whatCovers σ i x && names σ i q

@@ -18,35 +18,14 @@ use Rattle.rules.specs.declared.Format.{Format}
 use Rattle.rules.specs.Name.{Schema, Part, part, Name, allowed, samePart, sameName}
 use Rattle.rules.specs.Judge.{accept}
 use Rattle.rules.specs.Directory
-use Rattle.rules.specs.Directory.{Target, Stored, withValues, withTarget, blank, nameAt, Reading, entriesOf, clashes, isAlias, underAlias, withLast, step, finish, nothing, directoryOf, Entry, entryOf, entries}
+use Rattle.rules.specs.Directory.{Target, Stored, withValues, withTarget, blank, nameAt, Reading, entriesOf, clashes, isAlias, underAlias, withLast, step, finish, nothing, directoryOf, Entry, entryOf}
+use Rattle.rules.specs.Derived.{Shallow, NamingAllowed, ValuesAllowed, Accepted, Each}
 use Rattle.rules.specs.Laws.Tests.{both}
 use Rattle.rules.specs.Laws.Lists.{Once, none-at, once-by-index}
 use Rattle.rules.specs.Laws.Name.{samePart-sym, sameName-join, nil-snoc, snoc-nil, snoc-snoc}
 use Rattle.rules.specs.Laws.Judge.{Run}
-use Rattle.rules.specs.Laws.Each.{Each, each-append}
+use Rattle.rules.specs.Laws.Each.{each-append}
 use Rattle.rules.specs.Laws.Step.{Taken, ofType, ofEntry, ofValue, ofTarget, ofPart, step-taken, finished, accepted-run}
-
-abbrev pub Shallow : Stored → Type 0
-Shallow e = length (e .name) ≤ 8
-
--- the naming value is one that its type's syntax allows
-abbrev pub NamingAllowed : Schema → Stored → Type 0
-NamingAllowed S e = allowed S (e .naming .type) (e .naming .value) ≡ true
-
--- each value is one that its type's syntax allows
-abbrev pub ValuesAllowed : Schema → Stored → Type 0
-ValuesAllowed S e = Each (λ p. allowed S (p .type) (p .value) ≡ true) (e .values)
-
--- of the directory's rules, those that names and the order of values rest on
-pub record Accepted (S : Schema) (es : List Stored) : Type 0 where
-  pub parents : (k : ℕ) → k < length es → getD es k blank .parent ≤ k
-  pub names : (k : ℕ) → k < length es → getD es k blank .name ≡ nameAt es (getD es k blank .parent) ++ (getD es k blank .naming ∷ [])
-  pub siblings : (i j : ℕ) → i < j → j < length es → getD es i blank .parent ≡ getD es j blank .parent
-      → samePart S (getD es i blank .naming) (getD es j blank .naming) ≡ true → ⊥
-  pub childless : (k : ℕ) → k < length es → underAlias es (getD es k blank .parent) ≡ false
-  pub depths : Each Shallow es
-  pub namings : Each (NamingAllowed S) es
-  pub values : Each (ValuesAllowed S) es
 
 -- ---- one entry more
 

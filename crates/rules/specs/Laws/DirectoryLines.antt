@@ -5,7 +5,7 @@ use mathlib.Core.Path.{_≡_, refl, sym, ap, ap₂, _∙_, subst}
 use mathlib.Core.Bool.{Bool, true, false, not, true≢false, false≢true}
 use mathlib.Core.Option.{Option, some}
 use mathlib.Core.List.{List, [], _∷_, _++_, map, append-assoc, append-nil}
-use lib.Dec.{ltb, eqb}
+use lib.Dec.{eqb}
 use lib.ListN.{length, length-append}
 use Rattle.rules.specs.Lists.{gather, isEmpty, optional}
 use Rattle.rules.specs.Sheet.{Bytes, Line, line, bit, Sheet, end, broken, row, rows, lines, print}
@@ -14,8 +14,8 @@ use Rattle.rules.specs.Columns.{inForm, directoryForms}
 use Rattle.rules.specs.Name.{AttributeType, Schema, Part, part, Name}
 use Rattle.rules.specs.Judge.{accept, nameLines}
 use Rattle.rules.specs.Directory
-use Rattle.rules.specs.Directory.{Target, nowhere, missing, parts, Stored, withTarget, Reading, entriesOf, marked, isAlias, isUnread, newEntry, withValue, withLast, step, finish, nothing, directoryOf, schemaLines, targetLines, storedLines, directoryLines}
-use Rattle.rules.specs.Laws.Each.{Each}
+use Rattle.rules.specs.Directory.{Target, nowhere, missing, parts, Stored, withTarget, Reading, entriesOf, aliasMark, isAlias, isUnread, newEntry, withValue, withLast, step, finish, nothing, directoryOf, schemaLines, targetLines, storedLines, directoryLines}
+use Rattle.rules.specs.Derived.{Each}
 use Rattle.rules.specs.Laws.Loops.{gather-append}
 use Rattle.rules.specs.Laws.Judge.{Run}
 use Rattle.rules.specs.Laws.Sheet.{AllRows, rows-each}
@@ -50,7 +50,7 @@ entry-more S es e =
     ∙ sym (append-assoc (schemaLines S) (gather storedLines es) (storedLines e))
 
 -- C of K 2
-mark-back : (c : ℕ) → c ≤ 1 → bit (isAlias (marked (eqb c 1))) ≡ c
+mark-back : (c : ℕ) → c ≤ 1 → bit (isAlias (aliasMark (eqb c 1))) ≡ c
 mark-back zero l = refl
 mark-back (suc zero) l = refl
 mark-back (suc (suc c)) l = absurd (omega arith)
@@ -117,11 +117,11 @@ step-grown st x next top (ofType f t) =
 step-grown st x next top (ofEntry f t) =
     let new = newEntry (entriesOf st) x in
     let alone : storedLines new ≡ x ∷ [] = unfold storedLines in
-    ap₂ (λ (c : ℕ) (l : List Line). line 2 (x .a) (x .b) c (x .bytes) ∷ l) (mark-back (x .c) (f .mark)) (unread-lines (marked (eqb (x .c) 1)) (unread (eqb (x .c) 1)))
+    ap₂ (λ (c : ℕ) (l : List Line). line 2 (x .a) (x .b) c (x .bytes) ∷ l) (mark-back (x .c) (f .mark)) (unread-lines (aliasMark (eqb (x .c) 1)) (unread (eqb (x .c) 1)))
     ∙ ap (λ (y : Line). y ∷ []) (f .is) in
     subst (Grown x st) (t .is) (entry-more (st .schema) (entriesOf st) new ∙ ap (λ (l : List Line). linesOf st ++ l) alone)
   where
-    unread : (b : Bool) → isUnread (marked b) ≡ true
+    unread : (b : Bool) → isUnread (aliasMark b) ≡ true
     unread true = refl
     unread false = refl
 step-grown st x next top (ofValue f t) =

@@ -11,10 +11,11 @@ use Rattle.rules.specs.Sheet.{Bytes, Line, line, lineBytes, print}
 use Rattle.rules.specs.declared.Format.{Format}
 use Rattle.rules.specs.Name.{Part, Name}
 use Rattle.rules.specs.Judge.{accept}
-use Rattle.rules.specs.Directory.{Stored, blank, nameAt, Directory, directoryOf, schemaLines, targetLines, storedLines, directoryLines, Held, hold, heldOf, Entry, entryOf, entries}
+use Rattle.rules.specs.Directory.{Stored, blank, nameAt, Directory, directoryOf, schemaLines, targetLines, storedLines, directoryLines, Held, hold, heldOf, Entry, entryOf, entriesIn}
 use Rattle.rules.specs.Laws.Judge.{not-refused}
 use Rattle.rules.specs.Laws.Sheet.{line-length}
-use Rattle.rules.specs.Laws.Each.{Each, each-map, each-append, each-before, each-after, each-cond, each-at, each-by-index, mapped-each, gathered-each}
+use Rattle.rules.specs.Derived.{Each}
+use Rattle.rules.specs.Laws.Each.{each-map, each-append, each-before, each-after, each-cond, each-at, each-by-index, mapped-each, gathered-each}
 use Rattle.rules.specs.Laws.Directory.{accepted-means}
 use Rattle.rules.specs.Laws.DirectoryLines.{accepted-back}
 use Rattle.rules.specs.Laws.Low.{Low, low-more, accepted-types, accepted-low}
@@ -134,8 +135,8 @@ module _ (f : Format) (s : Bytes) (d : Directory) (e : directoryOf f s ≡ accep
       omega (arith, l, q, p, print-count (f .width) (directoryLines d))
 
   -- in a form whose highest type is at most 65,536
-  pub entries-low : 256 ≤ f .top → f .top ≤ 65536 → Each EntryLow (entries d)
-  unfolding entries directoryLines
+  pub entries-low : 256 ≤ f .top → f .top ≤ 65536 → Each EntryLow (entriesIn d)
+  unfolding entriesIn directoryLines
   entries-low some few =
       let ok = accepted-means f s d e in
       let lines : Each (Low 65536) (directoryLines d) = low-more (f .top) 65536 few (directoryLines d) (accepted-low f s d e (f .top) some (accepted-types f s d e)) in

@@ -11,25 +11,8 @@ use borrow.Author.Tests.{eq-eqb, ne-eqb, eqb-true, eqb-false, ltb-true, ltb-fals
 use Rattle.rules.specs.Name.{Name}
 use Rattle.rules.specs.Permission.{Item}
 use Rattle.rules.specs.Decision.{Setting, Thing, applies, granted}
-use Rattle.rules.specs.Laws.Decision.{Standing, weight, weigh, weighAll, start, granted-in-one-pass}
-
--- beyond the items
-abbrev pub blank : Item
-blank = record { precedence = 0; level = 0; grants = false; below = false; base = []; who = 0; user = []; what = 0; type = 0; value = []; permissions = 0 }
-
--- the weight, and within a weight a denial before a grant
-unfoldable pub score : Item → ℕ
-score i = weight i * 2 + cond (i .grants) 2 3
-
--- the item at a place of the order
-abbrev pub itemAt : List Item → List ℕ → ℕ → Item
-itemAt is order p = getD is (getD order p 0) blank
-
--- all items, those of higher scores first, at the front of `order`
-pub record Ranked (is : List Item) (order : List ℕ) : Type 0 where
-  pub within : (p : ℕ) → p < length is → getD order p 0 < length is
-  pub complete : (k : ℕ) → k < length is → (p : ℕ) × (p < length is) × (getD order p 0 ≡ k)
-  pub falling : (p r : ℕ) → p ≤ r → r < length is → score (itemAt is order r) ≤ score (itemAt is order p)
+use Rattle.rules.specs.Derived.{noItem, score, itemAt, Ranked, weight}
+use Rattle.rules.specs.Laws.Decision.{Standing, weigh, weighAll, start, granted-in-one-pass}
 
 -- ---- the pass by scores
 
@@ -70,7 +53,7 @@ weigh-by s i = sym (go (s .best) (weight i) (s .clear) (i .grants) (ltb (s .best
 
 module _ (p : Item → Bool) where
   -- no more than any bound
-  most : (m : ℕ) (is : List Item) (s : Standing) → standing s ≤ m → ((k : ℕ) → k < length is → p (getD is k blank) ≡ true → score (getD is k blank) ≤ m) → standing (weighAll p s is) ≤ m
+  most : (m : ℕ) (is : List Item) (s : Standing) → standing s ≤ m → ((k : ℕ) → k < length is → p (getD is k noItem) ≡ true → score (getD is k noItem) ≤ m) → standing (weighAll p s is) ≤ m
   unfolding weighAll
   most m [] s h k = h
   most m (i ∷ is) s h k = go (p i) refl (λ t g. most m is t g (λ j l. k (suc j) (omega arith)))
@@ -90,13 +73,13 @@ module _ (p : Item → Bool) where
       go false ih = ih s
 
   -- no less than an item that passes
-  reached : (is : List Item) (s : Standing) (k : ℕ) → k < length is → p (getD is k blank) ≡ true → score (getD is k blank) ≤ standing (weighAll p s is)
+  reached : (is : List Item) (s : Standing) (k : ℕ) → k < length is → p (getD is k noItem) ≡ true → score (getD is k noItem) ≤ standing (weighAll p s is)
   unfolding weighAll
   reached [] s k l e = absurd (not-suc-le-zero l)
   reached (i ∷ is) s zero l e = rw e (omega (arith, least is (weigh s i), weigh-by s i))
   reached (i ∷ is) s (suc k) l e = reached is (cond (p i) (weigh s i) s) k (le-of-suc-le-suc l) e
 
-  none : (is : List Item) (s : Standing) → ((k : ℕ) → k < length is → p (getD is k blank) ≡ false) → weighAll p s is ≡ s
+  none : (is : List Item) (s : Standing) → ((k : ℕ) → k < length is → p (getD is k noItem) ≡ false) → weighAll p s is ≡ s
   unfolding weighAll
   none [] s h = refl
   none (i ∷ is) s h = rw (h 0 (omega arith)) (none is s (λ k l. h (suc k) (omega arith)))
@@ -129,15 +112,15 @@ score-some i = go (i .grants)
 
 module _ (σ : Setting) (n : Name) (x : Thing) (q : ℕ) where
   -- it decides
-  pub decided-by : (k : ℕ) → k < length (σ .items) → applies σ n x q (getD (σ .items) k blank) ≡ true
-      → ((j : ℕ) → j < length (σ .items) → applies σ n x q (getD (σ .items) j blank) ≡ true → score (getD (σ .items) j blank) ≤ score (getD (σ .items) k blank))
-      → granted σ n x q ≡ getD (σ .items) k blank .grants
+  pub decided-by : (k : ℕ) → k < length (σ .items) → applies σ n x q (getD (σ .items) k noItem) ≡ true
+      → ((j : ℕ) → j < length (σ .items) → applies σ n x q (getD (σ .items) j noItem) ≡ true → score (getD (σ .items) j noItem) ≤ score (getD (σ .items) k noItem))
+      → granted σ n x q ≡ getD (σ .items) k noItem .grants
   unfolding standing
   decided-by k l e h =
       granted-in-one-pass σ n x q ∙ sym (parity end) ∙ ap (λ (m : ℕ). eqb (m % 2) 0) same ∙ grants-by i
     where
       i : Item
-      i = getD (σ .items) k blank
+      i = getD (σ .items) k noItem
 
       end : Standing
       end = weighAll (applies σ n x q) start (σ .items)
@@ -149,7 +132,7 @@ module _ (σ : Setting) (n : Name) (x : Thing) (q : ℕ) where
           omega arith
 
   -- none does
-  pub undecided : ((j : ℕ) → j < length (σ .items) → applies σ n x q (getD (σ .items) j blank) ≡ false) → granted σ n x q ≡ false
+  pub undecided : ((j : ℕ) → j < length (σ .items) → applies σ n x q (getD (σ .items) j noItem) ≡ false) → granted σ n x q ≡ false
   undecided h = granted-in-one-pass σ n x q ∙ ap (λ (s : Standing). s .clear) (none (applies σ n x q) (σ .items) start h)
 
 -- ---- the first in the order
@@ -161,19 +144,19 @@ module _ (σ : Setting) (n : Name) (x : Thing) (q : ℕ) (order : List ℕ) (ran
       → granted σ n x q ≡ itemAt (σ .items) order p .grants
   decided-first p l e before = decided-by σ n x q (getD order p 0) (ranked .within p l) e (λ j b f. go j b f (ranked .complete j b))
     where
-      go : (j : ℕ) → j < length (σ .items) → applies σ n x q (getD (σ .items) j blank) ≡ true → ((r : ℕ) × (r < length (σ .items)) × (getD order r 0 ≡ j))
-          → score (getD (σ .items) j blank) ≤ score (itemAt (σ .items) order p)
+      go : (j : ℕ) → j < length (σ .items) → applies σ n x q (getD (σ .items) j noItem) ≡ true → ((r : ℕ) × (r < length (σ .items)) × (getD order r 0 ≡ j))
+          → score (getD (σ .items) j noItem) ≤ score (itemAt (σ .items) order p)
       go j b f t = by (ltb r p) refl
         where
           r : ℕ
           r = t .0
 
-          by : (s : Bool) → ltb r p ≡ s → score (getD (σ .items) j blank) ≤ score (itemAt (σ .items) order p)
+          by : (s : Bool) → ltb r p ≡ s → score (getD (σ .items) j noItem) ≤ score (itemAt (σ .items) order p)
           by true g =
-              absurd (true≢false (sym f ∙ ap (λ (k : ℕ). applies σ n x q (getD (σ .items) k blank)) (sym (t .2)) ∙ before r (ltb-true r p g)))
-          by false g = subst (λ (k : ℕ). score (getD (σ .items) k blank) ≤ score (itemAt (σ .items) order p)) (t .2) (ranked .falling p r (ltb-false r p g) (t .1))
+              absurd (true≢false (sym f ∙ ap (λ (k : ℕ). applies σ n x q (getD (σ .items) k noItem)) (sym (t .2)) ∙ before r (ltb-true r p g)))
+          by false g = subst (λ (k : ℕ). score (getD (σ .items) k noItem) ≤ score (itemAt (σ .items) order p)) (t .2) (ranked .falling p r (ltb-false r p g) (t .1))
 
   -- none applies
   pub decided-none : ((r : ℕ) → r < length (σ .items) → applies σ n x q (itemAt (σ .items) order r) ≡ false) → granted σ n x q ≡ false
   decided-none h =
-      undecided σ n x q (λ j b. let t = ranked .complete j b in ap (λ (k : ℕ). applies σ n x q (getD (σ .items) k blank)) (sym (t .2)) ∙ h (t .0) (t .1))
+      undecided σ n x q (λ j b. let t = ranked .complete j b in ap (λ (k : ℕ). applies σ n x q (getD (σ .items) k noItem)) (sym (t .2)) ∙ h (t .0) (t .1))

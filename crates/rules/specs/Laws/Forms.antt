@@ -9,7 +9,7 @@ use lib.ListN.{length}
 use borrow.Author.Tests.{le-leb, eqb-true}
 use Rattle.rules.specs.Lists.{any}
 use Rattle.rules.specs.Sheet.{Line}
-use Rattle.rules.specs.Columns.{Range, inRange, unnamed, exactly, between, free, types, bytes, form, takes, inForm, directoryForms, permissionForms, requestForms}
+use Rattle.rules.specs.Columns.{Range, inRange, unnamed, exactly, between, free, typeRange, bytes, form, takes, inForm, directoryForms, permissionForms, requestForms}
 use Rattle.rules.specs.Theorems.{typeOf}
 use Rattle.rules.specs.Laws.Tests.{and-cong}
 
@@ -26,13 +26,13 @@ module _ (x : Line) (top high : ℕ) (p : typeOf x ≤ top) (q : typeOf x ≤ hi
   of-kind k e = ap (λ (j : ℕ). kindType j (x .a) (x .b)) (eqb-true (x .kind) k e)
 
   -- the type in column A
-  in-a : (k : ℕ) (b c l : Range) → kindType k (x .a) (x .b) ≡ x .a → takes (form k (types top) b c l) x ≡ takes (form k (types high) b c l) x
+  in-a : (k : ℕ) (b c l : Range) → kindType k (x .a) (x .b) ≡ x .a → takes (form k (typeRange top) b c l) x ≡ takes (form k (typeRange high) b c l) x
   unfolding takes
   in-a k b c l is =
       and-cong (eqb (x .kind) k) _ _ (λ e. ap (λ (r : Bool). r && (inRange b (x .b) && (inRange c (x .c) && inRange l (length (x .bytes))))) (type-same (x .a) (of-kind k e ∙ is)))
 
   -- the type in column B
-  in-b : (k : ℕ) (a c l : Range) → kindType k (x .a) (x .b) ≡ x .b → takes (form k a (types top) c l) x ≡ takes (form k a (types high) c l) x
+  in-b : (k : ℕ) (a c l : Range) → kindType k (x .a) (x .b) ≡ x .b → takes (form k a (typeRange top) c l) x ≡ takes (form k a (typeRange high) c l) x
   unfolding takes
   in-b k a c l is =
       and-cong (eqb (x .kind) k) _ _ (λ e. ap (λ (r : Bool). inRange a (x .a) && (r && (inRange c (x .c) && inRange l (length (x .bytes))))) (type-same (x .b) (of-kind k e ∙ is)))

@@ -14,7 +14,7 @@ use Rattle.rules.specs.declared.Limits.{Limits}
 use Rattle.rules.specs.Columns.{Form, directoryForms, permissionForms, requestForms}
 use Rattle.rules.specs.Name.{Schema}
 use Rattle.rules.specs.Judge.{Verdict, accept, refuse, refuseIf, then, fold}
-use Rattle.rules.specs.Directory.{Directory, step, finish, nothing, directoryOf, entries, aliases}
+use Rattle.rules.specs.Directory.{Directory, step, finish, nothing, directoryOf, entriesIn, aliases}
 use Rattle.rules.specs.Permission.{Item, items, permissionsOf}
 use Rattle.rules.specs.Decision.{Setting}
 use Rattle.rules.specs.Request.{Request, requestGrammar, request, orderingOf, hasOrder, requestOf}
@@ -23,7 +23,8 @@ use Rattle.rules.specs.Serve.{Ground, ground, above, within, settingOf, 
 use Rattle.rules.specs.Theorems.{typeOf, modest, Written, Fitted, SameLines, FormsAlike}
 use Rattle.rules.specs.Laws.Tests.{and-left, and-right}
 use Rattle.rules.specs.Laws.Judge.{then-cong, then-then}
-use Rattle.rules.specs.Laws.Each.{Each, each-map, all-each}
+use Rattle.rules.specs.Derived.{Each}
+use Rattle.rules.specs.Laws.Each.{each-map, all-each}
 use Rattle.rules.specs.Laws.Sheet.{AllRows, each-rows, printed}
 use Rattle.rules.specs.Laws.Forms.{directory-forms, permission-forms, request-forms}
 use Rattle.rules.specs.Laws.SameForms.{Same, fold-same, items-same, request-same}
@@ -128,9 +129,9 @@ module _ (k : Limits) (x : Written) where
     unfolding respond fitting
     respond-alike g r e =
         let σ : Setting = settingOf (g .directory) (g .items) (r .requester) in
-        let ls : List Line = answerTo σ (entries (g .directory)) (aliases (g .directory)) (r .base) (r .operation) in
+        let ls : List Line = answerTo σ (entriesIn (g .directory)) (aliases (g .directory)) (r .base) (r .operation) in
         let b = read-back 65536 (omega arith) (omega arith) ls
-        (answer-to-low σ (entries (g .directory)) (entries-low narrow (print 6 (x .directory)) (g .directory) e (omega arith) (omega arith)) (aliases (g .directory)) (r .base) (r .operation)) in
+        (answer-to-low σ (entriesIn (g .directory)) (entries-low narrow (print 6 (x .directory)) (g .directory) e (omega arith) (omega arith)) (aliases (g .directory)) (r .base) (r .operation)) in
         tested 31 refl (ltb room₁ (length (print 6 ls))) (ltb room₂ (length (print 9 ls))) (accept (print 6 ls)) (accept (print 9 ls)) (λ p q. (ls, refl, refl, b .0, b .1))
 
     sheets-alike : LinesAlike (then (directoryOf narrow (print 6 (x .directory))) (permitted narrow room₁)) (then (directoryOf wide (print 9 (x .directory))) (permitted wide room₂))

@@ -6,7 +6,7 @@ use mathlib.Core.Option.{Option, none, some}
 use mathlib.Core.List.{List, [], _∷_, _++_, append-assoc, append-nil}
 use lib.ListN.{length, getD, take}
 use lib.Seq.{take-suc}
-use Rattle.rules.specs.Lists.{gather, any, first}
+use Rattle.rules.specs.Lists.{gather}
 
 module _ {A B : Type 0} (f : A → List B) where
   pub gather-append : (xs ys : List A) → gather f (xs ++ ys) ≡ gather f xs ++ gather f ys

@@ -18,7 +18,8 @@ use Rattle.rules.specs.Directory.{Reading, step, finish, nothing, direct
 use Rattle.rules.specs.Move.{beyond}
 use Rattle.rules.specs.Theorems.{typeOf}
 use Rattle.rules.specs.Laws.Tests.{or-none}
-use Rattle.rules.specs.Laws.Each.{Each, each-map}
+use Rattle.rules.specs.Derived.{Each}
+use Rattle.rules.specs.Laws.Each.{each-map}
 use Rattle.rules.specs.Laws.Judge.{Run}
 use Rattle.rules.specs.Laws.Sheet.{FitsColumns, AllFit, AllRows, rows-each}
 use Rattle.rules.specs.Laws.Columns.{PairLine}

@@ -15,7 +15,8 @@ use Rattle.rules.specs.Move.{beyond, spills, moved}
 use Rattle.rules.specs.Laws.Tests.{or-none}
 use Rattle.rules.specs.Laws.Judge.{accepted-is, not-refused, then-accepts}
 use Rattle.rules.specs.Laws.Sheet.{each-rows, printed}
-use Rattle.rules.specs.Laws.Each.{Each, each-map, each-both}
+use Rattle.rules.specs.Derived.{Each}
+use Rattle.rules.specs.Laws.Each.{each-map, each-both}
 use Rattle.rules.specs.Laws.DirectoryLines.{accepted-lines, accepted-back}
 use Rattle.rules.specs.Laws.Forms.{directory-forms}
 use Rattle.rules.specs.Laws.Low.{Low, low-fit, low-type, accepted-types, accepted-low}

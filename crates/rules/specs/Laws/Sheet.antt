@@ -10,8 +10,8 @@ use lib.ListN.{length, getD, take, drop, length-append, length-drop}
 use lib.Seq.{length-take-le, take-at, take-all, drop-at, getD-at, drop-drop}
 use borrow.Author.Tests.{eq-eqb, ne-eqb, le-leb, lt-ltb, le-ltb, ltb-true, leb-true, eqb-true, eqb-false}
 use Rattle.rules.specs.Lists.{gather}
-use Rattle.rules.specs.Sheet.{Bytes, Line, line, strip, digits, numeral, columnOf, columnAt, whole, frontOf, valueOf, restOf, Sheet, end, broken, row, byFront, linesWithin, lines, leading, column, numbers, lineBytes, print, rows}
-use Rattle.rules.specs.Laws.Each.{Each}
+use Rattle.rules.specs.Sheet.{Bytes, Line, line, strip, digits, numeral, columnOf, columnAt, whole, frontOf, valueOf, lineSize, restOf, Sheet, end, broken, row, byFront, linesWithin, lines, leading, column, numbers, lineBytes, print, rows}
+use Rattle.rules.specs.Derived.{Each}
 use Rattle.rules.specs.declared.Column.{Column}
 use Rattle.rules.specs.declared.Column.the-variants.{Number, Malformed}
 use Rattle.rules.specs.declared.Front.{Front}
@@ -115,8 +115,8 @@ lines-step w s =
 -- at a position: what one step of a loop over the lines needs
 module _ (w : ℕ) (s : Bytes) (i : ℕ) where
   pub lines-taken : {k a b c l : ℕ} → frontOf w (drop i s) ≡ Taken k a b c l
-      → lines w (drop i s) ≡ row (line k a b c (valueOf w l (drop i s))) (lines w (drop (i + (5 * w + 1 + l)) s))
-  lines-taken {l = l} e = lines-step w (drop i s) ∙ rw (e, drop-drop (5 * w + 1 + l) i s)
+      → lines w (drop i s) ≡ row (line k a b c (valueOf w l (drop i s))) (lines w (drop (i + lineSize w l) s))
+  lines-taken {l = l} e = lines-step w (drop i s) ∙ rw (e, drop-drop (lineSize w l) i s)
 
   pub lines-broken : frontOf w (drop i s) ≡ NotInForm → lines w (drop i s) ≡ broken
   lines-broken e = lines-step w (drop i s) ∙ rw e
@@ -127,7 +127,7 @@ module _ (w : ℕ) (s : Bytes) (i : ℕ) where
   pub front-past : length s ≤ i → frontOf w (drop i s) ≡ End
   front-past h = front-end w (drop i s) (simp length-drop (omega arith))
 
-  pub taken-fits : {k a b c l : ℕ} → frontOf w (drop i s) ≡ Taken k a b c l → (l ≤ 64) × (i + (5 * w + 1 + l) ≤ length s)
+  pub taken-fits : {k a b c l : ℕ} → frontOf w (drop i s) ≡ Taken k a b c l → (l ≤ 64) × (i + lineSize w l ≤ length s)
   taken-fits e = let h = front-fits w (drop i s) e in omega (arith, h .0, simp length-drop at (h .1))
 
   pub taken-length : {k a b c l : ℕ} → frontOf w (drop i s) ≡ Taken k a b c l → length (valueOf w l (drop i s)) ≡ l
@@ -241,7 +241,7 @@ module _ (w : ℕ) (x : Line) where
   abbrev numbersOf : Bytes
   numbersOf = numbers w (x .kind) (x .a) (x .b) (x .c) (length (x .bytes))
 
-  pub line-length : length (lineBytes w x) ≡ 5 * w + 1 + length (x .bytes)
+  pub line-length : length (lineBytes w x) ≡ lineSize w (length (x .bytes))
   unfolding lineBytes
   line-length = simp (length-append, numbers-length) (omega arith)
 
@@ -267,7 +267,7 @@ module _ (w : ℕ) (x : Line) where
         (take-at (x .bytes) (10 ∷ rest) (length (x .bytes)) refl)
 
     pub printed-rest : restOf w (length (x .bytes)) (lineBytes w x ++ rest) ≡ rest
-    printed-rest = drop-at (lineBytes w x) rest (5 * w + 1 + length (x .bytes)) line-length
+    printed-rest = drop-at (lineBytes w x) rest (lineSize w (length (x .bytes))) line-length
 
 module _ (w : ℕ) (x : Line) (rest : Bytes) (f : FitsColumns (suc w) x) where
   pub printed-front : frontOf (suc w) (lineBytes (suc w) x ++ rest) ≡ Taken (x .kind) (x .a) (x .b) (x .c) (length (x .bytes))

@@ -11,9 +11,10 @@ use lib.Dec.{leb, eqb}
 use lib.ListN.{length, take, drop, length-append, length-drop, length-map, take-append-drop}
 use lib.Seq.{drop-length, drop-append-le, drop-at, drop-drop}
 use Rattle.rules.specs.Sheet.{Bytes}
-use Rattle.rules.specs.Value.{text, folded, normal, identical, same, Piece, begins, ends, find, used, byFound, matches, normalPiece, contains, small}
+use Rattle.rules.specs.Value.{text, folded, normal, identical, Piece, begins, ends, find, used, byFound, matches, contains, small}
 use Rattle.rules.specs.declared.Found.{Found}
 use Rattle.rules.specs.declared.Found.the-variants.{At, Nothing}
+use Rattle.rules.specs.Derived.{compared}
 use Rattle.rules.specs.Laws.Value.{unlike, identical-refl, identical-eq}
 
 -- ---- substrings: what the test means
@@ -196,10 +197,6 @@ placed-matches (p ∷ ps) v inner r =
 -- The substrings test is what it should be. (A final piece that is not the last leaves nothing to the others, in both.)
 pub matches-iff : (ps : List Piece) (v : Bytes) → InitialFirst ps → (matches ps v ≡ true) ↔ Placed ps v
 matches-iff ps v inner = (matches-placed ps v, placed-matches ps v inner)
-
--- the piece as it is compared
-abbrev pub compared : ℕ → Piece → Piece
-compared s p = record { place = p .place; bytes = normalPiece s (p .bytes) }
 
 initial-compared : (s : ℕ) (ps : List Piece) → InitialFirst ps → InitialFirst (map (compared s) ps)
 initial-compared s [] h = tt

@@ -8,7 +8,7 @@ use Rattle.rules.specs.Sheet.{Bytes, narrow, wide, print}
 use Rattle.rules.specs.declared.Format.{Format}
 use Rattle.rules.specs.Judge.{accept, refuse}
 use Rattle.rules.specs.Lists.{keep}
-use Rattle.rules.specs.Directory.{Directory, directoryOf, directoryLines, blank, entryOf, entries}
+use Rattle.rules.specs.Directory.{Directory, directoryOf, directoryLines, blank, entryOf, entriesIn}
 use Rattle.rules.specs.Move.{beyond, spills, moved}
 use Rattle.rules.specs.Serve.{settingOf}
 use Rattle.rules.specs.Theorems.{PrintedBack, RoundTrip, MovedAccepted, BackAgain, FormsAlike, ResolvedAlike, LongAbsent, Permuted, InOrder, Stable, SmallestKey}
@@ -41,17 +41,17 @@ pub resolved-alike : ResolvedAlike
 resolved-alike = replaced-alike
 
 pub long-absent : LongAbsent
-unfolding entries
+unfolding entriesIn
 long-absent f s d e n l = none-longer (d .schema) (d .entries) (accepted-means f s d e .depths) n l
 
 pub permuted : Permuted
 permuted = arranged-permuted
 
 pub in-order : InOrder
-unfolding entries
+unfolding entriesIn
 in-order f s d e is u o chosen =
-    key-ordered (settingOf d is u) o (keep chosen (entries d))
-    (each-keep (EntryAllowed (d .schema)) chosen (entries d) (entries-allowed (d .schema) (d .entries) (accepted-means f s d e)))
+    key-ordered (settingOf d is u) o (keep chosen (entriesIn d))
+    (each-keep (EntryAllowed (d .schema)) chosen (entriesIn d) (entries-allowed (d .schema) (d .entries) (accepted-means f s d e)))
 
 pub stable : Stable
 stable = key-stable

@@ -17,6 +17,7 @@ use Rattle.rules.specs.declared.Integer.{Integer}
 use Rattle.rules.specs.declared.Integer.the-variants.{Value, NotAnInteger}
 use Rattle.rules.specs.declared.Order.{Order}
 use Rattle.rules.specs.declared.Order.the-variants.{Less, Equal, Greater}
+use Rattle.rules.specs.Derived.{reversed}
 
 -- what follows where two answers that differ are said to be equal
 pub unlike : {A : Type 0} → _≡_ {A = ℕ} 0 1 → A
@@ -241,11 +242,6 @@ order-iff s v w fv fw = go (eqb s integer) refl
     go false t = rw t (λ e. rw (orderBytes-equal (normal s v) (normal s w) e) (identical-refl (normal s w)), λ e. rw (identical-eq (normal s v) (normal s w) e) (orderBytes-refl (normal s w)))
 
 -- ---- order turned round
-
-abbrev pub reversed : Order → Order
-reversed Less = Greater
-reversed Equal = Equal
-reversed Greater = Less
 
 orderℕ-reversed : (a b : ℕ) (next : Order) → orderℕ b a (reversed next) ≡ reversed (orderℕ a b next)
 orderℕ-reversed a b next = go (ltb a b) (ltb b a) refl refl

@@ -13,7 +13,7 @@ use Rattle.rules.specs.Sheet.{Bytes, Line, line, bit, print}
 use Rattle.rules.specs.declared.Format.{Format}
 use Rattle.rules.specs.Name.{Schema, Name}
 use Rattle.rules.specs.Judge.{Verdict, accept, refuse, refuseIf, then}
-use Rattle.rules.specs.Directory.{Directory, directoryOf, Entry, entries, Alias, aliases}
+use Rattle.rules.specs.Directory.{Directory, directoryOf, Entry, entriesIn, Alias, aliases}
 use Rattle.rules.specs.Permission.{Item, permissionsOf, Read, ReturnDN, DiscloseOnError, Compare, FilterMatch}
 use Rattle.rules.specs.Decision.{Setting, Requester, entry, ofType, ofValue, granted}
 use Rattle.rules.specs.Request.{Operation, read, compare, list, search, Request, requestOf}
@@ -24,7 +24,8 @@ use Rattle.rules.specs.declared.Limits.{Limits}
 use Rattle.rules.specs.Shown.{ofEntries, ofTypes, ofValues, sight, shown, SameAliases, Alike}
 use Rattle.rules.specs.Laws.Tests.{or-right}
 use Rattle.rules.specs.Laws.Judge.{then-cong}
-use Rattle.rules.specs.Laws.Directory.{Accepted, accepted-means, once-named}
+use Rattle.rules.specs.Derived.{Accepted}
+use Rattle.rules.specs.Laws.Directory.{accepted-means, once-named}
 use Rattle.rules.specs.Laws.Aliases.{aliased-alike, replaced-alike}
 use Rattle.rules.specs.Secrecy.FromShown.{Enough, answer-shown}
 
@@ -55,10 +56,10 @@ sight-enough σ = record {
 
 -- an accepted directory's answer, from what is shown of it
 answer-from-shown : (σ : Setting) (d : Directory) → σ .schema ≡ d .schema → Accepted (d .schema) (d .entries) → (as′ : List Alias) (n : Name) (o : Operation)
-    → answer σ (entries d) as′ n o ≡ answer σ (shown σ d) as′ n o
-unfolding shown entries
+    → answer σ (entriesIn d) as′ n o ≡ answer σ (shown σ d) as′ n o
+unfolding shown entriesIn
 answer-from-shown σ d e ok as′ n o =
-    sym (answer-shown σ (sight σ) (sight-enough σ) (entries d) as′ n (once-named (σ .schema) (d .entries) (subst (λ (S : Schema). Accepted S (d .entries)) (sym e) ok) n) o)
+    sym (answer-shown σ (sight σ) (sight-enough σ) (entriesIn d) as′ n (once-named (σ .schema) (d .entries) (subst (λ (S : Schema). Accepted S (d .entries)) (sym e) ok) n) o)
 
 -- an answer asks aliases for list's mark alone
 marks-alike : (σ : Setting) (es : List Entry) (as₁ as₂ : List Alias) → ((n : Name) → aliased (σ .schema) as₁ n ≡ aliased (σ .schema) as₂ n) → (n : Name) (o : Operation)
@@ -73,19 +74,19 @@ marks-alike σ es as₁ as₂ same n (search r) = refl
 -- accepted directories of one schema, with the same aliases, that show the requester the same answer alike
 module _ (f : Format) (s₁ s₂ : Bytes) (d₁ d₂ : Directory) (e₁ : directoryOf f s₁ ≡ accept d₁) (e₂ : directoryOf f s₂ ≡ accept d₂) (e : d₁ .schema ≡ d₂ .schema)
     (aliases-same : SameAliases d₁ d₂) (is : List Item) (u : Requester) (same : shown (settingOf d₁ is u) d₁ ≡ shown (settingOf d₂ is u) d₂) where
-  answer-alike : (n : Name) (o : Operation) → answer (settingOf d₁ is u) (entries d₁) (aliases d₁) n o ≡ answer (settingOf d₂ is u) (entries d₂) (aliases d₂) n o
+  answer-alike : (n : Name) (o : Operation) → answer (settingOf d₁ is u) (entriesIn d₁) (aliases d₁) n o ≡ answer (settingOf d₂ is u) (entriesIn d₂) (aliases d₂) n o
   answer-alike n o =
       answer-from-shown (settingOf d₁ is u) d₁ refl (accepted-means f s₁ d₁ e₁) (aliases d₁) n o
       ∙ (λ i. answer (record { schema = e i; items = is; requester = u }) (same i) (aliases d₁) n o)
       ∙ sym (answer-from-shown (settingOf d₂ is u) d₂ refl (accepted-means f s₂ d₂ e₂) (aliases d₁) n o)
-      ∙ marks-alike (settingOf d₂ is u) (entries d₂) (aliases d₁) (aliases d₂) (aliased-alike (d₂ .schema) (aliases d₁) (aliases d₂) aliases-same) n o
+      ∙ marks-alike (settingOf d₂ is u) (entriesIn d₂) (aliases d₁) (aliases d₂) (aliased-alike (d₂ .schema) (aliases d₁) (aliases d₂) aliases-same) n o
 
-  answers-alike : (n : Name) (o : Operation) → answerTo (settingOf d₁ is u) (entries d₁) (aliases d₁) n o ≡ answerTo (settingOf d₂ is u) (entries d₂) (aliases d₂) n o
+  answers-alike : (n : Name) (o : Operation) → answerTo (settingOf d₁ is u) (entriesIn d₁) (aliases d₁) n o ≡ answerTo (settingOf d₂ is u) (entriesIn d₂) (aliases d₂) n o
   unfolding answerTo
   answers-alike n o =
-      ap (answerResolved (settingOf d₁ is u) (entries d₁) (aliases d₁) o) (replaced-alike f s₁ s₂ d₁ d₂ e₁ e₂ e aliases-same n) ∙ go (resolved (d₂ .schema) (aliases d₂) n)
+      ap (answerResolved (settingOf d₁ is u) (entriesIn d₁) (aliases d₁) o) (replaced-alike f s₁ s₂ d₁ d₂ e₁ e₂ e aliases-same n) ∙ go (resolved (d₂ .schema) (aliases d₂) n)
     where
-      go : (m : Option Name) → answerResolved (settingOf d₁ is u) (entries d₁) (aliases d₁) o m ≡ answerResolved (settingOf d₂ is u) (entries d₂) (aliases d₂) o m
+      go : (m : Option Name) → answerResolved (settingOf d₁ is u) (entriesIn d₁) (aliases d₁) o m ≡ answerResolved (settingOf d₂ is u) (entriesIn d₂) (aliases d₂) o m
       go none = refl
       go (some m) = answer-alike m o
 

@@ -6,7 +6,7 @@ use lib.Dec.{leb}
 use borrow.Author.Tests.{eqb-true, leb-true}
 use Rattle.rules.specs.Columns.{Range, unnamed, exactly, between, free, inRange, Form}
 use Rattle.rules.specs.Laws.Tests.{and-left, and-right}
-use Rattle.sheet_form.specs.Columns.{fits}
+use Rattle.sheet_form.specs.Columns.{fitsForm}
 
 -- a range as a statement
 abbrev pub InRange : Range → ℕ → Type 0
@@ -26,16 +26,16 @@ either true y f g e = f refl
 either false y f g e = g e
 
 module _ (a b c l : ℕ) where
-  columns : (f : Form) → fits f a b c l ≡ true → InRange (f .a) a × InRange (f .b) b × InRange (f .c) c
-  unfolding fits
+  columns : (f : Form) → fitsForm f a b c l ≡ true → InRange (f .a) a × InRange (f .b) b × InRange (f .c) c
+  unfolding fitsForm
   columns f e =
       let e₁ = and-right (inRange (f .a) a) (inRange (f .b) b && (inRange (f .c) c && inRange (f .length) l)) e in
       let e₂ = and-right (inRange (f .b) b) (inRange (f .c) c && inRange (f .length) l) e₁ in
       (within (f .a) a (and-left (inRange (f .a) a) _ e), within (f .b) b (and-left (inRange (f .b) b) _ e₁), within (f .c) c (and-left (inRange (f .c) c) _ e₂))
 
   -- by the form that a line fits: this one, or one of those after it
-  pub by-form : {P : Type 0} (f : Form) (more : Bool) → (InRange (f .a) a × InRange (f .b) b × InRange (f .c) c → P) → (more ≡ true → P) → (fits f a b c l || more) ≡ true → P
-  by-form f more g h = either (fits f a b c l) more (λ e. g (columns f e)) h
+  pub by-form : {P : Type 0} (f : Form) (more : Bool) → (InRange (f .a) a × InRange (f .b) b × InRange (f .c) c → P) → (more ≡ true → P) → (fitsForm f a b c l || more) ≡ true → P
+  by-form f more g h = either (fitsForm f a b c l) more (λ e. g (columns f e)) h
 
 pub no-form : {P : Type 0} → false ≡ true → P
 no-form e = absurd (false≢true e)

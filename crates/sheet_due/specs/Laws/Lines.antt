@@ -26,7 +26,7 @@ use Rattle.sheet_due.specs.declared.Seen.the-variants as Seen
 use Rattle.sheet_due.specs.declared.Due.{Due}
 use Rattle.sheet_due.specs.declared.Reached.{Reached}
 use Rattle.sheet_due.specs.declared.Group.{Group}
-use Rattle.sheet_due.specs.Lines.{seenBy, seenAt, misplacedBy, reachedAt, notDue, afterDue, afterGroup, dueBy, dueAt, linesDue, groupAt}
+use Rattle.sheet_due.specs.Lines.{seenBy, seenAt, misplacedBy, notDue, afterDue, dueBy, dueAt, linesDue, groupAt}
 
 -- ---- what stands at a position
 

@@ -13,10 +13,10 @@ use Rattle.sheet_line.specs.declared.Line.{Line}
 use Rattle.sheet_line.specs.declared.Taken.the-variants as Taken
 use Rattle.sheet_line.specs.Line.{takenAt, bytesOf, lineOf}
 use Rattle.sheet_line.specs.Laws.{taken-fits-line, bytes-length}
-use Rattle.sheet_form.specs.Columns.{fits, inFormOf, columnsIn}
+use Rattle.sheet_form.specs.Columns.{fitsForm, inFormOf, columnsIn}
 
 pub in-form : (forms : List Form) (k a b c : ℕ) (bytes : Bytes) {l : ℕ} → length bytes ≡ l → inFormOf forms k a b c l ≡ inForm forms (line k a b c bytes)
-unfolding inForm inFormOf takes fits
+unfolding inForm inFormOf takes fitsForm
 in-form forms k a b c bytes e = rw (← e)
 
 -- a line that was taken from a sheet
@@ -46,21 +46,21 @@ in-bounded (between low high) n h = refl
 in-bounded free n h = rw (le-leb 0 n (omega arith), le-leb n 18446744073709551615 h)
 
 module _ (a b c l : ℕ) (ha : a ≤ 18446744073709551615) (hb : b ≤ 18446744073709551615) (hc : c ≤ 18446744073709551615) (hl : l ≤ 18446744073709551615) where
-  fits-bounded : (f : Form) → fits (boundedForm f) a b c l ≡ fits f a b c l
-  unfolding fits
+  fits-bounded : (f : Form) → fitsForm (boundedForm f) a b c l ≡ fitsForm f a b c l
+  unfolding fitsForm
   fits-bounded f = rw (in-bounded (f .a) a ha, in-bounded (f .b) b hb, in-bounded (f .c) c hc, in-bounded (f .length) l hl)
 
   -- the forms of one kind, by their bounds
-  pub one-form : (f : Form) → fits (boundedForm f) a b c l ≡ fits f a b c l || false
-  one-form f = fits-bounded f ∙ sym (or-false (fits f a b c l))
+  pub one-form : (f : Form) → fitsForm (boundedForm f) a b c l ≡ fitsForm f a b c l || false
+  one-form f = fits-bounded f ∙ sym (or-false (fitsForm f a b c l))
 
-  pub two-forms : (f g : Form) → fits (boundedForm f) a b c l || fits (boundedForm g) a b c l ≡ fits f a b c l || (fits g a b c l || false)
+  pub two-forms : (f g : Form) → fitsForm (boundedForm f) a b c l || fitsForm (boundedForm g) a b c l ≡ fitsForm f a b c l || (fitsForm g a b c l || false)
   two-forms f g = rw (fits-bounded f, one-form g)
 
-  pub three-forms : (f g h : Form) → fits (boundedForm f) a b c l || (fits (boundedForm g) a b c l || fits (boundedForm h) a b c l)
-      ≡ fits f a b c l || (fits g a b c l || (fits h a b c l || false))
+  pub three-forms : (f g h : Form) → fitsForm (boundedForm f) a b c l || (fitsForm (boundedForm g) a b c l || fitsForm (boundedForm h) a b c l)
+      ≡ fitsForm f a b c l || (fitsForm g a b c l || (fitsForm h a b c l || false))
   three-forms f g h = rw (fits-bounded f, two-forms g h)
 
-  pub four-forms : (f g h i : Form) → fits (boundedForm f) a b c l || (fits (boundedForm g) a b c l || (fits (boundedForm h) a b c l || fits (boundedForm i) a b c l))
-      ≡ fits f a b c l || (fits g a b c l || (fits h a b c l || (fits i a b c l || false)))
+  pub four-forms : (f g h i : Form) → fitsForm (boundedForm f) a b c l || (fitsForm (boundedForm g) a b c l || (fitsForm (boundedForm h) a b c l || fitsForm (boundedForm i) a b c l))
+      ≡ fitsForm f a b c l || (fitsForm g a b c l || (fitsForm h a b c l || (fitsForm i a b c l || false)))
   four-forms f g h i = rw (fits-bounded f, three-forms g h i)

@@ -6,7 +6,7 @@ use mathlib.Core.List.{List, [], _∷_}
 use native.Mathlib.Omega.{arith}
 use lib.Dec.{eqb}
 use borrow.Author.Tests.{eqb-true, eqb-false, ne-eqb}
-use Rattle.sheet_kind.specs.Kinds.{numberOf, ranges, known, kindIn, kindOf}
+use Rattle.sheet_kind.specs.Kinds.{numberOf, ranges, knownKinds, kindIn, kindOf}
 use Rattle.sheet_kind.specs.declared.Kind.{Kind}
 use Rattle.sheet_kind.specs.declared.Kind.the-variants.{AttributeType, Entry, Value, Item, Base, UserClass, ProtectedItem, Permissions, NamePart, Requester, Operation, Selection, SelectedType, Assertion, Subset, Ordering, And, Or, Not, Equality, AtLeast, AtMost, Present, Substrings, Piece, Outcome, Comparison, Child, ReturnedEntry, ReturnedType, ReturnedValue, Target, Unknown}
 
@@ -59,7 +59,7 @@ number-in (x ∷ xs) k h = number-by x xs k (eqb k (numberOf x)) refl (number-in
 -- what `k` is has the number `k`, unless no sheet has the kind
 pub kind-is : (k : ℕ) {x : Kind} → eqb (numberOf x) 0 ≡ false → kindOf k ≡ x → k ≡ numberOf x
 unfolding kindOf
-kind-is k {x} p e = number-in known k (λ z. eqb-false (numberOf x) 0 p (sym (ap numberOf e) ∙ z)) ∙ ap numberOf e
+kind-is k {x} p e = number-in knownKinds k (λ z. eqb-false (numberOf x) 0 p (sym (ap numberOf e) ∙ z)) ∙ ap numberOf e
 
 -- whether `k` is the number `n` of a kind, by the answer `r`
 module _ {k n : ℕ} {r : Bool} (e : r ≡ eqb k n) where

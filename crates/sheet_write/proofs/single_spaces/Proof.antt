@@ -4,7 +4,7 @@ use mathlib.Core.Path.{_≡_, refl, sym, _∙_}
 use native.Mathlib.Omega.{arith}
 use lib.ListN.{length, length-set}
 use Rattle.rules.specs.Sheet.{leading}
-use Rattle.sheet_write.specs.Put.{putAt}
+use Rattle.rules.specs.Derived.{putAt}
 use Rattle.sheet_write.specs.Laws.Put.{column-on, column-done}
 use borrow.Author.Needs.{needs}
 use Rattle.sheet_write.proofs.single_spaces.Statement.{statement}

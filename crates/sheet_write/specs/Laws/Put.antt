@@ -1,14 +1,16 @@
 -- Laws of `Put`: parts one after another, a column from the right, and a line.
 use Prim.Native.Nat.{ℕ, zero, suc, _+_, _-_, _*_, _/_, _%_, _≤_, _<_}
 use mathlib.Core.Path.{_≡_, refl, sym, _∙_}
+use mathlib.Core.Bool.{cond}
 use mathlib.Core.List.{[], _∷_, _++_, append-assoc, append-nil}
 use native.Mathlib.Omega.{arith}
 use borrow.Author.Tests.{ne-eqb}
+use lib.Dec.{eqb}
 use lib.ListN.{length, take, drop, set, length-append, length-drop, length-set, take-append-drop}
 use lib.Seq.{paste, take-length, take-append-seam, drop-append-add, drop-drop, drop-at, length-take-le, take-set-le, set-split, append-snoc}
-use Rattle.rules.specs.Sheet.{Bytes, Line, leading, column, numbers, lineBytes}
+use Rattle.rules.specs.Sheet.{Bytes, Line, lineSize, leading, column, numbers, lineBytes}
 use Rattle.rules.specs.Laws.Sheet.{leading-length, column-length, numbers-length}
-use Rattle.sheet_write.specs.Put.{putAt, leadingByte}
+use Rattle.rules.specs.Derived.{putAt}
 
 pub put-none : (d : Bytes) (at : ℕ) → putAt d at [] ≡ d
 unfolding putAt
@@ -50,6 +52,10 @@ put-byte : (d : Bytes) (n b : ℕ) → n < length d → set d n b ≡ putAt d n 
 put-byte d n b h =
     let e : n + 0 ≡ n = omega arith in
     sym (put-none (set d n b) n) ∙ rw e at (put-last d n [] b 0 refl (omega arith))
+
+-- a byte of a column before its last, with `v` left to write
+abbrev leadingByte : ℕ → ℕ
+leadingByte v = cond (eqb v 0) 32 (48 + v % 10)
 
 -- ---- a column from the right: its last digit, then the bytes before it, down to none
 
@@ -117,7 +123,7 @@ module _ (d : Bytes) (at w k a b c l : ℕ) {d₁ d₂ d₃ d₄ d₅ : Bytes} (
         put-append d at x₄ (column w l) (at + 4 * w) (omega arith) (omega arith),
       )
 
-module _ (d : Bytes) (at w : ℕ) (x : Line) {d₁ d₂ : Bytes} (h : at + (5 * w + 1 + length (x .bytes)) ≤ length d) where
+module _ (d : Bytes) (at w : ℕ) (x : Line) {d₁ d₂ : Bytes} (h : at + lineSize w (length (x .bytes)) ≤ length d) where
   pub put-line : (from : ℕ) → from ≡ at + 5 * w → d₁ ≡ putAt d at (numbers w (x .kind) (x .a) (x .b) (x .c) (length (x .bytes))) → d₂ ≡ putAt d₁ from (x .bytes)
       → from + length (x .bytes) < length d₂ → set d₂ (from + length (x .bytes)) 10 ≡ putAt d at (lineBytes w x)
   unfolding lineBytes

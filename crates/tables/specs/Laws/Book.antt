@@ -5,7 +5,7 @@ use mathlib.Core.List.{List}
 use native.Mathlib.Omega.{arith}
 use lib.ListN.{length, getD, take, drop, length-drop}
 use lib.Seq.{length-take-le, getD-take, getD-drop}
-use Rattle.tables.specs.Book.{BookFits, types, entries, schema, parentAt, parents, firstAt}
+use Rattle.tables.specs.Book.{BookFits, schemaColumn, parentColumn, firstColumn, typeCount, entryCount, schema, parentAt, parents, firstAt}
 
 cut-length : (b : List ℕ) (at n : ℕ) → at + n ≤ length b → length (take n (drop at b)) ≡ n
 cut-length b at n h = length-take-le n (drop at b) (simp length-drop (omega (arith, h)))
@@ -18,23 +18,23 @@ pub cut-part : (b : List ℕ) (at n : ℕ) → take (at + n - at) (drop at b) �
 cut-part b at n = let e : at + n - at ≡ n = omega arith in rw e
 
 -- the row after the values of the entry of index `k`, as the code reads it
-pub end-is : (b : List ℕ) (k : ℕ) → getD b (1097 + k) 0 ≡ firstAt b (suc k)
-end-is b k = let e : 1097 + k ≡ 1096 + suc k = omega arith in rw e
+pub end-is : (b : List ℕ) (k : ℕ) → getD b (firstColumn + 1 + k) 0 ≡ firstAt b (suc k)
+end-is b k = let e : firstColumn + 1 + k ≡ firstColumn + suc k = omega arith in rw e
 
 module _ {b : List ℕ} (h : BookFits b) where
-  pub schema-length : length (schema b) ≡ types b
+  pub schema-length : length (schema b) ≡ typeCount b
   unfolding schema
-  schema-length = cut-length b 8 (types b) (omega (arith, h .size, h .few-types))
+  schema-length = cut-length b schemaColumn (typeCount b) (omega (arith, h .size, h .few-types))
 
-  pub parents-length : length (parents b) ≡ entries b
+  pub parents-length : length (parents b) ≡ entryCount b
   unfolding parents
-  parents-length = cut-length b 328 (entries b) (omega (arith, h .size, h .few-entries))
+  parents-length = cut-length b parentColumn (entryCount b) (omega (arith, h .size, h .few-entries))
 
 module _ (b : List ℕ) (k : ℕ) where
-  pub type-at : k < types b → getD (schema b) k 0 ≡ getD b (8 + k) 0
+  pub type-at : k < typeCount b → getD (schema b) k 0 ≡ getD b (schemaColumn + k) 0
   unfolding schema
-  type-at l = cut-at b 8 (types b) k l
+  type-at l = cut-at b schemaColumn (typeCount b) k l
 
-  pub parent-at : k < entries b → getD (parents b) k 0 ≡ parentAt b k
+  pub parent-at : k < entryCount b → getD (parents b) k 0 ≡ parentAt b k
   unfolding parents
-  parent-at l = cut-at b 328 (entries b) k l
+  parent-at l = cut-at b parentColumn (entryCount b) k l

@@ -3,7 +3,7 @@ use mathlib.Core.Path.{_≡_, sym, ap, ap₂, _∙_, subst}
 use Prim.Native.Nat.{ℕ, zero, suc, _≤_, _<_}
 use native.Mathlib.Nat.{not-suc-le-zero}
 use native.Mathlib.Omega.{arith}
-use mathlib.Core.Bool.{Bool, true, _||_}
+use mathlib.Core.Bool.{true, _||_}
 use mathlib.Core.List.{List, [], _∷_, _++_}
 use lib.ListN.{length, getD}
 use lib.Dec.{eqb}
@@ -13,7 +13,8 @@ use Rattle.rules.specs.Directory.{Stored, blank, nameAt}
 use Rattle.tables.specs.Numbers.{climbs}
 use Rattle.rules.specs.Laws.Tests.{bool-ext, eqb-same}
 use Rattle.rules.specs.Laws.Name.{sameName-join, child-is, covers-nil, covers-snoc}
-use Rattle.rules.specs.Laws.Directory.{Accepted, one-number}
+use Rattle.rules.specs.Derived.{Accepted}
+use Rattle.rules.specs.Laws.Directory.{one-number}
 
 module _ (S : Schema) (es : List Stored) (ok : Accepted S es) (n : Name) (b : ℕ) (in-range : b ≤ length es) (base : sameName S n (nameAt es b) ≡ true) where
   -- to have the asked name is to have the base's number

@@ -17,7 +17,7 @@ use Rattle.rules.specs.Aliases.{aliased}
 use Rattle.rules.specs.Answer.{listed, listHit, inSubset, candidate}
 use Rattle.tables.specs.Numbers.{walk, climbs, withinNumber}
 use Rattle.rules.specs.Laws.Name.{same-length}
-use Rattle.rules.specs.Laws.Directory.{Accepted}
+use Rattle.rules.specs.Derived.{Accepted}
 use Rattle.tables.specs.Laws.Resolve.{base-found}
 use Rattle.rules.specs.declared.Found.the-variants.{At}
 use Rattle.tables.specs.Laws.ByNumber.{named-is, child-by-number, below-by-number}

@@ -14,10 +14,9 @@ use Rattle.rules.specs.Decision.{Setting, baseCovers, whoFits, levelFits}
 use Rattle.tables.specs.Numbers.{walk, climbs, reaches, numberOr0, baseReach, baseReaches, ownReach, fitsAlways, reachFrom, reachOf}
 use Rattle.rules.specs.Laws.Tests.{bool-ext}
 use Rattle.rules.specs.Laws.Lists.{any-none, none-at}
-use Rattle.rules.specs.Laws.Directory.{Accepted}
 use Rattle.rules.specs.Laws.Absent.{present′, nothing-below}
 use Rattle.tables.specs.Laws.ByNumber.{named-is, below-by-number}
-use Rattle.rules.specs.Laws.Decision.{concerns}
+use Rattle.rules.specs.Derived.{concerns, Accepted}
 use Rattle.tables.specs.Laws.Resolve.{walk-found, walk-missing}
 use Rattle.rules.specs.declared.Found.{Found}
 use Rattle.rules.specs.declared.Found.the-variants.{At, Nothing}

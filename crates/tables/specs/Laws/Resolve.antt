@@ -13,14 +13,15 @@ use lib.Dec.{eqb}
 use borrow.Author.Tests.{eqb-true, eq-eqb}
 use Rattle.rules.specs.Lists.{any, first, firstOr}
 use Rattle.rules.specs.Name.{Schema, Part, Name, samePart, sameName, covers}
-use Rattle.rules.specs.Directory.{Stored, blank, nameAt, Entry, entryOf, entries}
+use Rattle.rules.specs.Directory.{Stored, blank, nameAt, Entry, entryOf}
 use Rattle.rules.specs.Permission.{DiscloseOnError}
 use Rattle.rules.specs.Decision.{Setting, entry, granted}
 use Rattle.rules.specs.Answer.{orName, disclosed, matchedName, named}
 use Rattle.rules.specs.Laws.Tests.{and-left, and-right, both}
 use Rattle.rules.specs.Laws.Lists.{Once, any-at, any-none, first-none, any-weaken}
 use Rattle.rules.specs.Laws.Name.{sameName-join, snoc-snoc}
-use Rattle.rules.specs.Laws.Directory.{Accepted, one-number, once-named}
+use Rattle.rules.specs.Derived.{Accepted}
+use Rattle.rules.specs.Laws.Directory.{one-number, once-named}
 use Rattle.rules.specs.Laws.Absent.{present′, above}
 use Rattle.tables.specs.Numbers.{onFound, childFrom, walk}
 use Rattle.rules.specs.declared.Found.{Found}

@@ -10,7 +10,7 @@ use Rattle.rules.specs.Decision.{Setting}
 use Rattle.tables.specs.Laws.Resolve.{base-found}
 use Rattle.rules.specs.declared.Found.{Found}
 use Rattle.rules.specs.declared.Found.the-variants.{At}
-use Rattle.tables.specs.Book.{entries}
+use Rattle.tables.specs.Book.{entryCount}
 use Rattle.tables.specs.World.{Known}
 use Rattle.tables.specs.Sound.{Base, KnownBase}
 
@@ -23,7 +23,7 @@ module _ {d p : Bytes} {book held sets : List ℕ} {base : Found} {missing : ℕ
   pub base-known : Known d p book held sets
   base-known = (h .0, h .1, h .3)
 
-  pub base-numbered : Numbered (entries book) base missing
+  pub base-numbered : Numbered (entryCount book) base missing
   base-numbered = let E = h .3 .entries in record {
     found = λ b e. omega (arith, base-found (h .0 .schema) (h .1) (E .accepted) (h .2) b (h .4 .walked ∙ e) .0, E .count);
     matched = omega (arith, h .4 .within, E .count);

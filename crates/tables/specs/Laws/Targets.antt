@@ -5,28 +5,27 @@ use native.Mathlib.Nat.{not-suc-le-zero}
 use native.Mathlib.Omega.{arith}
 use mathlib.Core.Path.{_≡_, refl, sym, ap, _∙_, subst}
 use mathlib.Core.Bool.{Bool, true, false, cond, false≢true}
-use mathlib.Core.Option.{Option, none, some}
+use mathlib.Core.Option.{none, some}
 use mathlib.Core.List.{List, [], _∷_, _++_, map}
 use lib.ListN.{length, getD, take, drop, length-append, length-drop, take-append-drop}
-use Rattle.rules.specs.Lists.{optional, gather}
-use Rattle.rules.specs.Sheet.{Bytes, Line, line, Sheet, end, broken, row, lines}
+use Rattle.rules.specs.Lists.{gather}
+use Rattle.rules.specs.Sheet.{Bytes, Line, line}
 use Rattle.rules.specs.declared.Format.{Format}
 use Rattle.rules.specs.Columns.{inForm, directoryForms}
 use Rattle.rules.specs.Name.{Schema, Part, Name, samePart, sameName, covers}
 use Rattle.rules.specs.Judge.{accept}
-use Rattle.rules.specs.Directory.{Target, nowhere, missing, parts, Stored, blank, nameAt, Directory, Reading, entriesOf, isAlias, isWhole, lacksTarget, underAlias, step, finish, nothing, directoryOf, schemaLines, targetLines, storedLines, directoryLines, Alias, leadsTo, aliasOf, aliases}
+use Rattle.rules.specs.Directory.{Target, nowhere, missing, parts, Stored, blank, nameAt, Directory, isAlias, isWhole, underAlias, directoryOf, schemaLines, targetLines, storedLines, directoryLines, Alias, leadsTo, aliasOf, aliases}
 use Rattle.rules.specs.Aliases.{replaced, leading, aliased}
 use Rattle.tables.specs.Numbers.{onFound, childFrom, walk, lead, aliasBy}
 use Rattle.rules.specs.declared.Found.{Found}
 use Rattle.rules.specs.declared.Found.the-variants.{At, Nothing}
-use Rattle.rules.specs.Laws.Tests.{and-left, and-right, both, bool-ext, is-true}
-use Rattle.rules.specs.Laws.Each.{Each, each-append, each-after, each-at, gathered-each}
+use Rattle.rules.specs.Laws.Tests.{and-left, and-right, both, bool-ext}
+use Rattle.rules.specs.Derived.{Each, NamingAllowed, Accepted}
+use Rattle.rules.specs.Laws.Each.{each-after, each-at, gathered-each}
 use Rattle.rules.specs.Laws.Name.{samePart-sym, part-self, sameName-join, same-length}
-use Rattle.rules.specs.Laws.Judge.{Run}
-use Rattle.rules.specs.Laws.Step.{Taken, ofType, ofEntry, ofValue, ofTarget, ofPart, step-taken, finished, accepted-run}
 use Rattle.rules.specs.Laws.Columns.{DirectoryLine, isType, isEntry, isValue, isTarget, isPart, directory-line}
 use Rattle.rules.specs.Laws.DirectoryLines.{accepted-forms}
-use Rattle.rules.specs.Laws.Directory.{NamingAllowed, Accepted, accepted-means, one-number}
+use Rattle.rules.specs.Laws.Directory.{accepted-means, one-number}
 use Rattle.rules.specs.Laws.Members.{any-member, member-of-any, first-one, first-nothing}
 use Rattle.rules.specs.Laws.Aliases.{alias-at, alias-member, one-leads}
 use Rattle.tables.specs.Laws.Resolve.{base-found, walk-missing}
@@ -35,30 +34,6 @@ use Rattle.tables.specs.Laws.Resolve.{base-found, walk-missing}
 
 abbrev Whole : Stored → Type 0
 Whole e = isWhole (e .target) ≡ true
-
-whole-all : (st : Reading) → Each Whole (st .complete) → lacksTarget (st .current) ≡ false → Each Whole (entriesOf st)
-unfolding entriesOf lacksTarget
-whole-all st k e = each-append Whole (st .complete) (optional (st .current)) k (go (st .current) e)
-  where
-    go : (o : Option Stored) → lacksTarget o ≡ false → Each Whole (optional o)
-    go none e = tt
-    go (some c) e = (is-true (isWhole (c .target)) e, tt)
-
-run-whole : (top : ℕ) (s : Sheet) (st : Reading) (d : Directory) → Each Whole (st .complete) → Run (step top) finish st s d → Each Whole (d .entries)
-run-whole top end st d k r = let (w, e) = finished st d r in subst (λ (x : Directory). Each Whole (x .entries)) e (whole-all st k w)
-run-whole top broken st d k r = absurd r
-run-whole top (row x rest) st d k (next, e, r) = run-whole top rest next d (go (step-taken st x next top e)) r
-  where
-    go : Taken st x next top → Each Whole (next .complete)
-    go (ofType f t) = subst (λ (n : Reading). Each Whole (n .complete)) (t .is) k
-    go (ofEntry f t) = subst (λ (n : Reading). Each Whole (n .complete)) (t .is) (whole-all st k (t .whole))
-    go (ofValue f t) = subst (λ (n : Reading). Each Whole (n .complete)) (t .is) k
-    go (ofTarget f t) = subst (λ (n : Reading). Each Whole (n .complete)) (t .is) k
-    go (ofPart f t) = subst (λ (n : Reading). Each Whole (n .complete)) (t .is) k
-
--- in an accepted directory no target is cut short
-pub whole-targets : (f : Format) (s : Bytes) (d : Directory) → directoryOf f s ≡ accept d → (k : ℕ) → k < length (d .entries) → isWhole (getD (d .entries) k blank .target) ≡ true
-whole-targets f s d e = each-at Whole blank (d .entries) (run-whole (f .top) (lines (f .width) s) nothing d tt (accepted-run f s d e))
 
 -- ---- every target has 8 parts at most
 

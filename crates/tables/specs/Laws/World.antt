@@ -8,10 +8,10 @@ use lib.ListN.{length, getD}
 use Rattle.rules.specs.Sheet.{Bytes}
 use Rattle.rules.specs.Directory.{Stored, blank}
 use Rattle.rules.specs.Decision.{Setting, Thing, granted}
-use Rattle.tables.specs.Book.{types, entries, schema, parentAt, firstAt}
+use Rattle.tables.specs.Book.{typeCount, entryCount, schema, parentAt, firstAt}
 use Rattle.tables.specs.Held.{ROWS, rankAt, placeAt, sizeAt, HeldAt}
 use Rattle.tables.specs.Sets.{grantedAt}
-use Rattle.tables.specs.World.{EntryAt, Entries, World, Known, KnownEntry, KnownTypes}
+use Rattle.tables.specs.World.{EntryAt, Entries, Known, KnownEntry, KnownTypes}
 use Rattle.tables.specs.Laws.Book.{schema-length}
 use Rattle.tables.specs.Laws.Held.{row-at}
 
@@ -20,7 +20,7 @@ pub granted-next : (σ : Setting) (es : List Stored) (k : ℕ) (x : Thing) (q : 
 unfolding grantedAt
 granted-next σ es k x q = rw (add-one k)
 
-module _ {σ : Setting} {es : List Stored} {d : Bytes} {book held : List ℕ} (h : Entries σ es d book held) (k : ℕ) (l : k < entries book) where
+module _ {σ : Setting} {es : List Stored} {d : Bytes} {book held : List ℕ} (h : Entries σ es d book held) (k : ℕ) (l : k < entryCount book) where
   pub inside : k < length es
   inside = omega (arith, l, h .count)
 
@@ -42,7 +42,7 @@ module _ {σ : Setting} {es : List Stored} {d : Bytes} {book held : List ℕ} (h
   rows-within = (omega (arith, rows-of .count), rows-of .room)
 
   module _ (i : ℕ) (from : firstAt book k ≤ i) (to : i < firstAt book (suc k)) where
-    pub rank-within : rankAt held i < types book
+    pub rank-within : rankAt held i < typeCount book
     rank-within = omega (arith, row-at rows-of i from to .rank, schema-length (h .fits))
 
     pub bytes-within : placeAt held i + sizeAt held i ≤ length d
@@ -53,11 +53,11 @@ module _ {σ : Setting} {es : List Stored} {d : Bytes} {book held : List ℕ} (h
 
 -- ---- what is known of the sets alone
 
-module _ {d p : Bytes} {book held sets : List ℕ} (h : Known d p book held sets) (e : ℕ) (l : e ≤ entries book) where
+module _ {d p : Bytes} {book held sets : List ℕ} (h : Known d p book held sets) (e : ℕ) (l : e ≤ entryCount book) where
   pub known-entry : KnownEntry sets e
   known-entry = (h .0, h .1, d, p, book, held, h .2, omega (arith, l, h .2 .entries .count))
 
-  pub known-types : (n : ℕ) → n ≤ types book → KnownTypes sets e n
+  pub known-types : (n : ℕ) → n ≤ typeCount book → KnownTypes sets e n
   known-types n m = (h .0, h .1, d, p, book, held, h .2, omega (arith, l, h .2 .entries .count), omega (arith, m, schema-length (h .2 .entries .fits)))
 
 pub entry-most : {sets : List ℕ} {e : ℕ} → KnownEntry sets e → e ≤ 256

@@ -1,12 +1,12 @@
 -- What comes next from `i` on fills the text up as the whole does.
 use Prim.Native.Nat.{_-_, _≤_}
-use mathlib.Core.Path.{_≡_, refl, sym, ap, _∙_}
+use mathlib.Core.Path.{_≡_, sym, ap, _∙_}
 use mathlib.Core.Bool.{true, false}
 use native.Mathlib.Omega.{arith}
 use lib.ListN.{length, drop}
 use denote.Ref.{now}
 use Rattle.rules.specs.Value.{tidied}
-use Rattle.rules.specs.Laws.Blanks.{words}
+use Rattle.rules.specs.Derived.{words}
 use Rattle.value_blank.specs.declared.Text.{Text}
 use Rattle.value_blank.specs.Laws.Blank.{skip-within, next-byte, next-end, tidied-none, tidied-some}
 use Rattle.value_blank.specs.Laws.Text.{filled, none, filled-none, filled-on, filled-end}

@@ -13,7 +13,8 @@ use lib.Seq.{drop-cons, drop-drop, getD-drop}
 use Rattle.rules.specs.Lists.{given}
 use Rattle.rules.specs.Sheet.{Bytes, strip}
 use Rattle.rules.specs.Value.{blankFirst, shorten, trim, orBlank, tidied}
-use Rattle.rules.specs.Laws.Blanks.{words, words-blank, words-byte, tidied-words}
+use Rattle.rules.specs.Derived.{words}
+use Rattle.rules.specs.Laws.Blanks.{words-blank, words-byte, tidied-words}
 use Rattle.value_blank.specs.declared.Next.{Next}
 use Rattle.value_blank.specs.declared.Next.the-variants.{Byte, End}
 use Rattle.value_blank.specs.Blank.{pairAt, doubledAt, hasRun, isTidy, blanks, skipped, nextAt}

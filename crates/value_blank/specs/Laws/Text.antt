@@ -1,17 +1,16 @@
 -- Laws of a text of at most 64 bytes: bytes put one after the other, runs left out, and the bytes read again.
 use Prim.Native.Nat.{ℕ, suc, _+_, _-_, _≤_, _<_}
 use mathlib.Core.Path.{_≡_, refl, sym, ap, _∙_}
-use mathlib.Core.Bool.{Bool, true, false, _&&_, cond}
+use mathlib.Core.Bool.{Bool, true, false, cond}
 use mathlib.Core.List.{[], _∷_, _++_, append-assoc, append-nil}
 use native.Mathlib.Decide.{decLt}
 use native.Mathlib.Omega.{arith}
 use native.Mathlib.Numerals.{add-one}
 use borrow.Author.Tests.{lt-ltb, le-ltb}
-use lib.Dec.{eqb}
-use lib.ListN.{length, getD, take, drop, set, replicate, length-append, drop-of-length-le}
+use lib.ListN.{length, getD, take, drop, replicate, length-append, drop-of-length-le}
 use lib.Seq.{drop-cons, set-at, take-all, take-at, take-append-le}
 use Rattle.rules.specs.Sheet.{Bytes}
-use Rattle.rules.specs.Value.{blankFirst, shorten}
+use Rattle.rules.specs.Value.{shorten}
 use Rattle.value_blank.specs.declared.Text.{Text}
 use Rattle.value_blank.specs.Blank.{doubledAt, textOf, put, kept}
 

@@ -1,6 +1,6 @@
 -- Laws of text: one byte more, four bytes more, and none.
 use Prim.Native.Nat.{ℕ, suc, _+_, _-_, _≤_, _<_}
-use mathlib.Core.Path.{_≡_, refl, sym, ap, _∙_}
+use mathlib.Core.Path.{_≡_, refl}
 use mathlib.Core.Bool.{Bool, true, false, _&&_, _||_, not}
 use native.Mathlib.Numerals.{add-one}
 use native.Mathlib.Omega.{arith}

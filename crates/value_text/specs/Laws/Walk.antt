@@ -4,15 +4,16 @@ use mathlib.Core.Path.{_≡_, refl, sym, ap, ap₂, _∙_}
 use mathlib.Core.Bool.{Bool, true, false, _&&_, cond}
 use mathlib.Core.List.{[], _∷_, _++_, map}
 use native.Mathlib.Omega.{arith}
-use borrow.Author.Tests.{eqb-true, eqb-false, eq-eqb, ne-eqb, lt-ltb, le-ltb, ltb-true, ltb-false}
+use borrow.Author.Tests.{eqb-true, eqb-false, eq-eqb, ne-eqb, lt-ltb, le-ltb, ltb-false}
 use lib.Dec.{eqb, ltb}
-use lib.ListN.{length, getD, drop, length-map}
+use lib.ListN.{length, getD, drop}
 use Rattle.rules.specs.Lists.{given}
 use Rattle.rules.specs.Sheet.{Bytes}
-use Rattle.rules.specs.Value.{text, small, orBlank, tidied, folded, normal, identical, same, orderℕ, orderBytes}
+use Rattle.rules.specs.Value.{text, small, orBlank, folded, normal, identical, same, orderℕ, orderBytes}
 use Rattle.rules.specs.Laws.Value.{identical-eq, orderBytes-refl}
 use Rattle.rules.specs.Laws.Substrings.{folded-length}
-use Rattle.rules.specs.Laws.Blanks.{words, words-blank, words-byte, small-blank, normal-text}
+use Rattle.rules.specs.Derived.{words}
+use Rattle.rules.specs.Laws.Blanks.{words-blank, words-byte, small-blank, normal-text}
 use Rattle.rules.specs.declared.Order.{Order}
 use Rattle.rules.specs.declared.Order.the-variants.{Less, Equal, Greater}
 use Rattle.value_collation.specs.Fold.{fold}

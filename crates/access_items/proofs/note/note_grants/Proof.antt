@@ -2,6 +2,7 @@ use Prim.Native.Nat.{_+_}
 use mathlib.Core.Path.{ap, _∙_}
 use denote.Ref.{now}
 use lib.ListN.{getD}
+use Rattle.permission_sheet.specs.Noted.{PERMISSIONS}
 use Rattle.access_items.specs.Note.{permitted, grantsNoted}
 use borrow.Author.Needs.{needs}
 use Rattle.access_items.proofs.note.note_grants.Statement.{statement}
@@ -9,7 +10,7 @@ use Rattle.access_items.proofs.note.note_grants.Tie as tie
 
 returns : tie.Need-returns
 unfolding grantsNoted
-returns c = let A = c .before .before .before .before .before .before .args in c .note-permissions .ensures ∙ ap (permitted 6 (getD (now (A .rights)) (A .at + 5) 0) (A .place)) (c .before .before .before .mark .ensures)
+returns c = let A = c .before .before .before .before .before .before .args in c .note-permissions .ensures ∙ ap (permitted 6 (getD (now (A .rights)) (A .at + PERMISSIONS) 0) (A .place)) (c .before .before .before .mark .ensures)
 
 pub note-grants-spec : {M : Type 1} → statement M
 note-grants-spec =

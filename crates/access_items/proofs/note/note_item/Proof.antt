@@ -2,6 +2,7 @@ use Prim.Native.Nat.{_+_}
 use mathlib.Core.Path.{ap, _∙_}
 use denote.Ref.{now}
 use lib.ListN.{getD}
+use Rattle.permission_sheet.specs.Noted.{TYPE}
 use Rattle.access_items.specs.Note.{aboutNoted, typeNoted, valueNoted, itemNoted}
 use borrow.Author.Needs.{needs}
 use Rattle.access_items.proofs.note.note_item.Statement.{statement}
@@ -12,7 +13,7 @@ unfolding itemNoted
 returns c =
     let A = c .before .before .before .before .before .before .before .before .before .before .args in
     c .note-value .ensures ∙ ap (valueNoted (now (A .rights)) (A .at) (A .place))
-    (c .before .before .note-type .ensures ∙ ap (typeNoted (now (A .schema)) (getD (now (A .rights)) (A .at + 4) 0) (A .place))
+    (c .before .before .note-type .ensures ∙ ap (typeNoted (now (A .schema)) (getD (now (A .rights)) (A .at + TYPE) 0) (A .place))
     (c .before .before .before .before .before .note-about .ensures ∙ ap (aboutNoted (now (A .rights)) (A .at) (A .place)) (c .before .before .before .before .before .before .before .note-grants .ensures)))
 
 pub note-item-spec : {M : Type 1} → statement M

@@ -4,6 +4,7 @@ use native.Mathlib.Omega.{arith}
 use denote.Ref.{now}
 use native.Mathlib.Numerals.{add-one}
 use mathlib.Core.List.{List}
+use Rattle.tables.specs.Sets.{permissionRow}
 use Rattle.access_items.specs.Mark.{marked}
 use Rattle.access_items.specs.Note.{permitted}
 use borrow.Author.Needs.{needs}
@@ -22,7 +23,7 @@ loop-holds c = (omega arith, refl)
 
 loop-again : tie.Need-loop-again Inv-loop μ-loop
 unfolding permitted
-loop-again c = let L = c .before .before .before .loop in let A = c .before .before .before .before .args in (omega (arith, c .before .before .loop-test .taken), c .mark .ensures ∙ ap (λ (t : List ℕ). marked t (258 + L .b) (A .place) (A .mask / 2 ^ L .b % 2)) (L .inv .1) ∙ ap (λ (n : ℕ). permitted n (A .mask) (A .place) (now (A .sets))) (sym (add-one (L .b))))
+loop-again c = let L = c .before .before .before .loop in let A = c .before .before .before .before .args in (omega (arith, c .before .before .loop-test .taken), c .mark .ensures ∙ ap (λ (t : List ℕ). marked t (permissionRow + L .b) (A .place) (A .mask / 2 ^ L .b % 2)) (L .inv .1) ∙ ap (λ (n : ℕ). permitted n (A .mask) (A .place) (now (A .sets))) (sym (add-one (L .b))))
 
 returns : tie.Need-returns Inv-loop μ-loop
 returns c = let L = c .before .loop in let A = c .before .before .args in let e : L .b ≡ 6 = omega (arith, L .inv .0, c .loop-test .left) in L .inv .1 ∙ ap (λ (n : ℕ). permitted n (A .mask) (A .place) (now (A .sets))) e

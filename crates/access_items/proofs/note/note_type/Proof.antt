@@ -2,6 +2,7 @@ use Prim.Native.Nat.{ℕ, _+_}
 use mathlib.Core.Path.{sym, ap, _∙_}
 use native.Mathlib.Omega.{arith}
 use denote.Ref.{now}
+use Rattle.tables.specs.Sets.{typeRow}
 use Rattle.access_items.specs.Mark.{marked}
 use Rattle.access_items.specs.Laws.Note.{type-known, type-unknown, type-none}
 use borrow.Author.Needs.{needs}
@@ -12,7 +13,7 @@ returns : tie.Need-returns
 returns c =
     let A = c .before .before .before .before .before .before .args in
     let e = c .before .before .before .rank .ensures in
-    c .mark .ensures ∙ ap (λ (r : ℕ). marked (now (A .sets)) (270 + r) (A .place) 1) e
+    c .mark .ensures ∙ ap (λ (r : ℕ). marked (now (A .sets)) (typeRow + r) (A .place) 1) e
     ∙ sym (type-known (now (A .schema)) (A .t) (A .place) (now (A .sets)) (omega (arith, e, c .before .before .if2 .taken)))
 
 returns-2 : tie.Need-returns-2

@@ -11,7 +11,7 @@ use Rattle.access_may.proofs.single.decided_value.Statement.{statement}
 use Rattle.access_may.proofs.single.decided_value.Tie as tie
 
 returns : tie.Need-returns
-returns c = decided-all (now (c .before .before .before .before .before .before .before .args .sets)) (c .before .before .before .before .before .before .before .args .all) (c .before .before .before .before .before .before .before .args .single) (sameAt (now (c .before .before .before .before .before .before .before .args .sets)) (now (c .before .before .before .before .before .before .before .args .p)) (c .before .before .before .before .before .before .before .args .syntax) (now (c .before .before .before .before .before .before .before .args .v))) (c .before .before .before .before .place .result) (c .before .before .before .before .place .ensures) (c .before .before .before .place2 .result) (c .before .before .before .place2 .ensures) (c .before .before .if1 .taken) (c .has .result) (c .has .ensures ∙ row-member (now (c .before .before .before .before .before .before .before .args .sets)) 257 (c .before .row .result) (c .before .row .ensures) (c .before .before .before .before .place .result))
+returns c = decided-all (now (c .before .before .before .before .before .before .before .args .sets)) (c .before .before .before .before .before .before .before .args .all) (c .before .before .before .before .before .before .before .args .single) (sameAt (now (c .before .before .before .before .before .before .before .args .sets)) (now (c .before .before .before .before .before .before .before .args .p)) (c .before .before .before .before .before .before .before .args .syntax) (now (c .before .before .before .before .before .before .before .args .v))) (c .before .before .before .before .place .result) (c .before .before .before .before .place .ensures) (c .before .before .before .place2 .result) (c .before .before .before .place2 .ensures) (c .before .before .if1 .taken) (c .has .result) (c .has .ensures ∙ row-member _ _ _ (c .before .row .ensures) (c .before .before .before .before .place .result))
 
 returns-2 : tie.Need-returns-2
 returns-2 c =
@@ -27,7 +27,7 @@ returns-2 c =
     (near-same S P (A .syntax) value (h .result) (c .before .before .before .before .before .before .before .before .first-slot .result) (c .before .before .before .before .before .second-slot .result) (A .single) (c .before .before .before .before .before .before .before .row2 .result)
     (c .before .before .before .before .row3 .result) (c .before .before .before .before .before .before .and .result) (near .result) (h .ensures) (c .before .before .before .before .before .before .before .before .first-slot .ensures) (c .before .before .before .before .before .second-slot .ensures)
     (c .before .before .before .before .before .before .before .row2 .ensures) (c .before .before .before .before .row3 .ensures) (member-meet _ _ _ (c .before .before .before .before .before .before .and .ensures)) (member-meet _ _ _ (near .ensures)))
-    (found .result) (found .ensures) (c .has2 .result) (c .has2 .ensures ∙ row-member S 257 (c .before .row4 .result) (c .before .row4 .ensures) (found .result))
+    (found .result) (found .ensures) (c .has2 .result) (c .has2 .ensures ∙ row-member _ _ _ (c .before .row4 .ensures) (found .result))
 
 pub decided-value-spec : {M : Type 1} → statement M
 decided-value-spec =

@@ -5,7 +5,7 @@ use native.Mathlib.Omega.{arith}
 use denote.Ref.{now}
 use Rattle.rules.specs.Directory.{Stored}
 use Rattle.rules.specs.Decision.{Setting}
-use Rattle.tables.specs.Book.{types, entries, firstAt}
+use Rattle.tables.specs.Book.{typeCount, entryCount, firstAt}
 use Rattle.tables.specs.World.{World}
 use Rattle.tables.specs.Laws.Book.{end-is}
 use Rattle.tables.specs.Laws.World.{rows-within, bytes-within}
@@ -18,37 +18,37 @@ use Rattle.answer_key.proofs.key.key_of.Tie as tie
 abbrev Inv-loop : tie.InvT-loop
 Inv-loop book held sets d p rank k syntax first i₀ best₀ i best =
     (firstAt book k ≤ i) × (i ≤ firstAt book (suc k)) × RowFits d held best
-    × ((σ : Setting) (es : List Stored) (w : World σ es d p book held sets) (l : rank < types book) (e : k < entries book) → keyIn d held best ≡ keyFrom (w .entries) rank l k e i)
+    × ((σ : Setting) (es : List Stored) (w : World σ es d p book held sets) (l : rank < typeCount book) (e : k < entryCount book) → keyIn d held best ≡ keyFrom (w .entries) rank l k e i)
 
 abbrev μ-loop : tie.MeasureT-loop
 μ-loop book held sets d p rank k syntax first i₀ best₀ i best = i - firstAt book k
 
 add-syntax : tie.Need-add-syntax Inv-loop μ-loop
-add-syntax c = let A = c .before .before .args in let P = c .before .before .pre in let E = P .0 .2 .entries in let rows = rows-within E (A .k) (P .1) in let b = now (A .book) in omega (arith, P .2, E .fits .few-types)
+add-syntax c = let P = c .before .before .pre in let E = P .0 .2 .entries in omega (arith, P .2, E .fits .few-types)
 
 mul-syntax : tie.Need-mul-syntax Inv-loop μ-loop
-mul-syntax c = let A = c .before .before .args in let P = c .before .before .pre in let E = P .0 .2 .entries in let rows = rows-within E (A .k) (P .1) in let b = now (A .book) in omega (arith, P .2, E .fits .few-types)
+mul-syntax c = let P = c .before .before .pre in let E = P .0 .2 .entries in omega (arith, P .2, E .fits .few-types)
 
 element-copy-out-syntax : tie.Need-element-copy-out-syntax Inv-loop μ-loop
-element-copy-out-syntax c = let A = c .before .before .args in let P = c .before .before .pre in let E = P .0 .2 .entries in let rows = rows-within E (A .k) (P .1) in let b = now (A .book) in omega (arith, P .2, E .fits .few-types, E .fits .size)
+element-copy-out-syntax c = let P = c .before .before .pre in let E = P .0 .2 .entries in omega (arith, P .2, E .fits .few-types, E .fits .size)
 
 add-first : tie.Need-add-first Inv-loop μ-loop
-add-first c = let A = c .before .before .before .args in let P = c .before .before .before .pre in let E = P .0 .2 .entries in let rows = rows-within E (A .k) (P .1) in let b = now (A .book) in omega (arith, P .1, E .fits .few-entries)
+add-first c = let P = c .before .before .before .pre in let E = P .0 .2 .entries in omega (arith, P .1, E .fits .few-entries)
 
 mul-first : tie.Need-mul-first Inv-loop μ-loop
-mul-first c = let A = c .before .before .before .args in let P = c .before .before .before .pre in let E = P .0 .2 .entries in let rows = rows-within E (A .k) (P .1) in let b = now (A .book) in omega (arith, P .1, E .fits .few-entries)
+mul-first c = let P = c .before .before .before .pre in let E = P .0 .2 .entries in omega (arith, P .1, E .fits .few-entries)
 
 element-copy-out-first : tie.Need-element-copy-out-first Inv-loop μ-loop
-element-copy-out-first c = let A = c .before .before .before .args in let P = c .before .before .before .pre in let E = P .0 .2 .entries in let rows = rows-within E (A .k) (P .1) in let b = now (A .book) in omega (arith, P .1, E .fits .few-entries, E .fits .size)
+element-copy-out-first c = let P = c .before .before .before .pre in let E = P .0 .2 .entries in omega (arith, P .1, E .fits .few-entries, E .fits .size)
 
 add-i-2 : tie.Need-add-i-2 Inv-loop μ-loop
-add-i-2 c = let A = c .before .before .before .before .args in let P = c .before .before .before .before .pre in let E = P .0 .2 .entries in let rows = rows-within E (A .k) (P .1) in let b = now (A .book) in omega (arith, P .1, E .fits .few-entries)
+add-i-2 c = let P = c .before .before .before .before .pre in let E = P .0 .2 .entries in omega (arith, P .1, E .fits .few-entries)
 
 mul-i : tie.Need-mul-i Inv-loop μ-loop
-mul-i c = let A = c .before .before .before .before .args in let P = c .before .before .before .before .pre in let E = P .0 .2 .entries in let rows = rows-within E (A .k) (P .1) in let b = now (A .book) in omega (arith, P .1, E .fits .few-entries)
+mul-i c = let P = c .before .before .before .before .pre in let E = P .0 .2 .entries in omega (arith, P .1, E .fits .few-entries)
 
 element-copy-out-i : tie.Need-element-copy-out-i Inv-loop μ-loop
-element-copy-out-i c = let A = c .before .before .before .before .args in let P = c .before .before .before .before .pre in let E = P .0 .2 .entries in let rows = rows-within E (A .k) (P .1) in let b = now (A .book) in omega (arith, P .1, E .fits .few-entries, E .fits .size)
+element-copy-out-i c = let P = c .before .before .before .before .pre in let E = P .0 .2 .entries in omega (arith, P .1, E .fits .few-entries, E .fits .size)
 
 loop-holds : tie.Need-loop-holds Inv-loop μ-loop
 loop-holds c = let A = c .before .before .before .before .before .args in let P = c .before .before .before .before .before .pre in let E = P .0 .2 .entries in let rows = rows-within E (A .k) (P .1) in let b = now (A .book) in (
@@ -59,13 +59,13 @@ loop-holds c = let A = c .before .before .before .before .before .args in let P 
 )
 
 readable-requires : tie.Need-readable-requires Inv-loop μ-loop
-readable-requires c κs = let A = c .before .before .before .before .before .before .before .args in let P = c .before .before .before .before .before .before .before .pre in let E = P .0 .2 .entries in let rows = rows-within E (A .k) (P .1) in let b = now (A .book) in let L = c .before .loop in let l = c .loop-test .taken in (P .0, P .1, P .2, omega (arith, l), omega (arith, l, L .inv .1))
+readable-requires c κs = let P = c .before .before .before .before .before .before .before .pre in let L = c .before .loop in let l = c .loop-test .taken in (P .0, P .1, P .2, omega (arith, l), omega (arith, l, L .inv .1))
 
 smaller-requires : tie.Need-smaller-requires Inv-loop μ-loop
-smaller-requires c κs = let A = c .before .before .before .before .before .before .before .before .before .args in let P = c .before .before .before .before .before .before .before .before .before .pre in let E = P .0 .2 .entries in let rows = rows-within E (A .k) (P .1) in let b = now (A .book) in let L = c .before .before .before .loop in let l = c .before .before .loop-test .taken in (omega (arith, l, L .inv .1, rows .1), bytes-within E (A .k) (P .1) (L .i - 1) (omega (arith, l)) (omega (arith, l, L .inv .1)), L .inv .2)
+smaller-requires c κs = let A = c .before .before .before .before .before .before .before .before .before .args in let P = c .before .before .before .before .before .before .before .before .before .pre in let E = P .0 .2 .entries in let rows = rows-within E (A .k) (P .1) in let L = c .before .before .before .loop in let l = c .before .before .loop-test .taken in (omega (arith, l, L .inv .1, rows .1), bytes-within E (A .k) (P .1) (L .i - 1) (omega (arith, l)) (omega (arith, l, L .inv .1)), L .inv .2)
 
 loop-again : tie.Need-loop-again Inv-loop μ-loop
-loop-again c = let A = c .before .before .before .before .before .before .before .before .before .before .args in let P = c .before .before .before .before .before .before .before .before .before .before .pre in let E = P .0 .2 .entries in let rows = rows-within E (A .k) (P .1) in let b = now (A .book) in let L = c .before .before .before .before .loop in let t = c .before .before .before .loop-test .taken in let n : L .i ≡ L .i - 1 + 1 = omega (arith, t) in (
+loop-again c = let A = c .before .before .before .before .before .before .before .before .before .before .args in let L = c .before .before .before .before .loop in let t = c .before .before .before .loop-test .taken in let n : L .i ≡ L .i - 1 + 1 = omega (arith, t) in (
   omega (arith, t),
   omega (arith, t, L .inv .1),
   c .smaller .ensures .0,
@@ -75,7 +75,7 @@ loop-again c = let A = c .before .before .before .before .before .before .before
 )
 
 loop-again-2 : tie.Need-loop-again-2 Inv-loop μ-loop
-loop-again-2 c = let A = c .before .before .before .before .before .before .before .before .before .args in let P = c .before .before .before .before .before .before .before .before .before .pre in let E = P .0 .2 .entries in let rows = rows-within E (A .k) (P .1) in let b = now (A .book) in let L = c .before .before .before .loop in let t = c .before .before .loop-test .taken in let n : L .i ≡ L .i - 1 + 1 = omega (arith, t) in (
+loop-again-2 c = let A = c .before .before .before .before .before .before .before .before .before .args in let L = c .before .before .before .loop in let t = c .before .before .loop-test .taken in let n : L .i ≡ L .i - 1 + 1 = omega (arith, t) in (
   omega (arith, t),
   omega (arith, t, L .inv .1),
   L .inv .2,
@@ -84,7 +84,7 @@ loop-again-2 c = let A = c .before .before .before .before .before .before .befo
 )
 
 returns : tie.Need-returns Inv-loop μ-loop
-returns c = let A = c .before .before .before .before .before .before .before .args in let P = c .before .before .before .before .before .before .before .pre in let E = P .0 .2 .entries in let rows = rows-within E (A .k) (P .1) in let b = now (A .book) in let L = c .before .loop in let n : L .i ≡ firstAt b (A .k) = omega (arith, L .inv .0, c .loop-test .left) in
+returns c = let A = c .before .before .before .before .before .before .before .args in let P = c .before .before .before .before .before .before .before .pre in let b = now (A .book) in let L = c .before .loop in let n : L .i ≡ firstAt b (A .k) = omega (arith, L .inv .0, c .loop-test .left) in
     record { fits = L .inv .2; is = λ σ es w. L .inv .3 σ es w (P .2) (P .1) ∙ ap (keyFrom (w .entries) (A .rank) (P .2) (A .k) (P .1)) n ∙ from-first (w .entries) (A .rank) (P .2) (A .k) (P .1) }
 
 pub key-of-spec : {M : Type 1} → statement M

@@ -5,8 +5,9 @@ use native.Mathlib.Numerals.{add-one}
 use lib.ListN.{length, getD, take, set, length-set}
 use lib.Seq.{take-suc, take-all}
 use denote.Ref.{now}
-use Rattle.rules.specs.Laws.Each.{Each, each-at}
-use Rattle.tables.specs.Book.{entries, schema}
+use Rattle.rules.specs.Derived.{Each}
+use Rattle.rules.specs.Laws.Each.{each-at}
+use Rattle.tables.specs.Book.{entryCount, schema}
 use Rattle.tables.specs.Held.{typeAt}
 use Rattle.answer_key.specs.Keys.{KeyOf}
 use Rattle.answer_key.specs.Laws.Keys.{key-noted}
@@ -25,18 +26,18 @@ loop-holds : tie.Need-loop-holds Inv-loop μ-loop
 loop-holds c = (omega arith, c .before .before .before .pre .3, tt)
 
 key-of-requires : tie.Need-key-of-requires Inv-loop μ-loop
-key-of-requires c κs = let A = c .before .before .before .before .before .before .args in let P = c .before .before .before .before .before .before .pre in (P .0, each-at (λ k. k < entries (now (A .book))) 0 (now (A .found)) (P .2) (c .before .before .loop .j) (c .before .loop-test .taken), P .1)
+key-of-requires c κs = let A = c .before .before .before .before .before .before .args in let P = c .before .before .before .before .before .before .pre in (P .0, each-at (λ k. k < entryCount (now (A .book))) 0 (now (A .found)) (P .2) (c .before .before .loop .j) (c .before .loop-test .taken), P .1)
 
 mul-keys : tie.Need-mul-keys Inv-loop μ-loop
-mul-keys c = let A = c .before .before .before .before .before .before .before .args in let P = c .before .before .before .before .before .before .before .pre in omega (arith, P .0 .2 .entries .fits .few-entries, each-at (λ k. k < entries (now (A .book))) 0 (now (A .found)) (P .2) (c .before .before .before .loop .j) (c .before .before .loop-test .taken))
+mul-keys c = let A = c .before .before .before .before .before .before .before .args in let P = c .before .before .before .before .before .before .before .pre in omega (arith, P .0 .2 .entries .fits .few-entries, each-at (λ k. k < entryCount (now (A .book))) 0 (now (A .found)) (P .2) (c .before .before .before .loop .j) (c .before .before .loop-test .taken))
 
 element-write-keys : tie.Need-element-write-keys Inv-loop μ-loop
-element-write-keys c = let A = c .before .before .before .before .before .before .before .args in let P = c .before .before .before .before .before .before .before .pre in omega (arith, c .before .before .before .loop .inv .1, P .0 .2 .entries .fits .few-entries, each-at (λ k. k < entries (now (A .book))) 0 (now (A .found)) (P .2) (c .before .before .before .loop .j) (c .before .before .loop-test .taken))
+element-write-keys c = let A = c .before .before .before .before .before .before .before .args in let P = c .before .before .before .before .before .before .before .pre in omega (arith, c .before .before .before .loop .inv .1, P .0 .2 .entries .fits .few-entries, each-at (λ k. k < entryCount (now (A .book))) 0 (now (A .found)) (P .2) (c .before .before .before .loop .j) (c .before .before .loop-test .taken))
 
 loop-again : tie.Need-loop-again Inv-loop μ-loop
 loop-again c = let A = c .before .before .before .before .before .before .before .args in let P = c .before .before .before .before .before .before .before .pre in let L = c .before .before .before .loop in let l = c .before .before .loop-test .taken in
     let k = getD (now (A .found)) (L .j) 0 in
-    let inside : k < length (L .keys) = omega (arith, L .inv .1, P .0 .2 .entries .fits .few-entries, each-at (λ k. k < entries (now (A .book))) 0 (now (A .found)) (P .2) (L .j) l) in
+    let inside : k < length (L .keys) = omega (arith, L .inv .1, P .0 .2 .entries .fits .few-entries, each-at (λ k. k < entryCount (now (A .book))) 0 (now (A .found)) (P .2) (L .j) l) in
     let Q = KeyOf (now (A .d)) (now (A .p)) (now (A .book)) (now (A .held)) (now (A .sets)) (typeAt (schema (now (A .book))) (A .rank)) in (
       omega (arith, l),
       length-set (L .keys) k (c .key-of .result) ∙ L .inv .1,

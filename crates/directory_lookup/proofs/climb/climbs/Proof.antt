@@ -1,6 +1,6 @@
 use Prim.Native.Nat.{_-_, _≤_}
 use native.Mathlib.Omega.{arith}
-use Rattle.tables.specs.Book.{entries}
+use Rattle.tables.specs.Book.{entryCount}
 use Rattle.tables.specs.Laws.World.{parent-falls}
 use Rattle.directory_lookup.specs.Laws.Climb.{Climbing, climbing-start, climbing-on, climbing-end}
 use borrow.Author.Needs.{needs}
@@ -8,7 +8,7 @@ use Rattle.directory_lookup.proofs.climb.climbs.Statement.{statement}
 use Rattle.directory_lookup.proofs.climb.climbs.Tie as tie
 
 abbrev Inv-loop : tie.InvT-loop
-Inv-loop book b e k₀ k = (k ≤ entries book) × Climbing book b e k
+Inv-loop book b e k₀ k = (k ≤ entryCount book) × Climbing book b e k
 
 abbrev μ-loop : tie.MeasureT-loop
 μ-loop book b e k₀ k = k

@@ -1,12 +1,12 @@
 use Prim.Native.Nat.{_≤_, zero-le}
-use Rattle.tables.specs.Book.{entries}
+use Rattle.tables.specs.Book.{entryCount}
 use Rattle.directory_lookup.specs.Laws.Find.{within-of, Led, led-start, led-on, led-lost, led-ended, led-end}
 use borrow.Author.Needs.{needs}
 use Rattle.directory_lookup.proofs.find.resolve.Statement.{statement}
 use Rattle.directory_lookup.proofs.find.resolve.Tie as tie
 
 abbrev Inv-loop : tie.InvT-loop
-Inv-loop book d s i n from₀ j₀ left₀ from j left = (from ≤ entries book) × Led book d s i n from j left
+Inv-loop book d s i n from₀ j₀ left₀ from j left = (from ≤ entryCount book) × Led book d s i n from j left
 
 abbrev μ-loop : tie.MeasureT-loop
 μ-loop book d s i n from₀ j₀ left₀ from j left = left

@@ -18,21 +18,18 @@ abbrev μ-loop : tie.MeasureT-loop
 loop-holds : tie.Need-loop-holds Inv-loop μ-loop
 loop-holds c = measured-start _ _ _
 
-add-n : tie.Need-add-n Inv-loop μ-loop
-add-n c = omega (arith, c .before .before .before .before .before .before .pre)
-
-add-n-2 : tie.Need-add-n-2 Inv-loop μ-loop
-add-n-2 c =
-    let A = c .before .before .before .before .before .before .before in
-    let L = c .before .before .before .before .before .loop in
-    let f = taken-fits-line (A .args .w) (now (A .args .s)) (L .at) (sym (c .before .before .before .before .take .ensures) ∙ c .before .before .line .given .1) in
+size-requires : tie.Need-size-requires Inv-loop μ-loop
+size-requires c κs =
+    let A = c .before .before .before .before .before .before in
+    let L = c .before .before .before .before .loop in
+    let f = taken-fits-line (A .args .w) (now (A .args .s)) (L .at) (sym (c .before .before .before .take .ensures) ∙ c .before .line .given .1) in
     omega (arith, A .pre, f .short)
 
-add-n-3 : tie.Need-add-n-3 Inv-loop μ-loop
-add-n-3 c =
-    let A = c .before .before .before .before .before .before .before in
-    let m = measured-on (c .before .before .before .before .before .loop .inv) (A .pre .1) (sym (c .before .before .before .before .take .ensures) ∙ c .before .before .line .given .1) in
-    omega (arith, A .pre, m .few, m .within)
+loop-again : tie.Need-loop-again Inv-loop μ-loop
+loop-again c = measured-on (c .before .before .before .before .before .loop .inv) (c .before .before .before .before .before .before .before .pre .1) (sym (c .before .before .before .before .take .ensures) ∙ c .before .before .line .given .1) (c .size .ensures)
+
+add-n : tie.Need-add-n Inv-loop μ-loop
+add-n c = let m = loop-again c in omega (arith, c .before .before .before .before .before .before .before .pre, m .few, m .within)
 
 loop-less : tie.Need-loop-less Inv-loop μ-loop
 loop-less c =
@@ -40,11 +37,6 @@ loop-less c =
     let L = c .before .before .before .before .before .loop in
     let f = taken-fits-line (A .w) (now (A .s)) (L .at) (sym (c .before .before .before .before .take .ensures) ∙ c .before .before .line .given .1) in
     omega (arith, f .place, f .next, f .within)
-
-loop-again : tie.Need-loop-again Inv-loop μ-loop
-loop-again c =
-    let A = c .before .before .before .before .before .before .before in
-    measured-on (c .before .before .before .before .before .loop .inv) (A .pre .1) (sym (c .before .before .before .before .take .ensures) ∙ c .before .before .line .given .1)
 
 returns : tie.Need-returns Inv-loop μ-loop
 returns c =
@@ -59,5 +51,5 @@ returns-2 c =
 pub measured-spec : {M : Type 1} → statement M
 measured-spec =
     tie.close
-    (tie.spec Inv-loop μ-loop loop-holds (λ c κs. search needs) (λ c. search needs) (λ c. search needs) add-n add-n-2 add-n-3 loop-less loop-again
+    (tie.spec Inv-loop μ-loop loop-holds (λ c κs. search needs) (λ c. search needs) size-requires add-n loop-less loop-again
     (λ c. search needs) returns (λ c. search needs) returns-2)

@@ -2,7 +2,7 @@ use mathlib.Core.Path.{sym, ap, subst}
 use native.Mathlib.Omega.{arith}
 use lib.ListN.{length}
 use denote.Ref.{now}
-use Rattle.directory_schema.specs.Schema.{Rising}
+use Rattle.name.specs.Schema.{Rising}
 use Rattle.tables.specs.Book.{width}
 use Rattle.tables.specs.Laws.Book.{schema-length}
 use Rattle.access_items.specs.Laws.Items.{small-rows}

@@ -22,12 +22,12 @@ judge-requires : tie.Need-judge-requires
 judge-requires c κs = c .before .before .before .before .before .before .before .pre .1 .directory .usable
 
 returns : tie.Need-returns
-returns c = let A = c .before .before .before .before .before .before .before .before .before .before .before .args in let f = A .terms .format in let W = width (now (A .book)) in let q = now (A .q) in let k = c .before .before .before .judge in λ g G.
+returns c = let A = c .before .before .before .before .before .before .before .before .before .before .before .args in let f = A .terms .format in let q = now (A .q) in let k = c .before .before .before .judge in λ g G.
     replies-refused (k .result .refusal) _ (now (A .out)) (c .refused .result) (c .refused .ensures)
     (request-refuses f (A .terms .limits) g q (length (now (A .out))) (k .result .refusal) (judged-refused f (g .directory .schema) q (k .result) (judged-under f q (G .directory) (c .before .before .before .before .schema .ensures) (k .ensures)) (c .before .if1 .taken)))
 
 within-requires : tie.Need-within-requires
-within-requires c κs = let A = c .before .before .before .before .before .before .before .before .before .before .args in let f = A .terms .format in let W = width (now (A .book)) in let q = now (A .q) in let k = c .before .before .judge in let g = c .before .before .before .before .before .before .before .before .before .before .pre .0 in let G = c .before .before .before .before .before .before .before .before .before .before .pre .1 in let J = judged-accepted f (g .directory .schema) q (k .result) (judged-under f q (G .directory) (c .before .before .before .schema .ensures) (k .ensures)) (c .if1 .left) in (requestGrammar (f .top), f .width, q, J .0, J .2)
+within-requires c κs = let A = c .before .before .before .before .before .before .before .before .before .before .args in let f = A .terms .format in let q = now (A .q) in let k = c .before .before .judge in let g = c .before .before .before .before .before .before .before .before .before .before .pre .0 in let G = c .before .before .before .before .before .before .before .before .before .before .pre .1 in let J = judged-accepted f (g .directory .schema) q (k .result) (judged-under f q (G .directory) (c .before .before .before .schema .ensures) (k .ensures)) (c .if1 .left) in (requestGrammar (f .top), f .width, q, J .0, J .2)
 
 note-sets-requires : tie.Need-note-sets-requires
 note-sets-requires c κs = let A = c .before .before .before .before .before .before .before .before .before .before .before .before .args in let f = A .terms .format in let W = width (now (A .book)) in let q = now (A .q) in let k = c .before .before .before .before .judge in let g = c .before .before .before .before .before .before .before .before .before .before .before .before .pre .0 in let G = c .before .before .before .before .before .before .before .before .before .before .before .before .pre .1 in

@@ -1,6 +1,6 @@
 use denote.Ref.{now}
 use native.Mathlib.Omega.{arith}
-use Rattle.filter_lines.specs.Lines.{kindAt, firstAt, typeRank, valueAt, piecesAt}
+use Rattle.filter_lines.specs.Lines.{kindAt, columnA, typeRank, lineValue, piecesAt}
 use Rattle.filter_matchable.specs.Laws.Matchable.{values-within}
 use Rattle.filter_item.specs.Laws.Entry.{item-beyond, item-undecidable, item-told}
 use borrow.Author.Needs.{needs}
@@ -13,9 +13,9 @@ returns c =
     let P = c .before .before .before .before .before .pre in
     let rows = now (A .rows) in
     let kind = kindAt rows (A .line) in
-    let t = firstAt rows (A .line) in
+    let t = columnA rows (A .line) in
     let rank = typeRank rows (A .line) in
-    let v = valueAt (now (A .q)) rows (A .line) in
+    let v = lineValue (now (A .q)) rows (A .line) in
     let ps = piecesAt (now (A .q)) rows (A .extent .lines) (A .line) in
     λ σ es asked e s w. item-beyond σ es (now (A .d)) (now (A .book)) (now (A .held)) e (A .k) (omega (arith, P .0 .candidate .within, e .count)) kind t rank v ps (P .3 .rank (A .line) (P .4)) (c .if1 .taken)
 
@@ -28,9 +28,9 @@ returns-2 c =
     let P = c .before .before .before .before .before .before .before .before .before .before .before .before .pre in
     let rows = now (A .rows) in
     let kind = kindAt rows (A .line) in
-    let t = firstAt rows (A .line) in
+    let t = columnA rows (A .line) in
     let rank = typeRank rows (A .line) in
-    let v = valueAt (now (A .q)) rows (A .line) in
+    let v = lineValue (now (A .q)) rows (A .line) in
     let ps = piecesAt (now (A .q)) rows (A .extent .lines) (A .line) in
     let few = c .before .before .before .before .before .before .before .if1 .left in
     λ σ es asked e s w.
@@ -44,9 +44,9 @@ returns-3 c =
     let P = c .before .before .before .before .before .before .before .before .pre in
     let rows = now (A .rows) in
     let kind = kindAt rows (A .line) in
-    let t = firstAt rows (A .line) in
+    let t = columnA rows (A .line) in
     let rank = typeRank rows (A .line) in
-    let v = valueAt (now (A .q)) rows (A .line) in
+    let v = lineValue (now (A .q)) rows (A .line) in
     let ps = piecesAt (now (A .q)) rows (A .extent .lines) (A .line) in
     let few = c .before .before .before .if1 .left in
     λ σ es asked e s w.

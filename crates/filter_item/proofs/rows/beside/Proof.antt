@@ -2,7 +2,8 @@ use denote.Ref.{now}
 use mathlib.Core.Path.{sym, ap, _∙_}
 use mathlib.Core.Bool.{Bool, not}
 use Rattle.rules.specs.FilterItem.{isLess}
-use Rattle.rules.specs.Laws.Value.{reversed, order-reversed}
+use Rattle.rules.specs.Derived.{reversed}
+use Rattle.rules.specs.Laws.Value.{order-reversed}
 use Rattle.rules.specs.declared.Order.{Order}
 use Rattle.filter_item.specs.Rows.{besideBy}
 use borrow.Author.Needs.{needs}

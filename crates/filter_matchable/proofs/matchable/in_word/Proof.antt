@@ -1,11 +1,11 @@
 use mathlib.Core.Path.{refl}
-use Rattle.access_set.specs.Member.{bit}
+use Rattle.access_set.specs.Member.{bitOf}
 use borrow.Author.Needs.{needs}
 use Rattle.filter_matchable.proofs.matchable.in_word.Statement.{statement}
 use Rattle.filter_matchable.proofs.matchable.in_word.Tie as tie
 
 returns : tie.Need-returns
-unfolding bit
+unfolding bitOf
 returns c = refl
 
 pub in-word-spec : {M : Type 1} → statement M

@@ -1,5 +1,5 @@
 use denote.Ref.{now}
-use Rattle.tables.specs.Book.{schema, types}
+use Rattle.tables.specs.Book.{schemaColumn, schema, typeCount}
 use Rattle.tables.specs.Laws.Book.{cut-part}
 use borrow.Author.Needs.{needs}
 use Rattle.tables.proofs.book.schema.Statement.{statement}
@@ -7,7 +7,7 @@ use Rattle.tables.proofs.book.schema.Tie as tie
 
 returns : tie.Need-returns
 unfolding schema
-returns c = let b = now (c .before .before .args .book) in cut-part b 8 (types b)
+returns c = let b = now (c .before .before .args .book) in cut-part b schemaColumn (typeCount b)
 
 pub schema-spec : {M : Type 1} → statement M
 schema-spec =

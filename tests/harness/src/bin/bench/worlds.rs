@@ -174,7 +174,7 @@ fn alike(number: u32) -> Vec<u8> {
     [number >> 9, number >> 6, number >> 3, number].map(|place| (place as u8 & 7) << 5 | 1).to_vec()
 }
 
-/// Four octets, others for each number, chosen so that the library (crate `directory_ruling`) notes all of
+/// Four octets, others for each number, chosen so that the library (crate `directory_duplicates`) notes all of
 /// them in one bucket and looks through it for each.
 fn crowded(number: u32) -> Vec<u8> {
     static VALUES: OnceLock<Vec<[u8; 4]>> = OnceLock::new();

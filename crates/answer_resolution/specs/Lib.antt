@@ -1,0 +1,2 @@
+pub mod Resolution
+pub mod Laws
