@@ -5,11 +5,12 @@ trap 'rm -rf "$work"' EXIT
 
 # Proves and builds the library, saying how far it has come; what the prover says is shown only if it fails.
 build_library() {
-    local log=$work/log crates
-    crates=$(grep '^[a-z_]*:' crates.txt | grep -cv '^ask:')
-    rt staticlib dinghy >"$log" 2>&1 &
+    local log=$work/log crates proved
+    crates=$(grep -c '^[a-z_]*[ a-z]*:' crates.txt)
+    ./library >"$log" 2>&1 &
     while kill -0 $! 2>/dev/null; do
-        printf '\rproving and building the library: %d of %d crates' "$(grep -c '^rt: .* proved' "$log" || true)" "$crates" >&2
+        proved=$(grep -ac '^logic=proved' "$log" || true)
+        printf '\rproving and building the library: %d of %d crates' $((proved < crates ? proved : crates)) "$crates" >&2
         sleep 1
     done
     printf '\n' >&2
@@ -21,15 +22,21 @@ build_program() {
     "${CC:-gcc}" -std=c11 -O2 -Wall -Wextra -Werror -Iinclude "examples/$(basename "$2").c" "$1/libdinghy.a" -o "$2"
 }
 
+# newer FILE PATH..: a source in these that is newer than the file, or the file itself if it is missing. What the prover keeps in crates/NAME/out is none.
+newer() {
+    local file=$1
+    shift
+    if [ -f "$file" ]; then find "$@" -name out -prune -o -type f -newer "$file" -print -quit; else echo "$file"; fi
+}
+
 make() {
     if [ -n "${DINGHY_LIB_DIR:-}" ]; then
         program=$work/$1
         build_program "$DINGHY_LIB_DIR" "$program"
     else
+        local library=target/staticlib/libdinghy.a
         program=target/$1
-        if [ ! -f "$program" ] || [ -n "$(find crates crates.txt include examples/*.[ch] -newer "$program" -print -quit)" ]; then
-            build_library
-            build_program target/staticlib "$program"
-        fi
+        if [ -n "$(newer "$library" crates crates.txt)" ]; then build_library; fi
+        if [ -n "$(newer "$program" "$library" include examples/*.[ch])" ]; then build_program target/staticlib "$program"; fi
     fi
 }

@@ -1,4 +1,6 @@
 // The items that cover each entry and fit the requester, for all entries in one pass in directory order; and with them all that the requester may.
+#![tactic(auto)]
+
 mod enter;
 mod row;
 

@@ -1,5 +1,7 @@
 // The items of a permission sheet as sets: their numbers in order of weight, and for each test of an item the set of those that pass it.
 // A question is then answered by the first member of an intersection.
+#![tactic(auto)]
+
 pub mod mark;
 mod note;
 

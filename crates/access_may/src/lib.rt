@@ -1,5 +1,7 @@
 // May this requester? The three questions about a permission: of an entry, of a type of it, of a value of it. Each is an AND of sets of items, whose
 // first member decides.
+#![tactic(auto)]
+
 mod single;
 
 ghost use Rattle.std.specs.Prelude.{◌≡◌, ◌&&◌, ◌||◌, List, ℕ, suc, ◌+◌, ◌^◌, ◌≤◌, ◌<◌, length};

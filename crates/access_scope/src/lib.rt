@@ -1,4 +1,6 @@
 // Which entries each item is for, resolved once for a request: the level first, then the user's name, then the base. The reach of an item is one number.
+#![tactic(auto)]
+
 mod asked;
 
 ghost use Rattle.std.specs.Prelude.{◌≡◌, ℕ, ◌≤◌, ◌<◌, List, eqb, length, take, drop};
@@ -23,7 +25,7 @@ use rules::who::ENTRY_ITSELF;
 use tables::book::BOOK;
 
 // The requester: the level, and the name, the `parts` K 9 lines at position `place` of the request.
-#[derive(Drop)]
+#[derive(Clone, Copy)]
 pub struct Requester {
     pub level: u64,
     pub place: usize,
@@ -31,7 +33,7 @@ pub struct Requester {
 }
 
 // What an item says of entries and users, as the permission sheet's judge noted it: each name by its position on that sheet and its parts.
-#[derive(Drop)]
+#[derive(Clone, Copy)]
 pub struct Scope {
     pub grants: u64,
     pub level: u64,

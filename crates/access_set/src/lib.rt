@@ -1,11 +1,13 @@
 // Sets of numbers below 256, as 256 bits by value.
+#![tactic(auto)]
+
 ghost use Rattle.std.specs.Prelude.{◌≡◌, true, false, not, ◌&&◌, ◌||◌, ℕ, ◌<◌, eqb};
 ghost use Rattle.access_set.specs.Member.{Lowest, word_of, member, meet, join, Least};
 
 use rules::Found;
 
 // Bit `i % 64` of word `i / 64`.
-#[derive(Drop)]
+#[derive(Clone, Copy)]
 pub struct Bits {
     pub a: u64,
     pub b: u64,

@@ -1,4 +1,6 @@
 // What a request selects, K 12, by the ranks of the types in the schema: made once for a request.
+#![tactic(auto)]
+
 ghost use Rattle.std.specs.Prelude.{◌≡◌, ◌||◌, ℕ, ◌≤◌, ◌<◌, eqb, length};
 ghost use Rattle.rules.specs.Lists.{any};
 ghost use Rattle.rules.specs.Places.{lines_at, types_of};

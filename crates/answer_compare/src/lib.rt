@@ -1,4 +1,6 @@
 // Compare: is a value of a type of an entry equal to the one given?
+#![tactic(auto)]
+
 ghost use Rattle.std.specs.Prelude.{◌≡◌, List, map, ℕ, suc, ◌+◌, ◌≤◌, ◌<◌, ltb, get_or};
 ghost use Rattle.rules.specs.Sheet.{Bytes};
 ghost use Rattle.rules.specs.Sheet as Sheet;

@@ -1,5 +1,7 @@
 // What is decided of an entry by the permissions on the entry alone: whether read and compare open it, whether list and search may return it; and the
 // plan of the entries that were found.
+#![tactic(auto)]
+
 ghost use Rattle.std.specs.Prelude.{◌≡◌, List, ℕ, ◌≤◌, ◌<◌, ◌^◌, length};
 ghost use Rattle.rules.specs.Sheet.{Bytes};
 ghost use Rattle.rules.specs.Directory.{Stored};

@@ -1,4 +1,6 @@
 // What is returned of an entry: each of its types that is selected and may be read and, if values are wanted, its values that may be read.
+#![tactic(auto)]
+
 mod values;
 
 ghost use Rattle.std.specs.Prelude.{◌≡◌, ℕ, ◌+◌, ◌-◌, ◌*◌, ◌≤◌, ◌<◌, List, length};
@@ -27,7 +29,7 @@ use tables::sets::{READ, SETS};
 use values::emit_readable;
 
 // Values of one type, which stand together: the type's rank, the row of the first and the row after the last.
-#[derive(Drop)]
+#[derive(Clone, Copy)]
 pub struct Run {
     pub rank: usize,
     pub first: usize,

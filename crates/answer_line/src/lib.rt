@@ -1,5 +1,7 @@
 // One line of an answer, written only where it fits. A run over an empty part of the buffer tells the length of an answer; a run over the whole buffer
 // writes it.
+#![tactic(auto)]
+
 ghost use Rattle.std.specs.Prelude.{◌+◌, ◌≤◌, [], ◌∷◌, length};
 ghost use Rattle.rules.specs.Sheet.{line};
 ghost use Rattle.sheet_kind.specs.Kinds.{number_of};

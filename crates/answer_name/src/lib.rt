@@ -1,5 +1,7 @@
 // Names in an answer, from the numbers of the book: an entry's naming part, and the parts of its full name. Entries have indices from 0 and numbers from 1;
 // 0 is the number of the root.
+#![tactic(auto)]
+
 ghost use Rattle.std.specs.Prelude.{◌≡◌, ℕ, ◌+◌, ◌*◌, ◌≤◌, ◌<◌, List, [], ◌∷◌, length, get_or};
 ghost use Rattle.rules.specs.Sheet.{Bytes, bit};
 ghost use Rattle.rules.specs.Directory.{Stored, blank, name_at, is_alias};

@@ -1,4 +1,6 @@
 // The plan of the answer, by the name and the operation that are asked for.
+#![tactic(auto)]
+
 ghost use Rattle.std.specs.Prelude.{◌≡◌, List, map, length};
 ghost use Rattle.rules.specs.Name.{Name};
 ghost use Rattle.rules.specs.Directory.{Stored, entry_of};

@@ -1,4 +1,6 @@
 // A plan written, line by line, each only where it fits: over an empty part of the buffer it tells the length of the answer.
+#![tactic(auto)]
+
 mod entries;
 
 ghost use Rattle.std.specs.Prelude.{◌≡◌, ◌+◌, ◌*◌, ◌≤◌, List, length};

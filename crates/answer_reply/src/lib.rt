@@ -1,4 +1,6 @@
 // What is returned: the answer's length, or why there is none.
+#![tactic(auto)]
+
 ghost use Rattle.std.specs.Prelude.{◌≡◌};
 
 // The refusal number, 0 for none, and the number of bytes of the answer.

@@ -1,5 +1,7 @@
 // The entry that a request names, and the entry with the matched name. While an alias stands at the beginning of the name, that beginning is replaced by the
 // alias's target (#105).
+#![tactic(auto)]
+
 mod replace;
 mod way;
 

@@ -1,5 +1,7 @@
 // Search: the entries of the subset that the filter is true of, by number, in the order that is asked for. The filter's lines are read once; it is judged of an entry only after the
 // permissions on the entry, as `matches` demands.
+#![tactic(auto)]
+
 ghost use Rattle.std.specs.Prelude.{◌≡◌, List, ◌++◌, map, ℕ, suc, ◌+◌, ◌*◌, ◌≤◌, ◌<◌, length, take, drop};
 ghost use Rattle.rules.specs.Sheet.{Bytes};
 ghost use Rattle.rules.specs.Name.{Name};
@@ -44,7 +46,7 @@ use tables::sets::{DISCLOSE_ON_ERROR, SETS};
 
 // What a search asks: at most how many entries (0 is no limit), the type that orders them (0 is none) and whether they fall, the subset, the position
 // of the filter's first line, and the logic that it is evaluated by.
-#[derive(Drop)]
+#[derive(Clone, Copy)]
 pub struct Query {
     pub limit: u64,
     pub order_type: u64,

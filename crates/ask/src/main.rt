@@ -1,16 +1,21 @@
 // Reads a directory, a permission sheet and a request from the files dir, perm and request, or from those that its arguments name, and prints the
 // answer, or "refused" and the number.
-ghost use Rattle.std.specs.Prelude.{◌≡◌, length};
-ghost use Rattle.io.specs.Counts.{IsPrefixLen};
+#![tactic(auto)]
 
-use libc::STDOUT_FILENO;
+ghost use Rattle.std.specs.Prelude.{◌≡◌, ◌≤◌, length, IfOk, IfSome};
+ghost use Rattle.std.specs.Io.{ReadsAtMost};
 
-// Whether a file was read, and its length.
-#[derive(Drop)]
-struct File {
-    read: bool,
-    length: usize,
-}
+use answer_reply::Reply;
+use std::env::FillError;
+use std::fs::File;
+use std::io;
+use std::io::{Cursor, Read, Write};
+use std::rt::{Env, Files};
+
+// C's error numbers of a path that is too long, and of one that is no text.
+const ENAMETOOLONG: i32 = 36;
+
+const EILSEQ: i32 = 84;
 
 // One byte more than a sheet may have, so that a longer file is seen to be too long.
 fn sheet() -> [u8; 65537]
@@ -19,90 +24,112 @@ fn sheet() -> [u8; 65537]
     [0; 65537]
 }
 
-// The file at the front of `sheet`, as far as it has room. Standard error is told why a file cannot be read.
-fn read(path: &[u8], sheet: &mut [u8]) -> File
-    ensures { IsPrefixLen result.length sheet.new }
-{
-    let fd = os::open_read(path);
-    if fd < 0 {
-        os::fail(path);
-        return File {
-            read: false,
-            length: 0,
-        };
-    }
-    let length = io::read_full(fd, sheet);
-    let mut next = [0u8; 1];
-    let more = libc::read(fd, &mut next);
-    let read = length == sheet.len() || more == 0;
-    if !read {
-        os::fail(path);
-    }
-    libc::close(fd);
-    File {
-        read: read,
-        length: length,
+// An error's text without the number that ends it.
+fn without_number(shown: &str) -> &str {
+    match shown.rsplit_once(" (os error ") {
+        Some((text, _)) => text,
+        None => shown,
     }
 }
 
-// The file that argument `i` names, or the one with the usual name.
-fn load(i: usize, usual: &[u8], sheet: &mut [u8]) -> File
-    ensures { IsPrefixLen result.length sheet.new }
-{
-    if os::arg_count() <= i {
-        return read(usual, sheet);
-    }
-    let mut path = io::buffer();
-    let n = os::arg(i, &mut path);
-    if os::errno() != 0 {
-        os::fail(usual);
-        return File {
-            read: false,
-            length: 0,
-        };
-    }
-    read(&path[..n], sheet)
+// Tells standard error in one line what could not be read or written, and why.
+fn tell(rt: &impl Eprint, what: &str, error: io::Error) -> io::Result<()> {
+    let mut text = [0u8; 256];
+    let mut shown = Cursor::new(&mut text[..]);
+    write!(shown, "{error}")?;
+    let n = shown.position() as usize;
+    let Some(shown) = text.get(..n) else {
+        return eprintln!(rt; "{what}");
+    };
+    let Ok(shown) = std::str::from_utf8(shown) else {
+        return eprintln!(rt; "{what}");
+    };
+    let why = without_number(shown);
+    eprintln!(rt; "{what}: {why}")
 }
 
-// Prints bytes; standard error is told if that fails.
-fn put(bytes: &[u8]) {
-    if !io::write_all(STDOUT_FILENO, bytes) {
-        os::fail(b"standard output");
+// The file at the front of `sheet`, as far as it has room.
+fn read(rt: &impl Files, path: &str, sheet: &mut [u8]) -> io::Result<usize>
+    ensures { ReadsAtMost result sheet.new }
+{
+    let mut file = File::open(rt, path)?;
+    let mut length = 0;
+    while length < sheet.len() {
+        let more = file.read(&mut sheet[length..])?;
+        if more == 0 {
+            break;
+        }
+        length += more;
+    }
+    Ok(length)
+}
+
+// The file that argument `i` names, or the one with the usual name: its length at the front of `sheet`. Standard error is told why a file cannot be read.
+fn load(
+    rt: &(impl Env + Files + Eprint),
+    i: usize,
+    usual: &str,
+    sheet: &mut [u8],
+) -> io::Result<Option<usize>>
+    ensures { IfOk result (λ found. IfSome found (λ n. n ≤ length sheet.new)) }
+{
+    let mut argument = [0u8; 4096];
+    let path = match rt.arg(i, &mut argument) {
+        Ok(n) => match std::str::from_utf8(&argument[..n]) {
+            Ok(path) => path,
+            Err(_) => {
+                tell(rt, usual, io::Error::from_raw_os_error(EILSEQ))?;
+                return Ok(None);
+            }
+        },
+        Err(FillError::NotPresent) => usual,
+        Err(FillError::TooLong) => {
+            tell(rt, usual, io::Error::from_raw_os_error(ENAMETOOLONG))?;
+            return Ok(None);
+        }
+    };
+    match read(rt, path, sheet) {
+        Ok(n) => Ok(Some(n)),
+        Err(error) => {
+            tell(rt, path, error)?;
+            Ok(None)
+        }
+    }
+}
+
+// Standard error is told if printing failed.
+fn told(rt: &impl Eprint, printed: io::Result<()>) -> io::Result<()> {
+    match printed {
+        Ok(()) => Ok(()),
+        Err(error) => tell(rt, "standard output", error),
     }
 }
 
 // Prints the answer, or the refusal.
-fn print(out: &[u8], reply: answer_reply::Reply) {
+fn print(rt: &(impl Print + Eprint), out: &[u8], reply: Reply) -> io::Result<()> {
     if reply.refusal == 0 {
         let n = reply.length as usize;
         if n <= out.len() {
-            put(&out[0..n]);
+            told(rt, rt.write_all(&out[0..n]))?;
         }
-    } else {
-        put(b"refused ");
-        io::print_decimal(STDOUT_FILENO, reply.refusal);
-        put(b"\n");
+        return Ok(());
     }
+    let number = reply.refusal;
+    told(rt, println!(rt; "refused {number}"))
 }
 
-fn main() {
+fn main(rt: HostRuntime) -> io::Result<()> {
     let mut directory = sheet();
     let mut permissions = sheet();
     let mut request = sheet();
-    let d = load(1, b"dir", &mut directory);
-    let p = load(2, b"perm", &mut permissions);
-    let q = load(3, b"request", &mut request);
-    if d.read && p.read && q.read {
-        let mut out = io::large_buffer();
-        let dn = d.length;
-        let pn = p.length;
-        let qn = q.length;
-        let reply = dinghy::dinghy_serve(
-            &directory[..dn],
-            &permissions[..pn],
-            &request[..qn],
-            &mut out,
-        );
-        print(&out, reply);
-    }
+    let d = load(&rt, 1, "dir", &mut directory)?;
+    let p = load(&rt, 2, "perm", &mut permissions)?;
+    let q = load(&rt, 3, "request", &mut request)?;
+    let (Some(d), Some(p), Some(q)) = (d, p, q) else {
+        return Ok(());
+    };
+    // An answer that is longer is refused.
+    let mut out = [0u8; 65536];
+    let reply = dinghy::dinghy_serve(&directory[..d], &permissions[..p], &request[..q], &mut out);
+    print(&rt, &out, reply)
 }

@@ -1,4 +1,6 @@
 // What a calling program brings with it: the form of its sheets (#109), and what it is limited to (#107).
+#![tactic(auto)]
+
 ghost use Rattle.std.specs.Prelude.{◌≡◌, ℕ};
 ghost use Rattle.rules.specs.Sheet.{Bytes, format_of, Usable};
 ghost use Rattle.rules.specs.Judge.{Grammar};

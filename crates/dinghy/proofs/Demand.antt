@@ -5,7 +5,7 @@ use mathlib.Core.Bool.{Bool}
 use Rattle.rules.specs.Sheet.{format_of}
 use Rattle.rules.specs.Serve.{exchange, panel}
 use Rattle.rules.specs.Theorems.{PrintedBack, RoundTrip, MovedAccepted, BackAgain, FormsAlike, ResolvedAlike, LongAbsent, Permuted, InOrder, Stable, SmallestKey}
-use Rattle.rules.specs.Laws.Theorems.{printed-back, round_trip, moved-accepted, back-again, forms-alike, resolved-alike, long-absent, permuted, in_order_lem, stable, smallest-key}
+use Rattle.rules.proofs.Laws.Theorems.{printed-back, round_trip, moved-accepted, back-again, forms-alike, resolved-alike, long-absent, permuted, in_order_lem, stable, smallest-key}
 use Rattle.dinghy.specs.Alike.{AnswersAlike, answers-alike}
 use Rattle.dinghy.proofs.dinghy_serve.Statement as exchange-entry
 use Rattle.dinghy.proofs.dinghy_serve.Met as exchange-met

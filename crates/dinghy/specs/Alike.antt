@@ -8,7 +8,7 @@ use Rattle.rules.specs.Judge.{Verdict, accept, refuse}
 use Rattle.rules.specs.Serve.{serve_at}
 use Rattle.rules.specs.Shown.{Alike}
 use Rattle.rules.specs.declared.Limits.{Limits}
-use Rattle.rules.specs.Secrecy.Demand3.{demand-3}
+use Rattle.rules.proofs.Secrecy.Demand3.{demand-3}
 use Rattle.answer_reply.specs.Reply.{reply_of, left_of}
 
 -- the bytes that a reply tells of do not depend on what the buffer held

@@ -1,5 +1,7 @@
 // The entries for the exchange and for corridor panels: three sheets and a lent buffer in, one reply out; and a directory sheet moved to the other
-// form. With a refusal, and beyond the length in the reply, `out` is unchanged.
+// form. With a refusal, and beyond the length in the reply, `out` is unchanged. The crate dinghy_c exports them to C.
+#![tactic(auto)]
+
 ghost use Rattle.std.specs.Prelude.{◌≡◌, length};
 ghost use Rattle.rules.specs.Sheet.{narrow, format_of};
 ghost use Rattle.rules.specs.Serve as Rules;
@@ -64,13 +66,7 @@ fn for_panel(
 }
 
 // For the exchange.
-#[unsafe(no_mangle)]
-pub extern "C" fn dinghy_serve(
-    directory: &[u8],
-    permissions: &[u8],
-    request: &[u8],
-    out: &mut [u8],
-) -> Reply
+pub fn dinghy_serve(directory: &[u8], permissions: &[u8], request: &[u8], out: &mut [u8]) -> Reply
     ensures reply { result ≡ reply_of (Rules.serve_at narrow Rules.exchange directory.now permissions.now request.now (length out.old)) }
     ensures left { out.new ≡ left_of (Rules.serve_at narrow Rules.exchange directory.now permissions.now request.now (length out.old)) out.old }
 {
@@ -78,8 +74,7 @@ pub extern "C" fn dinghy_serve(
 }
 
 // For the exchange, in the form that it names.
-#[unsafe(no_mangle)]
-pub extern "C" fn dinghy_serve_form(
+pub fn dinghy_serve_form(
     directory: &[u8],
     permissions: &[u8],
     request: &[u8],
@@ -93,8 +88,7 @@ pub extern "C" fn dinghy_serve_form(
 }
 
 // For a panel.
-#[unsafe(no_mangle)]
-pub extern "C" fn dinghy_serve_panel(
+pub fn dinghy_serve_panel(
     directory: &[u8],
     permissions: &[u8],
     request: &[u8],
@@ -107,8 +101,7 @@ pub extern "C" fn dinghy_serve_panel(
 }
 
 // For a panel, in the form that it names.
-#[unsafe(no_mangle)]
-pub extern "C" fn dinghy_serve_panel_form(
+pub fn dinghy_serve_panel_form(
     directory: &[u8],
     permissions: &[u8],
     request: &[u8],
@@ -122,8 +115,7 @@ pub extern "C" fn dinghy_serve_panel_form(
 }
 
 // A directory sheet of six columns, moved to nine.
-#[unsafe(no_mangle)]
-pub extern "C" fn dinghy_widen(sheet: &[u8], out: &mut [u8]) -> Reply
+pub fn dinghy_widen(sheet: &[u8], out: &mut [u8]) -> Reply
     ensures reply { result ≡ reply_of (widened sheet.now (length out.old)) }
     ensures left { out.new ≡ left_of (widened sheet.now (length out.old)) out.old }
 {
@@ -131,8 +123,7 @@ pub extern "C" fn dinghy_widen(sheet: &[u8], out: &mut [u8]) -> Reply
 }
 
 // A directory sheet of nine columns, moved back to six.
-#[unsafe(no_mangle)]
-pub extern "C" fn dinghy_narrow(sheet: &[u8], out: &mut [u8]) -> Reply
+pub fn dinghy_narrow(sheet: &[u8], out: &mut [u8]) -> Reply
     ensures reply { result ≡ reply_of (narrowed sheet.now (length out.old)) }
     ensures left { out.new ≡ left_of (narrowed sheet.now (length out.old)) out.old }
 {

@@ -1,4 +1,6 @@
 // The target of an alias: K 36 and its K 9 lines, after the value lines of an entry.
+#![tactic(auto)]
+
 ghost use Rattle.std.specs.Prelude.{◌≡◌, ◌+◌, ◌≤◌, length};
 ghost use Rattle.sheet_kind.specs.Kinds.{number_of};
 ghost use Rattle.directory_alias.specs.Target.{stray_number, absent_number, part_number, target_refused, PartsAsked, TargetAsked, TargetAnswered};

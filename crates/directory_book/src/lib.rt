@@ -1,5 +1,7 @@
 // The book filled with what the directory's judge noted: the width, the counts, the schema, and the numbers of each entry. The judge notes where the
 // lines of the entries begin, the book where their naming values do. Of a column no more is copied than there are types or entries.
+#![tactic(auto)]
+
 ghost use Rattle.std.specs.Prelude.{◌≡◌, length};
 ghost use Rattle.rules.specs.Sheet.{Usable};
 ghost use Rattle.tables.specs.Book.{BOOK};

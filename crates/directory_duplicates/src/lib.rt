@@ -1,5 +1,7 @@
 // The ruling on a value that a line brings, of an entry line or a value line: whether the schema allows it, and whether its owner
 // has an equal one already.
+#![tactic(auto)]
+
 mod mark;
 
 ghost use Rattle.std.specs.Prelude.{◌≡◌};
@@ -14,7 +16,7 @@ use rules::refusal;
 pub const MARKS: usize = 5187;
 
 // A line's refusal; where that is 0 its type's rank, and the bucket, slot and mark of its value.
-#[derive(Drop)]
+#[derive(Clone, Copy)]
 pub struct Ruling {
     pub refusal: u64,
     pub rank: usize,

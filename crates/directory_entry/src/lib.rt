@@ -1,4 +1,6 @@
 // An entry line, K 2: its place below its parent, and the ruling on its naming value.
+#![tactic(auto)]
+
 ghost use Rattle.std.specs.Prelude.{◌≡◌, ◌≤◌, length};
 ghost use Rattle.directory_duplicates.specs.Rulings.{ValueSought, Decides};
 ghost use Rattle.directory_entry.specs.EntryLine.{depth_count, place_refusal, entry_ruling};

@@ -1,4 +1,6 @@
 // A directory sheet moved to the other form (#109): judged in its own form, then each of its lines written in columns of the other width.
+#![tactic(auto)]
+
 mod lines;
 
 ghost use Rattle.std.specs.Prelude.{◌≡◌, length};

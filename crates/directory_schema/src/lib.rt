@@ -1,4 +1,6 @@
 // The schema: the K 1 lines, noted as one number for each attribute type: its number times 4, and its syntax.
+#![tactic(auto)]
+
 ghost use Rattle.std.specs.Prelude.{◌≡◌};
 ghost use Rattle.rules.specs.Sheet.{Usable};
 ghost use Rattle.directory_schema.specs.Types.{type_refusal, types_refused, TypesJudged};

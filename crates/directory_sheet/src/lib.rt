@@ -1,6 +1,8 @@
 // The directory sheet judged line by line: the refusal that the rules give, or 0 with what later steps need of the sheet,
 // noted on the way: the schema as numbers, each entry line's position, parent, naming type and length, the values that each entry holds, and
 // where the target of an alias stands.
+#![tactic(auto)]
+
 ghost use Rattle.std.specs.Prelude.{◌≡◌, cond, ◌+◌, ◌<◌};
 ghost use Rattle.rules.specs.Sheet.{Usable};
 ghost use Rattle.tables.specs.Held.{none_held};

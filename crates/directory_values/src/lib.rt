@@ -1,4 +1,6 @@
 // The value lines, K 3, of one entry.
+#![tactic(auto)]
+
 ghost use Rattle.std.specs.Prelude.{◌≡◌, ◌&&◌, ◌||◌, ◌+◌, ◌%◌, ◌≤◌, ◌<◌, eqb, length, get_or};
 ghost use Rattle.rules.specs.Value as Value;
 ghost use Rattle.sheet_line.specs.Line.{bytes_of};

@@ -1,5 +1,7 @@
 // A request answered: the room that is lent, then the directory and the permissions judged, which is the ground; then the request; then its answer is planned, its length known, and
 // only then its bytes are written.
+#![tactic(auto)]
+
 mod respond;
 
 ghost use Rattle.std.specs.Prelude.{length, ℕ};

@@ -17,7 +17,7 @@ use rules::Order;
 use tables::held::{HELD, bytes};
 
 // The rows of an entry, and the rank of an item's type.
-#[derive(Drop)]
+#[derive(Clone, Copy)]
 pub struct RowsSought {
     pub first: usize,
     pub end: usize,

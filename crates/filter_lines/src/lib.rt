@@ -1,4 +1,6 @@
 // A filter's lines, read once and noted by six numbers each; the pieces of its substrings items.
+#![tactic(auto)]
+
 pub mod lines;
 pub mod pieces;
 

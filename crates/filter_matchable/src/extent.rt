@@ -2,7 +2,7 @@
 use rules::Edition;
 
 // The number of the search's base and its subset; how many lines the filter has, the ranks of its types, and the logic that it is evaluated by.
-#[derive(Drop)]
+#[derive(Clone, Copy)]
 pub struct Extent {
     pub base: usize,
     pub subset: u64,

@@ -1,4 +1,6 @@
 // Truths: of a test; and the three values of "and", "or" and "not", one part at a time, in either edition.
+#![tactic(auto)]
+
 mod first;
 
 ghost use Rattle.std.specs.Prelude.{◌≡◌, not};

@@ -1,4 +1,6 @@
 // Names and values under a schema. A schema is lent as numbers, one for each attribute type: its number times 4, and its syntax.
+#![tactic(auto)]
+
 ghost use Rattle.std.specs.Prelude.{◌≡◌, ◌≤◌};
 ghost use Rattle.rules.specs.Name;
 ghost use Rattle.rules.specs.Value;

@@ -1,4 +1,6 @@
 // An item of the permission sheet: its five lines, and the two names between them.
+#![tactic(auto)]
+
 ghost use Rattle.std.specs.Prelude.{◌≡◌};
 ghost use Rattle.rules.specs.Sheet.{Usable};
 ghost use Rattle.rules.specs.Places.{schema_of};
@@ -11,7 +13,7 @@ use sheet_line::Line;
 use sheet_reader::Reader;
 
 // The lines of an item, K 4 to 8, or the refusal (0: none). Each name follows its line; the item ends with its mask.
-#[derive(Drop)]
+#[derive(Clone, Copy)]
 pub struct ItemLines {
     pub refusal: u64,
     pub head: Line,

@@ -1,5 +1,7 @@
 // The permission sheet, judged in one pass: its refusal number, or its items as rows of numbers. Names and values are noted by their
 // positions on the sheet, a value by its digest too, so that a question about a permission reads numbers and seldom bytes.
+#![tactic(auto)]
+
 mod row;
 
 ghost use Rattle.std.specs.Prelude.{◌≡◌, replicate};

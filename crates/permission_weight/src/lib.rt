@@ -1,5 +1,7 @@
 // Which item decides: precedence, then the rank of its user, then explicitness as one weight; and the weight with what it grants
 // as one score.
+#![tactic(auto)]
+
 ghost use Rattle.std.specs.Prelude.{◌≡◌, ◌≤◌};
 ghost use Rattle.permission_weight.specs.Weight.{rank_of, explicit_of, weight_of, score_of};
 

@@ -1,5 +1,7 @@
 // A filter of a request, an operator before its parts: read line by line, each line once, with the depth and the lines that
 // are still allowed counted down.
+#![tactic(auto)]
+
 ghost use Rattle.std.specs.Prelude.{◌≡◌};
 ghost use Rattle.rules.specs.Sheet.{Usable};
 ghost use Rattle.rules.specs.Columns.{request_forms};

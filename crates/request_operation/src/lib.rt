@@ -1,4 +1,6 @@
 // The lines of a request after its base, by its operation: what is selected, compared, or searched for.
+#![tactic(auto)]
+
 ghost use Rattle.std.specs.Prelude.{◌≡◌};
 ghost use Rattle.rules.specs.Sheet.{Usable};
 ghost use Rattle.rules.specs.Request.{request_grammar};
@@ -13,7 +15,7 @@ use sheet_kind::Kind;
 use sheet_line::Line;
 
 // The lines, each 0 where the operation has none, and the position after them; or the refusal (0: none).
-#[derive(Drop)]
+#[derive(Clone, Copy)]
 pub struct Body {
     pub refusal: u64,
     // K 12, which its K 13 follow.

@@ -1,4 +1,6 @@
 // The pieces of a substrings item in a request's filter, one line each, with the lines that are still allowed counted down.
+#![tactic(auto)]
+
 ghost use Rattle.std.specs.Prelude.{◌≡◌, true};
 ghost use Rattle.rules.specs.Sheet.{Usable};
 ghost use Rattle.rules.specs.Request.{request_grammar};

@@ -1,5 +1,7 @@
 // A request sheet judged: the refusal number that the rules give, or 0 with the positions and numbers that answering needs.
 // Nothing is copied: names, types, the value and the filter stay in the sheet, noted by position.
+#![tactic(auto)]
+
 ghost use Rattle.std.specs.Prelude.{◌≡◌};
 ghost use Rattle.rules.specs.Sheet.{Usable};
 ghost use Rattle.rules.specs.Request.{request_grammar};
@@ -15,7 +17,7 @@ use sheet_kind::Kind;
 use sheet_line::Line;
 
 // What a request asks. Of a refused one, all but the refusal is 0; of an accepted one, what its operation does not have is 0.
-#[derive(Drop)]
+#[derive(Clone, Copy)]
 pub struct Asked {
     pub refusal: u64,
     pub level: u64,

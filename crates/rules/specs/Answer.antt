@@ -26,7 +26,7 @@ operation_number (compare t v) = 2
 operation_number (list limit) = 3
 operation_number (search r) = 4
 
--- "B 0 result; 1 no_such_object ..; 2 insufficient_access_rights; 3 no_such_attribute_or_value; 4 invalid_attribute_syntax"; #105: "5, alias_problem"
+-- "B 0 result; 1 noSuchObject ..; 2 insufficientAccessRights; 3 noSuchAttributeOrValue; 4 invalidAttributeSyntax"; #105: "5, aliasProblem"
 abbrev pub outcome_number : Outcome → ℕ
 outcome_number Result = 0
 outcome_number NoSuchObject = 1
@@ -139,7 +139,7 @@ module _ (σ : Setting) where
     matched_name n zero = []
     matched_name n (suc k) = or_name (matched_name n k) (first (disclosed (take (suc k) n)) es)
 
-    -- "no_such_object, with the matched name as K 9 lines": a proper beginning of the name asked for
+    -- "noSuchObject, with the matched name as K 9 lines": a proper beginning of the name asked for
     unfoldable pub no_such_object : ℕ → Name → List Line
     no_such_object op n = outcome op NoSuchObject ++ name_lines (matched_name n (length n - 1))
 

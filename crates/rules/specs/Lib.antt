@@ -19,7 +19,3 @@ pub mod Shown
 pub mod Theorems
 pub mod Derived
 pub mod Places
-pub mod Examples
-pub mod LaterExamples
-pub mod Laws
-pub mod Secrecy

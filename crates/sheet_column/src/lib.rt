@@ -1,4 +1,6 @@
 // A column read: spaces on the left, then a decimal number with no leading zero.
+#![tactic(auto)]
+
 ghost use Rattle.std.specs.Prelude.{◌≡◌, true, [], ◌∷◌, ◌+◌, ◌≤◌, ◌<◌, length, take, drop};
 ghost use Rattle.rules.specs.Sheet.{strip, digits, column_of};
 ghost use Rattle.sheet_column.specs.Coded.{Coded, Spaces};

@@ -14,7 +14,7 @@ use sheet_kind::{Kind, is};
 use sheet_line::Line;
 
 // Which sheet a line stands in.
-#[derive(Drop)]
+#[derive(Clone, Copy)]
 pub enum Grammar {
     Permissions,
     Request,

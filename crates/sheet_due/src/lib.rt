@@ -1,5 +1,7 @@
 // The lines of a permission sheet or a request, taken where they are due: one line, some of one kind, and a line with the lines
 // that it counts. A refusal number is handed on: after a refusal no line is read. The lines of a request are judged without a schema.
+#![tactic(auto)]
+
 pub mod grammar;
 
 ghost use Rattle.std.specs.Prelude.{◌≡◌, ◌≤◌};
@@ -29,21 +31,21 @@ pub enum Seen {
 }
 
 // The position after some lines, or the refusal (0: none).
-#[derive(Drop)]
+#[derive(Clone, Copy)]
 pub struct Reached {
     pub refusal: u64,
     pub next: usize,
 }
 
 // A line that was due, or the refusal (0: none).
-#[derive(Drop)]
+#[derive(Clone, Copy)]
 pub struct Due {
     pub refusal: u64,
     pub line: Line,
 }
 
 // A line, and the position after the lines that it counts in column B, the first of which follows it; or the refusal (0: none).
-#[derive(Drop)]
+#[derive(Clone, Copy)]
 pub struct Group {
     pub refusal: u64,
     pub line: Line,

@@ -3,7 +3,7 @@ use Rattle.std.specs.Prelude.{ℕ, ◌*◌, ◌≤◌, ◌<◌, ◌≡◌, lengt
 use Rattle.std.proofs.Math.Path.{refl}
 use Rattle.std.proofs.Common.{sym, ◌∙◌, arith}
 use Rattle.rules.specs.Sheet.{Bytes, column_of, whole, front_of}
-use Rattle.rules.specs.Laws.Sheet.{front-whole}
+use Rattle.rules.proofs.Laws.Sheet.{front-whole}
 use Rattle.rules.specs.declared.Column.{Column}
 use Rattle.rules.specs.declared.Column.TheVariants.{Number, Malformed}
 use Rattle.rules.specs.declared.Front.{Front}

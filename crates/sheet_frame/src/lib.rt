@@ -1,5 +1,7 @@
 // The frame of a line: five columns of numbers, then as many bytes as the last one says, then byte 10; what the numbers mean is not asked.
 // The line at the front of a sheet's rest is told by it. The width of a column is a parameter of every function.
+#![tactic(auto)]
+
 ghost use Rattle.std.specs.Prelude.{◌≡◌, ◌+◌, ◌≤◌, length, take, drop};
 ghost use Rattle.rules.specs.Sheet.{column_of, whole, front_of};
 ghost use Rattle.sheet_column.specs.Coded.{Coded};

@@ -1,10 +1,12 @@
 // What a line is, by its kind: each kind of all sheets has its name here, and its number.
+#![tactic(auto)]
+
 ghost use Rattle.std.specs.Prelude.{◌≡◌, ◌≤◌, eqb};
 ghost use Rattle.sheet_kind.specs.Kinds.{number_of, kind_of};
 
 // The lines of the directory, of a permission item in their order, a part of a name, the lines of a request in their order, of a
 // filter, of an answer, an alias's target, and a kind that no sheet has.
-#[derive(Drop)]
+#[derive(Clone, Copy)]
 pub enum Kind {
     AttributeType,
     Entry,

@@ -4,12 +4,10 @@ use Rattle.std.proofs.Math.Path.{refl}
 use Rattle.std.proofs.Common.{sym, ◌∙◌, arith, length-drop, drop-drop, length-take-le}
 use Rattle.rules.specs.Sheet.{Bytes, Sheet, end, broken, row, front_of, line_size}
 use Rattle.rules.specs.Places.{lines_at}
-use Rattle.rules.specs.Laws.Sheet.{lines-taken, lines-broken, lines_end, taken-fits}
+use Rattle.rules.proofs.Laws.Sheet.{lines-taken, lines-broken, lines_end, taken-fits}
 use Rattle.rules.specs.declared.Front.{Front}
-use Rattle.rules.specs.declared.Front.TheVariants as Front
 use Rattle.sheet_line.specs.declared.Line.{Line}
 use Rattle.sheet_line.specs.declared.Taken.{Taken}
-use Rattle.sheet_line.specs.declared.Taken.TheVariants as Taken
 use Rattle.sheet_line.specs.Line.{place_of, taken_by, taken_at, bytes_of, line_of}
 
 -- the lines from a position on, by what was taken there

@@ -3,10 +3,8 @@ use Rattle.std.specs.Prelude.{ℕ, ◌+◌, ◌*◌, take, drop}
 use Rattle.rules.specs.Sheet.{Bytes, line, front_of}
 use Rattle.rules.specs.Sheet as Rules
 use Rattle.rules.specs.declared.Front.{Front}
-use Rattle.rules.specs.declared.Front.TheVariants as Front
 use Rattle.sheet_line.specs.declared.Line.{Line}
 use Rattle.sheet_line.specs.declared.Taken.{Taken}
-use Rattle.sheet_line.specs.declared.Taken.TheVariants as Taken
 
 -- where the bytes of the line at the position `at` begin: after five columns
 abbrev pub place_of : ℕ → ℕ → ℕ

@@ -1,4 +1,6 @@
 // One line of a sheet, at a position, and its bytes as a part of the sheet. The width of a column is a parameter.
+#![tactic(auto)]
+
 ghost use Rattle.std.specs.Prelude.{◌≡◌, ◌+◌, ◌≤◌, ◌<◌, drop};
 ghost use Rattle.std.proofs.Math.ListN as ListN;
 ghost use Rattle.rules.specs.Sheet.{front_of};
@@ -8,7 +10,7 @@ use rules::Front;
 use sheet_frame::front;
 
 // A line: its numbers, the position and the length of its bytes, and the position after it.
-#[derive(Drop)]
+#[derive(Clone, Copy)]
 pub struct Line {
     pub kind: u64,
     pub a: u64,
@@ -20,7 +22,7 @@ pub struct Line {
 }
 
 // What stands at a position: a line, no line in form, or nothing.
-#[derive(Drop)]
+#[derive(Clone, Copy)]
 pub enum Taken {
     Line(Line),
     NotInForm,

@@ -1,5 +1,7 @@
 // A sheet and a position in it, as one: a reader that is carried from line to line. Each function is thin and leaves the work
 // to one over a plain slice.
+#![tactic(auto)]
+
 ghost use Rattle.std.specs.Prelude.{◌≡◌};
 ghost use Rattle.rules.specs.Sheet.{Usable};
 ghost use Rattle.rules.specs.Places.{schema_of};

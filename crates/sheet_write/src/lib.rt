@@ -1,4 +1,6 @@
 // A line written into a lent buffer, and its size. Nothing but the line's own bytes changes.
+#![tactic(auto)]
+
 ghost use Rattle.std.specs.Prelude.{◌≡◌, ◌+◌, ◌*◌, ◌≤◌, ◌<◌, length};
 ghost use Rattle.rules.specs.Sheet.{line, line_size, leading, column, numbers, line_bytes};
 ghost use Rattle.rules.specs.Derived.{put_at};

@@ -1,13 +1,13 @@
 -- Sets of items, four words to a row. The items are numbered by their places in the order of weight, so that the first member of a set decides.
 --
 --   0 to 256         the items that cover the entry of that number and fit the requester; none for the root, 0
---   below_row         257 rows by the same numbers: those that also cover what is below; of the root, too
---   grants_row        those that grant
+--   below_row        257 rows by the same numbers: those that also cover what is below; of the root, too
+--   grants_row       those that grant
 --   permission_row    six rows: those that name Read, Browse, ReturnDN, DiscloseOnError, Compare, FilterMatch
 --   what_row          six: those about 0 the entry, 1 all types, 2 all types and values, 3 a type, 4 all values of a type, 5 one value
 --   type_row          64: those that name the type of that rank
---   first_slot_row     32: those whose value's digest has that first slot
---   second_slot_row    32: those whose value's digest has that second slot
+--   first_slot_row   32: those whose value's digest has that first slot
+--   second_slot_row  32: those whose value's digest has that second slot
 --
 -- After the rows, a number for each item: the digest of its value, where the value begins on the permission sheet, its length.
 use Rattle.std.specs.Prelude.{ℕ, zero, suc, ◌+◌, ◌*◌, ◌/◌, ◌%◌, ◌^◌, ◌≤◌, ◌<◌, ◌≡◌, Bool, false, ◌&&◌, ◌||◌, List, eqb, ltb, length, get_or, take, drop}

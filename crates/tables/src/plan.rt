@@ -6,7 +6,7 @@ ghost use Rattle.tables.specs.Outcome.{is_result, absent_plan, refused_plan};
 use rules::Outcome;
 
 // The answer of one request. What an operation or outcome does not have is 0.
-#[derive(Drop)]
+#[derive(Clone, Copy)]
 pub struct Plan {
     // Line 30: operation, outcome, and whether the size limit cut something off.
     pub operation: u64,
@@ -23,7 +23,7 @@ pub struct Plan {
 }
 
 // What K 12 selects, made once for a request.
-#[derive(Drop)]
+#[derive(Clone, Copy)]
 pub struct Choice {
     // The types selected, a bit for each rank.
     pub ranks: u64,

@@ -1,4 +1,6 @@
 // Blanks in text, byte 32 (#102): whether a text has stray ones, and the text as it counts, byte by byte or as a whole.
+#![tactic(auto)]
+
 ghost use Rattle.std.specs.Prelude.{◌≡◌, ◌||◌, ◌+◌, ◌≤◌, ◌<◌, length, take};
 ghost use Rattle.rules.specs.Value as Value;
 ghost use Rattle.value_blank.specs.Blank as Blank;
@@ -6,7 +8,7 @@ ghost use Rattle.value_blank.specs.Blank as Blank;
 pub const BLANK: u8 = 32;
 
 // A text of at most 64 bytes; those beyond its length are 0.
-#[derive(Drop)]
+#[derive(Clone, Copy)]
 pub struct Text {
     pub bytes: [u8; 64],
     pub length: usize,

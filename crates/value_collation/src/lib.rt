@@ -1,4 +1,6 @@
 // Values compared byte by byte, text without case: the beginning that two of them share, and their order.
+#![tactic(auto)]
+
 ghost use Rattle.std.specs.Prelude.{◌≡◌, ◌+◌, ◌≤◌, min, eqb, length, get_or};
 ghost use Rattle.rules.specs.Value.{folded, order_bytes};
 ghost use Rattle.rules.specs.Value as Value;

@@ -1,4 +1,6 @@
 // Integers: decimal digits read into an i64, exact at both ends, and compared.
+#![tactic(auto)]
+
 ghost use Rattle.std.specs.Prelude.{◌≡◌, ◌+◌, ◌≤◌, length, drop};
 ghost use Rattle.rules.specs.Sheet as Sheet;
 ghost use Rattle.rules.specs.Value as Value;

@@ -1,4 +1,6 @@
 // The pieces of a substrings item, each looked for in what is left of a text from `from` on, without case.
+#![tactic(auto)]
+
 ghost use Rattle.std.specs.Prelude.{◌≡◌, not, ◌+◌, ◌≤◌, eqb, length, get_or, drop};
 ghost use Rattle.rules.specs.Value.{text, folded, begins, find};
 ghost use Rattle.rules.specs.Value as Value;

@@ -1,4 +1,6 @@
 // A value by its syntax: what the syntax allows, equality, order and substrings (document 01, "Values").
+#![tactic(auto)]
+
 pub mod digest;
 mod text;
 

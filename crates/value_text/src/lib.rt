@@ -1,4 +1,6 @@
 // The order of texts of any length, without case and with the blanks that count (#102).
+#![tactic(auto)]
+
 ghost use Rattle.std.specs.Prelude.{◌≡◌, ◌≤◌, length};
 ghost use Rattle.rules.specs.Value.{text, normal, same, order_bytes};
 ghost use Rattle.value_text.specs.Walk as Walk;

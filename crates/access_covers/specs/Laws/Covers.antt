@@ -10,7 +10,7 @@ use Rattle.rules.specs.Directory.{Stored}
 use Rattle.rules.specs.Directory as Directory
 use Rattle.rules.specs.Permission.{Item}
 use Rattle.rules.specs.Decision.{Setting}
-use Rattle.rules.specs.Laws.Lists.{get_d_map}
+use Rattle.rules.proofs.Laws.Lists.{get_d_map}
 use Rattle.rules.specs.Derived.{concerns, no_item, item_at}
 use Rattle.tables.specs.Numbers.{reaches, reach_of}
 use Rattle.tables.specs.Laws.Reach.{reach-concerns}

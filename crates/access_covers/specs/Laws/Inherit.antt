@@ -187,5 +187,5 @@ module _ (es : List Stored) (rising : (k : ℕ) → k < length es → (get_or es
         b-done : (e j : ℕ) → e ≤ k + 1 → (b : Bool) → eqb e (k + 1) ≡ b → in_row t (below_row + e) j ≡ (ltb j n && below_by es (R j) e)
         b-done e j m true q =
             let g : e ≡ k + 1 = eqb-true e (k + 1) q in
-            ap (λ (i : ℕ). in_row t (below_row + i) j) g ∙ I.Below-row j ∙ joined j ∙ ap (λ (i : ℕ). ltb j n && below_by es (R j) i) (sym (g ∙ add-one k))
+            ap (λ (i : ℕ). in_row t (below_row + i) j) g ∙ I.below_row_lem j ∙ joined j ∙ ap (λ (i : ℕ). ltb j n && below_by es (R j) i) (sym (g ∙ add-one k))
         b-done e j m false q = let g : e ≡ k + 1 → ⊥ = eqb-false e (k + 1) q in b-other e j g ∙ h.below-done e j (omega arith)

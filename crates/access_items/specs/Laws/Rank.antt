@@ -6,10 +6,10 @@ use Rattle.std.proofs.lemmas.Bool.{eqb-false}
 use Rattle.rules.specs.Sheet.{Bytes}
 use Rattle.rules.specs.Permission.{Item}
 use Rattle.rules.specs.Arrange.{arranged_by}
-use Rattle.rules.specs.Laws.Lists.{any_at, any_found, get_d_map}
+use Rattle.rules.proofs.Laws.Lists.{any_at, any_found, get_d_map}
 use Rattle.rules.specs.Derived.{Each, weight, no_item, score, item_at, Ranked}
-use Rattle.rules.specs.Laws.Each.{each_at}
-use Rattle.rules.specs.Laws.Arrange.{WeakOrder, arranged-length, each-arranged-by, any-arranged, ordered-arranged, ordered_at, highest-first}
+use Rattle.rules.proofs.Laws.Each.{each_at}
+use Rattle.rules.proofs.Laws.Arrange.{WeakOrder, arranged-length, each-arranged-by, any-arranged, ordered-arranged, ordered_at, highest-first}
 use Rattle.permission_sheet.specs.Noted.{Table, SCORE, RIGHTS}
 use Rattle.access_order.specs.Pass.{up_to, in_order}
 use Rattle.access_order.specs.Laws.Pass.{length-up_to, low-up_to, at-up_to}

@@ -6,7 +6,7 @@ use Rattle.rules.specs.declared.Format.{Format}
 use Rattle.rules.specs.Judge.{accept}
 use Rattle.rules.specs.Name.{Schema}
 use Rattle.rules.specs.Permission.{Item, items, permissions_of}
-use Rattle.rules.specs.Laws.Judge.{not-refused}
+use Rattle.rules.proofs.Laws.Judge.{not-refused}
 use Rattle.rules.specs.Derived.{Ranked}
 use Rattle.permission_sheet.specs.declared.NotedItems.{NotedItems}
 use Rattle.permission_sheet.specs.Noted.{PermissionsNoted}

@@ -13,7 +13,7 @@ use Rattle.rules.specs.Directory.{Stored}
 use Rattle.rules.specs.Permission.{Item}
 use Rattle.rules.specs.Decision.{Setting, Thing, entry, of_type, of_value, base_covers, who_fits, what_covers, names, level_fits, applies, granted}
 use Rattle.rules.specs.Derived.{concerns, item_at}
-use Rattle.rules.specs.Laws.First.{decided-first, decided-none}
+use Rattle.rules.proofs.Laws.First.{decided-first, decided-none}
 use Rattle.rules.specs.declared.Found.{Found}
 use Rattle.rules.specs.declared.Found.TheVariants.{At, Nothing}
 use Rattle.value_syntax.specs.Digest.{digest}

@@ -11,7 +11,7 @@ use Rattle.rules.specs.Directory.{Stored}
 use Rattle.rules.specs.Permission.{Item}
 use Rattle.rules.specs.Decision.{Setting, level_fits}
 use Rattle.rules.specs.Places.{lines_at, parts_of}
-use Rattle.rules.specs.Laws.Tests.{bool-ext, eqb_same}
+use Rattle.rules.proofs.Laws.Tests.{bool-ext, eqb_same}
 use Rattle.tables.specs.Numbers.{climbs, walk, number_or0, base_reach, base_reaches, own_reach, fits_always, reach_from, reach_of}
 use Rattle.permission_sheet.specs.Noted.{ItemRow}
 use Rattle.access_scope.specs.Scopes.{Asker, scope_at, level_by, who_by, asked_by, spread_by, spread_from, item_by}

@@ -14,7 +14,7 @@ use Rattle.rules.specs.Judge.{Grammar}
 use Rattle.rules.specs.Request.{Selection, Operation, read, compare, list, search}
 use Rattle.rules.specs.Answer.{selected}
 use Rattle.rules.specs.Places.{lines_at, types_of}
-use Rattle.rules.specs.Laws.Tests.{and_left, and_right}
+use Rattle.rules.proofs.Laws.Tests.{and_left, and_right}
 use Rattle.sheet_line.specs.Line.{taken_at}
 use Rattle.sheet_line.specs.Laws.{lines_by, taken-lines}
 use Rattle.sheet_line.specs.declared.Line.{Line}

@@ -15,7 +15,7 @@ use Rattle.rules.specs.Decision.{Setting, of_type, of_value, granted}
 use Rattle.rules.specs.Request.{Selection}
 use Rattle.rules.specs.FilterItem.{holds, some_value}
 use Rattle.rules.specs.Answer.{outcome, compare_entry}
-use Rattle.rules.specs.Laws.Held.{holds-flat, some_value-flat}
+use Rattle.rules.proofs.Laws.Held.{holds-flat, some_value-flat}
 use Rattle.rules.specs.declared.Outcome.{Outcome}
 use Rattle.rules.specs.declared.Outcome.TheVariants.{Result, InsufficientAccessRights, NoSuchAttributeOrValue, InvalidAttributeSyntax}
 use Rattle.tables.specs.Plan.{planned, success_lines}

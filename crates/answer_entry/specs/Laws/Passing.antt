@@ -13,7 +13,7 @@ use Rattle.std.proofs.lemmas.Bool.{eqb-false}
 use Rattle.rules.specs.Lists.{given, keep}
 use Rattle.rules.specs.Sheet.{Line}
 use Rattle.rules.specs.Directory.{Stored, blank, Entry, entry_of}
-use Rattle.rules.specs.Laws.Loops.{gather-suc}
+use Rattle.rules.proofs.Laws.Loops.{gather-suc}
 use Rattle.answer_entry.specs.Passing.{passing, over, Indices}
 
 pub no-indices : (k : ℕ) (hits : List ℕ) → Indices k 0 hits hits

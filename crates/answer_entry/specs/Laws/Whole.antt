@@ -12,7 +12,7 @@ use Rattle.rules.specs.Decision.{Setting, entry}
 use Rattle.rules.specs.Request.{Selection}
 use Rattle.rules.specs.Answer as Answer
 use Rattle.rules.specs.Answer.{named, no_such_object}
-use Rattle.rules.specs.Laws.Absent.{present'}
+use Rattle.rules.proofs.Laws.Absent.{present'}
 use Rattle.rules.specs.Derived.{Accepted}
 use Rattle.tables.specs.Numbers.{walk}
 use Rattle.tables.specs.Laws.Resolve.{named-walk, entry_by}

@@ -16,7 +16,7 @@ use Rattle.rules.specs.Permission.{Read}
 use Rattle.rules.specs.Decision.{Setting, of_type, granted}
 use Rattle.rules.specs.Request.{Selection}
 use Rattle.rules.specs.Answer.{selected, value_lines, type_lines, information}
-use Rattle.rules.specs.Laws.Held.{values_ahead, after_type, held_first}
+use Rattle.rules.proofs.Laws.Held.{values_ahead, after_type, held_first}
 use Rattle.tables.specs.Book.{width, entry_count, schema, first_at}
 use Rattle.tables.specs.Held.{rank_at, bytes_at, type_at, HeldAt}
 use Rattle.tables.specs.World.{Entries}

@@ -11,7 +11,7 @@ use Rattle.rules.specs.Name.{Name}
 use Rattle.rules.specs.Permission.{Read}
 use Rattle.rules.specs.Decision.{Setting, of_value, granted}
 use Rattle.rules.specs.Answer.{value_lines}
-use Rattle.rules.specs.Laws.Loops.{gather_append}
+use Rattle.rules.proofs.Laws.Loops.{gather_append}
 use Rattle.tables.specs.Held.{bytes_at}
 use Rattle.answer_line.specs.Emit.{emit_lines, Emits}
 use Rattle.answer_line.specs.Laws.Emit.{emits_none, emits-append, emits-before}

@@ -8,8 +8,8 @@ use Rattle.std.proofs.Math.Decide.{dec_lt}
 use Rattle.std.proofs.Math.ListN.{length}
 use Rattle.std.proofs.Math.Seq.{take-append_seam, drop-append-add, take-append-add, drop-append_seam}
 use Rattle.rules.specs.Sheet.{Bytes, Line, line_size, line_bytes, print}
-use Rattle.rules.specs.Laws.Loops.{gather_append}
-use Rattle.rules.specs.Laws.Sheet.{line-length}
+use Rattle.rules.proofs.Laws.Loops.{gather_append}
+use Rattle.rules.proofs.Laws.Sheet.{line-length}
 use Rattle.rules.specs.Derived.{put_at}
 use Rattle.sheet_write.specs.Laws.Put.{put-none, put-length, put-append}
 use Rattle.answer_line.specs.Emit.{emit_at, emit_lines, Emits}

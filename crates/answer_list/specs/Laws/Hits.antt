@@ -11,7 +11,7 @@ use Rattle.rules.specs.Permission.{Browse, ReturnDN}
 use Rattle.rules.specs.Decision.{Setting, entry, granted}
 use Rattle.rules.specs.Answer as Answer
 use Rattle.rules.specs.Derived.{Accepted}
-use Rattle.rules.specs.Laws.Tests.{and_left}
+use Rattle.rules.proofs.Laws.Tests.{and_left}
 use Rattle.tables.specs.Laws.Hits.{listed-number, child-hit}
 use Rattle.tables.specs.Laws.Targets.{aliased-number}
 use Rattle.tables.specs.Numbers.{walk}

@@ -9,7 +9,7 @@ use Rattle.rules.specs.Permission.{DiscloseOnError}
 use Rattle.rules.specs.Decision.{Setting, entry}
 use Rattle.rules.specs.Request.{Selection, list}
 use Rattle.rules.specs.Answer.{answer, list_hits}
-use Rattle.rules.specs.Laws.Absent.{list-absent}
+use Rattle.rules.proofs.Laws.Absent.{list-absent}
 use Rattle.rules.specs.Derived.{Accepted}
 use Rattle.rules.specs.declared.Found.{Found}
 use Rattle.rules.specs.declared.Found.TheVariants.{At, Nothing}

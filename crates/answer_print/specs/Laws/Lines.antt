@@ -12,7 +12,7 @@ use Rattle.rules.specs.Decision.{Setting}
 use Rattle.rules.specs.Request.{Selection}
 use Rattle.rules.specs.declared.Outcome.{Outcome}
 use Rattle.rules.specs.Answer.{outcome_number, entry_lines}
-use Rattle.rules.specs.Laws.Loops.{gather-suc}
+use Rattle.rules.proofs.Laws.Loops.{gather-suc}
 use Rattle.answer_line.specs.Emit.{Emits}
 use Rattle.answer_line.specs.Laws.Emit.{emits_none, emits-append}
 use Rattle.tables.specs.Plan.{child_lines, information_at, found_lines, success_lines, followed, planned}

@@ -13,7 +13,7 @@ use Rattle.rules.specs.Permission.{Read, ReturnDN, DiscloseOnError}
 use Rattle.rules.specs.Decision.{Setting, Thing, entry, of_type, of_value, granted}
 use Rattle.rules.specs.Request.{Selection}
 use Rattle.rules.specs.Answer.{outcome, entry_lines, value_lines, selected, type_lines, information, read_entry}
-use Rattle.rules.specs.Laws.Held.{any_held, any-type}
+use Rattle.rules.proofs.Laws.Held.{any_held, any-type}
 use Rattle.tables.specs.Sets.{granted_at}
 use Rattle.rules.specs.declared.Outcome.{Outcome}
 use Rattle.rules.specs.declared.Outcome.TheVariants.{Result, InsufficientAccessRights, NoSuchAttributeOrValue}

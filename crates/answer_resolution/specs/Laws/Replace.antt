@@ -11,9 +11,9 @@ use Rattle.rules.specs.Directory.{Stored}
 use Rattle.rules.specs.Decision.{Setting}
 use Rattle.rules.specs.Judge.{name_lines}
 use Rattle.rules.specs.Places.{lines_at, parts_of}
-use Rattle.rules.specs.Laws.Each.{each_append}
-use Rattle.rules.specs.Laws.Loops.{gather_append}
-use Rattle.rules.specs.Laws.Sheet.{FitsColumns, AllFit, front-tells, taken-length, lines_step, line-length, printed-then}
+use Rattle.rules.proofs.Laws.Each.{each_append}
+use Rattle.rules.proofs.Laws.Loops.{gather_append}
+use Rattle.rules.proofs.Laws.Sheet.{FitsColumns, AllFit, front-tells, taken-length, lines_step, line-length, printed-then}
 use Rattle.rules.specs.declared.Column.TheVariants.{Number, Malformed}
 use Rattle.rules.specs.declared.Front.{Front}
 use Rattle.rules.specs.declared.Front.TheVariants as Front

@@ -16,8 +16,8 @@ use Rattle.rules.specs.Request.{Selection, Ordering, Search, search}
 use Rattle.rules.specs.Answer.{answer, search_hits}
 use Rattle.rules.specs.Places.{ordering_by}
 use Rattle.rules.specs.Derived.{Each, Accepted}
-use Rattle.rules.specs.Laws.Each.{each_at, each-by-index}
-use Rattle.rules.specs.Laws.Absent.{search-absent}
+use Rattle.rules.proofs.Laws.Each.{each_at, each-by-index}
+use Rattle.rules.proofs.Laws.Absent.{search-absent}
 use Rattle.rules.specs.declared.Found.{Found}
 use Rattle.rules.specs.declared.Found.TheVariants.{At, Nothing}
 use Rattle.tables.specs.declared.plan.Plan.{Plan}

@@ -16,7 +16,7 @@ use Rattle.rules.specs.Name.{part, Name, allowed, same_part}
 use Rattle.rules.specs.Judge.{Verdict, accept, refuse}
 use Rattle.rules.specs.Directory.{Target, nowhere, missing, parts, Stored, Reading, entries_of, lacks_naming, lacks_target, is_unread, is_whole, alias_mark, with_target, type_line, entry_line, value_line, target_line, part_line, step, finish}
 use Rattle.rules.specs.Places.{lines_at, parts_of, schema_of}
-use Rattle.rules.specs.Laws.Columns.{DirectoryLine, is_type, is_entry, is_value, is_target, is_part, directory-line}
+use Rattle.rules.proofs.Laws.Columns.{DirectoryLine, is_type, is_entry, is_value, is_target, is_part, directory-line}
 use Rattle.sheet_line.specs.declared.Line.{Line}
 use Rattle.sheet_line.specs.declared.Taken.{Taken}
 use Rattle.sheet_line.specs.declared.Taken.TheVariants as Taken

@@ -7,8 +7,8 @@ use Rattle.rules.specs.declared.Format.{Format}
 use Rattle.rules.specs.Judge.{accept}
 use Rattle.rules.specs.Directory.{blank, Directory, directory_of}
 use Rattle.rules.specs.Decision.{Setting}
-use Rattle.rules.specs.Laws.Directory.{accepted-means}
-use Rattle.rules.specs.Laws.Judge.{not-refused}
+use Rattle.rules.proofs.Laws.Directory.{accepted-means}
+use Rattle.rules.proofs.Laws.Judge.{not-refused}
 use Rattle.name.specs.Schema.{Rising}
 use Rattle.name.specs.Laws.Schema.{rising-above}
 use Rattle.tables.specs.Book.{BOOK, schema, first_at}

@@ -15,7 +15,7 @@ use borrow.Author.Tests.{eq-eqb, ne_eqb, eqb-true}
 use Rattle.rules.specs.Lists.{any}
 use Rattle.rules.specs.Sheet.{Bytes}
 use Rattle.rules.specs.Value.{same}
-use Rattle.rules.specs.Laws.Tests.{and_left, and_right, both, bool-ext, contra}
+use Rattle.rules.proofs.Laws.Tests.{and_left, and_right, both, bool-ext, contra}
 use Rattle.value_syntax.specs.Laws.Digest.{digest-same}
 use Rattle.access_set.specs.Member.{bit_of}
 use Rattle.access_set.specs.Laws.Bit.{bit-or, bit-pow}

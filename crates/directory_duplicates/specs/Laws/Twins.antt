@@ -11,8 +11,8 @@ use Rattle.rules.specs.Value.{same}
 use Rattle.rules.specs.Name.{Schema, Part, part, allowed, equal, same_part}
 use Rattle.rules.specs.Directory.{Stored, clashes}
 use Rattle.rules.specs.Places.{schema_of}
-use Rattle.rules.specs.Laws.Tests.{and_left, and_right, both, and-cong, bool-ext}
-use Rattle.rules.specs.Laws.Name.{same_part-sym}
+use Rattle.rules.proofs.Laws.Tests.{and_left, and_right, both, and-cong, bool-ext}
+use Rattle.rules.proofs.Laws.Name.{same_part-sym}
 use Rattle.name.specs.Schema.{rank_in}
 use Rattle.name.specs.Laws.Schema.{rank-type, allowed-within, equal-ranked}
 use Rattle.directory_duplicates.specs.Mark.{Mark, marked_bytes, twin}

@@ -14,8 +14,8 @@ use Rattle.rules.specs.Columns.{directory_forms, in_form}
 use Rattle.rules.specs.Name.{part, allowed}
 use Rattle.rules.specs.Judge.{Verdict, accept, refuse, refuse_if}
 use Rattle.rules.specs.Directory.{Target, nowhere, missing, parts, Stored, Reading, entries_of, name_at, new_entry, is_unread, is_whole, lacks_naming, lacks_target, under_alias, clashes, type_line, entry_line, value_line, target_line, part_line, step}
-use Rattle.rules.specs.Laws.Tests.{is_true_lem}
-use Rattle.rules.specs.Laws.Columns.{DirectoryLine, is_type, is_entry, is_value, is_target, is_part, directory-line}
+use Rattle.rules.proofs.Laws.Tests.{is_true_lem}
+use Rattle.rules.proofs.Laws.Columns.{DirectoryLine, is_type, is_entry, is_value, is_target, is_part, directory-line}
 use Rattle.rules.specs.Places.{schema_of}
 use Rattle.sheet_line.specs.declared.Line.{Line}
 use Rattle.sheet_line.specs.Line.{bytes_of, line_of}

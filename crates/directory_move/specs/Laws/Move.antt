@@ -11,9 +11,9 @@ use Rattle.rules.specs.Judge.{Verdict, accept, refuse}
 use Rattle.rules.specs.Directory.{Directory, directory_of, directory_lines}
 use Rattle.rules.specs.Places.{attribute_of, schema_of}
 use Rattle.rules.specs.Move.{beyond, spills, moved}
-use Rattle.rules.specs.Laws.DirectoryLines.{accepted-lines}
-use Rattle.rules.specs.Laws.Judge.{not-refused}
-use Rattle.rules.specs.Laws.Theorems.{refused-type, refused-length}
+use Rattle.rules.proofs.Laws.DirectoryLines.{accepted-lines}
+use Rattle.rules.proofs.Laws.Judge.{not-refused}
+use Rattle.rules.proofs.Laws.Theorems.{refused-type, refused-length}
 use Rattle.rules.specs.Derived.{put_at}
 use Rattle.answer_reply.specs.Reply.{reply_of, left_of, Replies}
 use Rattle.directory_move.specs.Rewritten.{lines_of, rewritten_from}

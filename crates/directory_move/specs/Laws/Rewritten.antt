@@ -3,7 +3,7 @@ use Rattle.std.specs.Prelude.{ℕ, ◌+◌, ◌*◌, ◌≤◌, ◌≡◌, [], �
 use Rattle.std.proofs.Math.Path.{ap}
 use Rattle.std.proofs.Common.{◌∙◌, arith, length-append}
 use Rattle.rules.specs.Sheet.{Bytes, Sheet, line_size, line_bytes, print}
-use Rattle.rules.specs.Laws.Sheet.{line-length}
+use Rattle.rules.proofs.Laws.Sheet.{line-length}
 use Rattle.sheet_line.specs.declared.Line.{Line}
 use Rattle.sheet_line.specs.declared.Taken.{Taken}
 use Rattle.sheet_line.specs.declared.Taken.TheVariants as Taken

@@ -11,7 +11,7 @@ use Rattle.rules.specs.Columns.{directory_forms, in_form}
 use Rattle.rules.specs.Judge.{accept, refuse, then, fold}
 use Rattle.rules.specs.Directory.{Reading, step, finish, type_line, entry_line, value_line, target_line, part_line, of_last}
 use Rattle.rules.specs.Places.{lines_at, values_of}
-use Rattle.rules.specs.Laws.Tests.{and_left, and_right}
+use Rattle.rules.proofs.Laws.Tests.{and_left, and_right}
 use Rattle.sheet_form.specs.Columns.{fits_form, in_form_of}
 use Rattle.sheet_form.specs.Laws.Columns.{columns-in-form}
 use Rattle.sheet_line.specs.declared.Line.{Line}
@@ -62,7 +62,7 @@ module _ (f : Format) (s : Bytes) (i : ℕ) where
   values-none Taken.End e h = rw (taken-lines f.width s i, ← e)
 
 -- the lines that the judge takes
-pub passes-judged : {f : Format} {s : Bytes} {st next : Reading} {i j : ℕ} → Passes f s st i next j → judged_from f s st i ≡ judged_from f s next j
+pub passes-judged : {f : Format} {s : Bytes} {st : Reading} {i : ℕ} {next : Reading} {j : ℕ} → Passes f s st i next j → judged_from f s st i ≡ judged_from f s next j
 passes-judged none = refl
 passes-judged {f = f} {s = s} (one {next = m} {more = n} {j = k} p e h) = passes-judged p ∙ judged-on f s k e m n h
 

@@ -10,7 +10,7 @@ use Rattle.rules.specs.declared.Format.{Format}
 use Rattle.rules.specs.Judge.{accept, refuse, refuse_if, refusal_of, fold}
 use Rattle.rules.specs.Directory.{Stored, blank, Directory, entries_of, name_at, under_alias, lacks_naming, lacks_target, step, finish, nothing, directory_of}
 use Rattle.rules.specs.Places.{schema_of}
-use Rattle.rules.specs.Laws.Judge.{refused-not, accepted-is}
+use Rattle.rules.proofs.Laws.Judge.{refused-not, accepted-is}
 use Rattle.sheet_line.specs.declared.Line.{Line}
 use Rattle.sheet_line.specs.declared.Taken.{Taken}
 use Rattle.sheet_line.specs.declared.Taken.TheVariants as Taken

@@ -14,7 +14,7 @@ use Rattle.rules.specs.Permission.{FilterMatch}
 use Rattle.rules.specs.Decision.{Setting, of_type, of_value, granted}
 use Rattle.rules.specs.Filter.{truth}
 use Rattle.rules.specs.FilterItem.{holds, some_value, item_truth}
-use Rattle.rules.specs.Laws.Held.{holds-flat, some_value-flat}
+use Rattle.rules.proofs.Laws.Held.{holds-flat, some_value-flat}
 use Rattle.rules.specs.declared.Found.TheVariants.{At}
 use Rattle.rules.specs.declared.Truth.{Truth}
 use Rattle.rules.specs.declared.Truth.TheVariants.{Undefined}

@@ -15,8 +15,8 @@ use Rattle.rules.specs.Decision.{Setting, of_type, of_value, granted}
 use Rattle.rules.specs.Filter.{equality, at_least, at_most, present, substrings, truth}
 use Rattle.rules.specs.FilterItem.{is_less, asserted_type, holds, some_value, defined, below, satisfied, decidable, item_truth}
 use Rattle.rules.specs.Places.{schema_of}
-use Rattle.rules.specs.Laws.Tests.{and_left}
-use Rattle.rules.specs.Laws.Held.{some_value-flat}
+use Rattle.rules.proofs.Laws.Tests.{and_left}
+use Rattle.rules.proofs.Laws.Held.{some_value-flat}
 use Rattle.rules.specs.declared.Found.TheVariants.{At, Nothing}
 use Rattle.rules.specs.declared.Truth.TheVariants.{Undefined}
 use Rattle.name.specs.Schema.{syntax_in, equal_by}

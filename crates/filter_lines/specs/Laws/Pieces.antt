@@ -13,8 +13,8 @@ use Rattle.rules.specs.Sheet.{Bytes, Line, Sheet, end, broken, row}
 use Rattle.rules.specs.Value.{Piece, text, tidied, folded, normal, fits, used, matches, normal_piece, contains}
 use Rattle.rules.specs.Places.{lines_at}
 use Rattle.rules.specs.Derived.{compared}
-use Rattle.rules.specs.Laws.Substrings.{matches-on, matches-off}
-use Rattle.rules.specs.Laws.Blanks.{tidied-length}
+use Rattle.rules.proofs.Laws.Substrings.{matches-on, matches-off}
+use Rattle.rules.proofs.Laws.Blanks.{tidied-length}
 use Rattle.value_blank.specs.declared.Text.{Text}
 use Rattle.value_blank.specs.Blank.{is_tidy, text_of}
 use Rattle.value_blank.specs.Laws.Blank.{tidy-tidied}

@@ -10,7 +10,7 @@ use Rattle.rules.specs.Sheet.{Bytes}
 use Rattle.rules.specs.Value.{fits, same, ordered, order, by_found}
 use Rattle.rules.specs.Name.{AttributeType, Schema, by_syntax, of_syntax, known, allowed, equal, order_by, order_of}
 use Rattle.rules.specs.FilterItem.{is_less}
-use Rattle.rules.specs.Laws.Tests.{and_left, and_right}
+use Rattle.rules.proofs.Laws.Tests.{and_left, and_right}
 use Rattle.rules.specs.Places.{attribute_of, schema_of}
 use Rattle.rules.specs.declared.Found.TheVariants.{At, Nothing}
 use Rattle.name.specs.Schema.{Rising, rank_in, syntax_in, allowed_at, equal_by}

@@ -5,7 +5,7 @@ use Rattle.std.proofs.Math.Decide.{dec_lt}
 use Rattle.rules.specs.Sheet.{Bytes, whole, front_of}
 use Rattle.rules.specs.Judge.{Verdict, accept, at_end}
 use Rattle.rules.specs.Places.{lines_at}
-use Rattle.rules.specs.Laws.Sheet.{front-short, front-whole, front-past, lines-taken, lines-broken, lines_end}
+use Rattle.rules.proofs.Laws.Sheet.{front-short, front-whole, front-past, lines-taken, lines-broken, lines_end}
 use Rattle.rules.specs.declared.Column.{Column}
 use Rattle.rules.specs.declared.Column.TheVariants.{Number, Malformed}
 use Rattle.rules.specs.declared.Front.{Front}

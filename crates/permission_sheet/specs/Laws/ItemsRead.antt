@@ -12,7 +12,7 @@ use Rattle.rules.specs.Name.{Schema}
 use Rattle.rules.specs.Judge.{Verdict, accept, refuse, refusal_of}
 use Rattle.rules.specs.Permission.{Item, permission_grammar, item, items, permissions_of}
 use Rattle.rules.specs.Places.{lines_at, parts_of, schema_of}
-use Rattle.rules.specs.Laws.Judge.{refused-not, accepted-is}
+use Rattle.rules.proofs.Laws.Judge.{refused-not, accepted-is}
 use Rattle.permission_sheet.specs.Noted.{ALL-RIGHTS, ALL-SCOPES, PermissionsJudged, PermissionsNoted, Table, FirstItems, ItemRow, items_refused}
 use Rattle.rules.specs.Columns.{permission_forms}
 use Rattle.rules.specs.Derived.{no_item, put_at}

@@ -10,7 +10,7 @@ use Rattle.rules.specs.Value.{ordered}
 use Rattle.rules.specs.Name.{Schema, of_syntax}
 use Rattle.rules.specs.declared.Format.{Format}
 use Rattle.rules.specs.Judge.{Verdict, accept, refuse, refusal_of, refuse_if, then, Grammar, misplaced, at_end, due, due_lines, name_of}
-use Rattle.rules.specs.Laws.Judge.{refused-not, accepted-is}
+use Rattle.rules.proofs.Laws.Judge.{refused-not, accepted-is}
 use Rattle.rules.specs.Request.{Operation, read, compare, list, search, Request, request_grammar, edition_of, operation, request, ordering_of, has_order, request_of}
 use Rattle.rules.specs.Places.{lines_at, ordering_by}
 use Rattle.sheet_line.specs.Line.{line_of}

@@ -3,7 +3,7 @@ use Rattle.std.specs.Prelude.{ℕ, ◌≤◌, ◌≡◌, refl, Bool, true, false
 use Rattle.std.proofs.lemmas.Bool.{false≢true}
 use Rattle.std.proofs.Common.{eqb-true, leb-true}
 use Rattle.rules.specs.Columns.{Range, unnamed, exactly, between, free, in_range, Form}
-use Rattle.rules.specs.Laws.Tests.{and_left, and_right}
+use Rattle.rules.proofs.Laws.Tests.{and_left, and_right}
 use Rattle.sheet_form.specs.Columns.{fits_form}
 
 -- a range as a statement

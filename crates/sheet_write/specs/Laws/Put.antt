@@ -5,7 +5,7 @@ use Rattle.std.proofs.Math.ListN.{length, length-append}
 use Rattle.std.proofs.Math.Seq.{paste, take-length, take-append_seam, drop-append-add, append_snoc}
 use Rattle.std.proofs.lemmas.List.{take-set-le, set_split}
 use Rattle.rules.specs.Sheet.{Bytes, Line, line_size, leading, column, numbers, line_bytes}
-use Rattle.rules.specs.Laws.Sheet.{leading_length, column-length, numbers-length}
+use Rattle.rules.proofs.Laws.Sheet.{leading_length, column-length, numbers-length}
 use Rattle.rules.specs.Derived.{put_at}
 
 pub put-none : (d : Bytes) (at : ℕ) → put_at d at [] ≡ d

@@ -2,7 +2,7 @@
 use Rattle.std.specs.Prelude.{ℕ, ◌+◌, ◌≤◌, ◌≡◌, refl, [], ◌++◌, length}
 use Rattle.std.proofs.Common.{sym, ap, ◌∙◌, arith, length-append}
 use Rattle.rules.specs.Sheet.{Bytes, Line, line_size, line_bytes}
-use Rattle.rules.specs.Laws.Sheet.{line-length}
+use Rattle.rules.proofs.Laws.Sheet.{line-length}
 use Rattle.rules.specs.Derived.{put_at}
 use Rattle.sheet_write.specs.Laws.Put.{put-none, put-length, put-append}
 

@@ -7,10 +7,10 @@ use Rattle.std.proofs.Math.Bool.{◌||◌}
 use Rattle.rules.specs.Name.{Schema, Name, same_name, covers, child_of}
 use Rattle.rules.specs.Directory.{Stored, blank, name_at}
 use Rattle.tables.specs.Numbers.{climbs}
-use Rattle.rules.specs.Laws.Tests.{bool-ext, eqb_same}
-use Rattle.rules.specs.Laws.Name.{same_name-join, child-is, covers-nil, covers_snoc}
+use Rattle.rules.proofs.Laws.Tests.{bool-ext, eqb_same}
+use Rattle.rules.proofs.Laws.Name.{same_name-join, child-is, covers-nil, covers_snoc}
 use Rattle.rules.specs.Derived.{Accepted}
-use Rattle.rules.specs.Laws.Directory.{one_number}
+use Rattle.rules.proofs.Laws.Directory.{one_number}
 
 module _ (S : Schema) (es : List Stored) (ok : Accepted S es) (n : Name) (b : ℕ) (in-range : b ≤ length es) (base : same_name S n (name_at es b) ≡ true) where
   -- to have the asked name is to have the base's number

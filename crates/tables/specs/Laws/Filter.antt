@@ -13,7 +13,7 @@ use Rattle.rules.specs.Judge.{Grammar, Verdict, accept, refuse}
 use Rattle.rules.specs.Filter.{Assertion, equality, at_least, at_most, present, substrings, Filter, and, or, not', item, Filters, none, more, truth, is_true, is_false, is_undefined, all_undefined, conjunction, disjunction, negation, evaluate, evaluate_all}
 use Rattle.rules.specs.Request.{filter_line, pieces, filters, filter_of, filter}
 use Rattle.tables.specs.FilterLines.{both, either, both_first, either_first, both_in, either_in, start_in, pieces_of, after_lines, assertion_of, after_item, Evaluated, evaluated, parts_from, evaluate_line, evaluate_sheet, evaluate_lines}
-use Rattle.rules.specs.Laws.Judge.{refused-not, not-refused, misplaced-not}
+use Rattle.rules.proofs.Laws.Judge.{refused-not, not-refused, misplaced-not}
 use Rattle.rules.specs.declared.Edition.{Edition}
 use Rattle.rules.specs.declared.Edition.TheVariants.{LaterLogic, FirstEdition}
 use Rattle.rules.specs.declared.Truth.{Truth}

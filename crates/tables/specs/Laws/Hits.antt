@@ -14,7 +14,7 @@ use Rattle.rules.specs.Decision.{Setting, entry, granted}
 use Rattle.rules.specs.Aliases.{aliased}
 use Rattle.rules.specs.Answer.{listed, list_hit, in_subset, candidate}
 use Rattle.tables.specs.Numbers.{walk, climbs, within_number}
-use Rattle.rules.specs.Laws.Name.{same_length}
+use Rattle.rules.proofs.Laws.Name.{same_length}
 use Rattle.rules.specs.Derived.{Accepted}
 use Rattle.tables.specs.Laws.Resolve.{base-found}
 use Rattle.rules.specs.declared.Found.TheVariants.{At}

@@ -14,9 +14,9 @@ use Rattle.rules.specs.Directory.{Stored, blank, name_at, Entry, entry_of}
 use Rattle.rules.specs.Permission.{Item}
 use Rattle.rules.specs.Decision.{Setting, base_covers, who_fits, level_fits}
 use Rattle.tables.specs.Numbers.{walk, climbs, reaches, number_or0, base_reach, base_reaches, own_reach, fits_always, reach_from, reach_of}
-use Rattle.rules.specs.Laws.Tests.{bool-ext}
-use Rattle.rules.specs.Laws.Lists.{any_none, none-at}
-use Rattle.rules.specs.Laws.Absent.{present', nothing-below}
+use Rattle.rules.proofs.Laws.Tests.{bool-ext}
+use Rattle.rules.proofs.Laws.Lists.{any_none, none-at}
+use Rattle.rules.proofs.Laws.Absent.{present', nothing-below}
 use Rattle.tables.specs.Laws.ByNumber.{named-is, below-by-number}
 use Rattle.rules.specs.Derived.{concerns, Accepted}
 use Rattle.tables.specs.Laws.Resolve.{walk-found, walk-missing}

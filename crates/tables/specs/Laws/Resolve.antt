@@ -19,12 +19,12 @@ use Rattle.rules.specs.Directory.{Stored, blank, name_at, Entry, entry_of}
 use Rattle.rules.specs.Permission.{DiscloseOnError}
 use Rattle.rules.specs.Decision.{Setting, entry, granted}
 use Rattle.rules.specs.Answer.{or_name, disclosed, matched_name, named}
-use Rattle.rules.specs.Laws.Tests.{and_left, and_right, both}
-use Rattle.rules.specs.Laws.Lists.{Once, any_at, any_none, first-none, any-weaken}
-use Rattle.rules.specs.Laws.Name.{same_name-join, snoc-snoc}
+use Rattle.rules.proofs.Laws.Tests.{and_left, and_right, both}
+use Rattle.rules.proofs.Laws.Lists.{Once, any_at, any_none, first-none, any-weaken}
+use Rattle.rules.proofs.Laws.Name.{same_name-join, snoc-snoc}
 use Rattle.rules.specs.Derived.{Accepted}
-use Rattle.rules.specs.Laws.Directory.{one_number, once-named}
-use Rattle.rules.specs.Laws.Absent.{present', above}
+use Rattle.rules.proofs.Laws.Directory.{one_number, once-named}
+use Rattle.rules.proofs.Laws.Absent.{present', above}
 use Rattle.tables.specs.Numbers.{on_found, child_from, walk}
 use Rattle.rules.specs.declared.Found.{Found}
 use Rattle.rules.specs.declared.Found.TheVariants.{At, Nothing}

@@ -20,15 +20,15 @@ use Rattle.rules.specs.Aliases.{replaced, leading, aliased}
 use Rattle.tables.specs.Numbers.{on_found, child_from, walk, lead, alias_by}
 use Rattle.rules.specs.declared.Found.{Found}
 use Rattle.rules.specs.declared.Found.TheVariants.{At, Nothing}
-use Rattle.rules.specs.Laws.Tests.{and_left, and_right, both, bool-ext}
+use Rattle.rules.proofs.Laws.Tests.{and_left, and_right, both, bool-ext}
 use Rattle.rules.specs.Derived.{Each, NamingAllowed, Accepted}
-use Rattle.rules.specs.Laws.Each.{each_after, each_at, gathered-each}
-use Rattle.rules.specs.Laws.Name.{same_part-sym, part-self, same_name-join, same_length}
-use Rattle.rules.specs.Laws.Columns.{DirectoryLine, is_type, is_entry, is_value, is_target, is_part, directory-line}
-use Rattle.rules.specs.Laws.DirectoryLines.{accepted-forms}
-use Rattle.rules.specs.Laws.Directory.{accepted-means, one_number}
-use Rattle.rules.specs.Laws.Members.{any-member, member-of-any, first_one, first-nothing}
-use Rattle.rules.specs.Laws.Aliases.{alias-at, alias-member, one-leads}
+use Rattle.rules.proofs.Laws.Each.{each_after, each_at, gathered-each}
+use Rattle.rules.proofs.Laws.Name.{same_part-sym, part-self, same_name-join, same_length}
+use Rattle.rules.proofs.Laws.Columns.{DirectoryLine, is_type, is_entry, is_value, is_target, is_part, directory-line}
+use Rattle.rules.proofs.Laws.DirectoryLines.{accepted-forms}
+use Rattle.rules.proofs.Laws.Directory.{accepted-means, one_number}
+use Rattle.rules.proofs.Laws.Members.{any-member, member-of-any, first_one, first-nothing}
+use Rattle.rules.proofs.Laws.Aliases.{alias-at, alias-member, one-leads}
 use Rattle.tables.specs.Laws.Resolve.{base-found, walk-missing}
 
 -- ---- every target is whole

@@ -12,7 +12,7 @@ use Rattle.rules.specs.Lists.{given}
 use Rattle.rules.specs.Sheet.{Bytes, strip}
 use Rattle.rules.specs.Value.{blank_first, shorten, trim, or_blank, tidied}
 use Rattle.rules.specs.Derived.{words}
-use Rattle.rules.specs.Laws.Blanks.{words-blank, words-byte, tidied-words}
+use Rattle.rules.proofs.Laws.Blanks.{words-blank, words-byte, tidied-words}
 use Rattle.value_blank.specs.declared.Next.{Next}
 use Rattle.value_blank.specs.declared.Next.TheVariants.{Byte, End}
 use Rattle.value_blank.specs.Blank.{pair_at, doubled_at, has_run, is_tidy, blanks, skipped, next_at}

@@ -1,5 +1,5 @@
 -- Laws of `Compare`, one for each way through a loop, and what the beginning that two values share tells of equality and order.
-use Rattle.std.specs.Prelude.{ℕ, suc, ◌+◌, ◌-◌, ◌≤◌, ◌<◌, min, ◌≡◌, Bool, ◌&&◌, cond, eqb, get_or, drop}
+use Rattle.std.specs.Prelude.{ℕ, suc, ◌+◌, ◌≤◌, ◌<◌, min, ◌≡◌, Bool, ◌&&◌, cond, eqb, get_or, drop}
 use Rattle.std.proofs.Math.Path.{refl}
 use Rattle.std.proofs.Common.{sym, ap, ◌∙◌, arith, zero-add, length-drop, drop_of_length-le}
 use Rattle.std.proofs.Math.Bool.{true, false}
@@ -7,8 +7,8 @@ use mathlib.Core.List.{[], ◌∷◌}
 use borrow.Author.Tests.{eqb-true, eqb-false, eq-eqb, lt-ltb, le-ltb}
 use Rattle.std.proofs.Math.Dec.{eqb-zero-suc, eqb-suc-suc}
 use Rattle.std.proofs.Math.ListN.{length}
-use Rattle.rules.specs.Laws.Value.{identical-eq, normal-other}
-use Rattle.rules.specs.Laws.Substrings.{folded-length}
+use Rattle.rules.proofs.Laws.Value.{identical-eq, normal-other}
+use Rattle.rules.proofs.Laws.Substrings.{folded-length}
 use Rattle.rules.specs.Sheet.{Bytes}
 use Rattle.rules.specs.Value.{text, folded, identical, same, begins, order_bytes}
 use Rattle.rules.specs.declared.Order.TheVariants.{Less, Equal, Greater}

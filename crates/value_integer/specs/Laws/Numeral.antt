@@ -8,7 +8,7 @@ use Rattle.std.proofs.Math.IntN.{+ℤ_idl}
 use Rattle.std.proofs.Math.ListN.{length, length-drop, drop_of_length-le}
 use Rattle.std.proofs.Math.Facts.{to_z_pos}
 use Rattle.std.specs.Int.{w64}
-use Rattle.rules.specs.Laws.Value.{digits-cons, numeral-digits}
+use Rattle.rules.proofs.Laws.Value.{digits-cons, numeral-digits}
 use Rattle.rules.specs.Sheet.{Bytes, digits, numeral}
 use Rattle.rules.specs.Value.{negative, positive, integer_of}
 use Rattle.rules.specs.declared.Column.{Column}

@@ -6,7 +6,7 @@ use native.Mathlib.Omega.{arith}
 use borrow.Author.Tests.{not-true, eq-eqb, ne_eqb, le-leb, lt-leb}
 use Rattle.std.proofs.Math.ListN.{length, drop}
 use Rattle.std.proofs.Math.Seq.{drop-drop}
-use Rattle.rules.specs.Laws.Substrings.{find-by, folded-length}
+use Rattle.rules.proofs.Laws.Substrings.{find-by, folded-length}
 use Rattle.rules.specs.Sheet.{Bytes}
 use Rattle.rules.specs.Value.{text, small, folded, begins, ends, find}
 use Rattle.rules.specs.declared.Found.TheVariants.{At, Nothing}

@@ -12,7 +12,7 @@ use Rattle.std.proofs.Math.ListN.{drop_of_length-le}
 use Rattle.std.proofs.Math.Seq.{drop-cons}
 use Rattle.rules.specs.Sheet.{Bytes}
 use Rattle.rules.specs.Value.{text, small, tidied, folded, normal, same}
-use Rattle.rules.specs.Laws.Value.{same-iff}
+use Rattle.rules.proofs.Laws.Value.{same-iff}
 use Rattle.value_blank.specs.declared.Text.{Text}
 use Rattle.value_blank.specs.Blank.{is_tidy, text_of}
 use Rattle.value_blank.specs.Laws.Blank.{tidy-tidied}

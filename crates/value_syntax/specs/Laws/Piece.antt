@@ -3,7 +3,7 @@ use Rattle.std.specs.Prelude.{ℕ, ◌-◌, ◌≤◌, ◌≡◌, false, length,
 use Rattle.std.proofs.Common.{arith, sym, ap, ◌∙◌, take_all}
 use Rattle.rules.specs.Sheet.{Bytes}
 use Rattle.rules.specs.Value.{text, shorten, folded, normal_piece}
-use Rattle.rules.specs.Laws.Blanks.{shorten-length}
+use Rattle.rules.proofs.Laws.Blanks.{shorten-length}
 use Rattle.value_blank.specs.declared.Text.{Text}
 use Rattle.value_blank.specs.Blank.{has_run, text_of}
 use Rattle.value_blank.specs.Laws.Blank.{no_run}

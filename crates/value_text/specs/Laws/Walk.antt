@@ -8,10 +8,10 @@ use Rattle.std.proofs.Math.ListN.{length, drop}
 use Rattle.rules.specs.Lists.{given}
 use Rattle.rules.specs.Sheet.{Bytes}
 use Rattle.rules.specs.Value.{text, small, or_blank, folded, normal, identical, same, orderℕ, order_bytes}
-use Rattle.rules.specs.Laws.Value.{identical-eq, order_bytes-refl}
-use Rattle.rules.specs.Laws.Substrings.{folded-length}
+use Rattle.rules.proofs.Laws.Value.{identical-eq, order_bytes-refl}
+use Rattle.rules.proofs.Laws.Substrings.{folded-length}
 use Rattle.rules.specs.Derived.{words}
-use Rattle.rules.specs.Laws.Blanks.{words-blank, words-byte, small-blank, normal-text}
+use Rattle.rules.proofs.Laws.Blanks.{words-blank, words-byte, small-blank, normal-text}
 use Rattle.rules.specs.declared.Order.{Order}
 use Rattle.rules.specs.declared.Order.TheVariants.{Less, Equal, Greater}
 use Rattle.value_collation.specs.Fold.{fold}

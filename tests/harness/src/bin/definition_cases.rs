@@ -1,7 +1,7 @@
 //! Writes cases as theorems about the definitions in crates/rules: what the peer answers must be
-//! what `serveAt`, `widened` and `narrowed` compute to. `definitions/run` has the prover check them.
+//! what `serve_at`, `widened` and `narrowed` compute to. `definitions/run` has the prover check them.
 //!
-//! Arguments: the folder of the definitions, and the folder for two crates' specs: `cases`, which
+//! Arguments: the folder of the definitions, and the folder for two crates' proofs: `cases`, which
 //! must be proved, and `wrong`, in which every expected answer is off by one and none may be.
 //! DEFINITION_CASES (150) and SEED come from the environment.
 
@@ -20,7 +20,7 @@ const BYTES: usize = 4_000;
 /// Theorems to a file.
 const TO_A_FILE: usize = 25;
 /// Files that hold no definitions of the service.
-const NOT_OPENED: [&str; 6] = ["Lib", "Laws", "Secrecy", "Examples", "LaterExamples", "Places"];
+const NOT_OPENED: [&str; 2] = ["Lib", "Places"];
 
 fn main() -> io::Result<()> {
     let arguments: Vec<String> = std::env::args().collect();
@@ -97,7 +97,7 @@ fn theorems(total: usize) -> Vec<Theorem> {
             let answer = peer::serve_for(call, &dir, &perm, &req, usize::MAX);
             let room = cases.room(call.caller, answer.as_ref().map_or(200, Vec::len));
             let asked = format!(
-                "serveAt {} {} {} {} {} {room}",
+                "serve_at {} {} {} {} {} {room}",
                 format_of(form),
                 limits(call.caller),
                 bytes(&dir),
@@ -162,7 +162,7 @@ fn bytes(sheet: &[u8]) -> String {
         let numbers: String = sheet.iter().map(|byte| format!("{byte} ∷ ")).collect();
         return format!("({numbers}[])");
     }
-    let mut text = String::from("(bytesOf \"");
+    let mut text = String::from("(bytes_of \"");
     for &byte in sheet {
         match byte {
             b'\n' => text.push_str("\\n"),
@@ -178,23 +178,23 @@ fn write_crate(
     opened: &[(String, Vec<String>)],
     theorems: &[String],
 ) -> io::Result<()> {
-    fs::create_dir_all(folder.join("specs"))?;
+    fs::create_dir_all(folder.join("proofs"))?;
     fs::create_dir_all(folder.join("src"))?;
     fs::write(folder.join("src/lib.rt"), "// Cases as theorems.\n")?;
     let mut header = String::from(
-        "use mathlib.Core.Path.{_≡_, refl}\nuse mathlib.Core.List.{[], _∷_}\n\
-         use Rattle·rules.specs.Examples.{bytesOf}\nuse Rattle·rules.specs.Judge.{accept, refuse}\n\
-         use Rattle·rules.specs.Sheet.{narrow, wide}\n\
-         use Rattle·rules.specs.Serve.{exchange, panel, serveAt}\nuse Rattle·rules.specs.Move.{widened, narrowed}\n",
+        "use Rattle.std.specs.Prelude.{◌≡◌, refl, [], ◌∷◌}\n\
+         use Rattle.rules.proofs.Examples.{bytes_of}\nuse Rattle.rules.specs.Judge.{accept, refuse}\n\
+         use Rattle.rules.specs.Sheet.{narrow, wide}\n\
+         use Rattle.rules.specs.Serve.{exchange, panel, serve_at}\nuse Rattle.rules.specs.Move.{widened, narrowed}\n",
     );
     for (module, _) in opened {
-        let _ = writeln!(header, "use Rattle·rules.specs.{module}");
+        let _ = writeln!(header, "use Rattle.rules.specs.{module}");
     }
     let mut modules = String::new();
     for (number, part) in theorems.chunks(TO_A_FILE).enumerate() {
         let _ = writeln!(modules, "pub mod Part{number}");
         let text = format!("{header}\n{}", part.concat());
-        fs::write(folder.join(format!("specs/Part{number}.antt")), text)?;
+        fs::write(folder.join(format!("proofs/Part{number}.antt")), text)?;
     }
-    fs::write(folder.join("specs/Lib.antt"), modules)
+    fs::write(folder.join("proofs/Lib.antt"), modules)
 }

@@ -1,0 +1,25 @@
+use Prim.Native.Nat.{suc, ◌-◌, ◌≤◌, ◌<◌}
+use mathlib.Core.Path.{◌≡◌, sym, ◌∙◌}
+use native.Mathlib.Omega.{arith}
+use lib.ListN.{get_or, drop}
+use Rattle.rules.specs.Directory.{blank}
+use mathlib.Core.List.{List}
+use Rattle.rules.specs.Lists.{any}
+use Rattle.rules.specs.Directory.{Stored}
+use Rattle.rules.specs.Decision.{Setting}
+use Rattle.tables.specs.Book.{schema, first_at}
+use Rattle.tables.specs.Held.{type_at}
+use Rattle.tables.specs.World.{World}
+use Rattle.tables.specs.Laws.Book.{end_is}
+use Rattle.tables.specs.Laws.World.{rows_of, rows-within}
+use Rattle.tables.specs.Laws.Held.{any_here, any-on, any-end}
+use Rattle.answer_compare.specs.Compare.{counts}
+use Rattle.answer_compare.specs.Laws.Compare.{some-values}
+use borrow.Author.Rules.{rules}
+use Rattle.answer_compare.proofs.equal_any.Given as goal
+
+abbrev pub invariant-loop-i : goal.invariant-loop-i
+invariant-loop-i l = (first_at l.book l.k ≤ l.i) × (l.i ≤ first_at l.book (suc l.k)) × ((σ : Setting) (es : List Stored) → World σ es l.d l.p l.book l.held l.sets → any (counts σ (get_or es l.k blank).name (type_at (schema l.book) l.rank) l.v) (drop (l.i - first_at l.book l.k) (get_or es l.k blank).values) ≡ any (counts σ (get_or es l.k blank).name (type_at (schema l.book) l.rank) l.v) (get_or es l.k blank).values)
+
+abbrev pub decreases-loop-i : goal.decreases-loop-i
+decreases-loop-i l = first_at l.book (suc l.k) - l.i

@@ -1,0 +1,5 @@
+use borrow.Author.Rules.{rules}
+use Rattle.answer_read.proofs.found.Goals as goal
+
+pub returns : goal.returns
+returns c = rw c.number.ensures

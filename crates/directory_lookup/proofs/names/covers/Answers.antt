@@ -1,0 +1,82 @@
+use Prim.Native.Nat.{ℕ, ◌-◌}
+use mathlib.Core.List.{List}
+use mathlib.Core.Path.{◌≡◌, sym, ap, ap₂, ◌∙◌}
+use native.Mathlib.Omega.{arith}
+use borrow.Author.Tests.{not-true, not-false}
+use Rattle.rules.specs.Sheet.{Bytes}
+use Rattle.rules.specs.Name.{part, same_part, covers}
+use Rattle.rules.specs.Places.{schema_of, lines_at, parts_of}
+use Rattle.sheet_line.specs.Line.{taken_at, bytes_of}
+use Rattle.sheet_line.specs.Laws.{taken-fits-line}
+use Rattle.sheet_line.specs.declared.Taken.TheVariants as Taken
+use Rattle.tables.specs.Book.{width, schema}
+use Rattle.directory_lookup.specs.Laws.Names.{parts-by, covers-all, covers-none, covers-short, covers-apart, covers-on, covers-done}
+use Rattle.directory_lookup.proofs.Untaken.{no-parts}
+use borrow.Author.Rules.{rules}
+use Rattle.directory_lookup.proofs.names.covers.Goals as goal
+
+pub loop-a-init : goal.loop-a-init
+loop-a-init c =
+    let a = c.args in
+    let w = width a.book.now in
+    ap (λ (ks : List ℕ). covers (schema_of ks) (parts_of a.n (lines_at w a.s.now a.i)) (parts_of a.m (lines_at w a.t.now a.j))) c.schema-types.ensures
+
+pub returns-in_default : goal.returns-in_default
+returns-in_default c =
+    let a = c.args in
+    let L = c.loop-a in
+    let w = width a.book.now in
+    sym (covers-all (schema_of c.schema-types.result.now) _ (parts_of L.b (lines_at w a.t.now L.l)) (no-parts w a.s.now L.k L.a c.loop-a-test.true _ (sym c.take.ensures) c.in_default.not-Line)) ∙ L.invariant
+
+pub returns-then-b-eq0 : goal.returns-then-b-eq0
+returns-then-b-eq0 c =
+    let a = c.args in
+    let L = c.loop-a in
+    let w = width a.book.now in
+    let e = parts-by w a.s.now L.k L.a c.loop-a-test.true _ ((sym c.take.ensures ∙ c.in-Line.is)) in
+    sym (covers-none (schema_of c.schema-types.result.now) _ _ _ (lines_at w a.t.now L.l) L.b e c.if-b-eq0.true) ∙ L.invariant
+
+pub returns-in_default-take : goal.returns-in_default-take
+returns-in_default-take c =
+    let a = c.args in
+    let L = c.loop-a in
+    let w = width a.book.now in
+    let e = parts-by w a.s.now L.k L.a c.loop-a-test.true _ ((sym c.take.ensures ∙ c.in-Line.is)) in
+    sym (covers-short (schema_of c.schema-types.result.now) _ _ _ _ e (no-parts w a.t.now L.l L.b (omega (arith, c.if-b-eq0.false)) _ (sym c.take-in-loop-a.ensures) c.in_default-take.not-Line)) ∙ L.invariant
+
+pub bytes-requires : goal.bytes-requires
+bytes-requires c =
+    let a = c.args in
+    let f = taken-fits-line (width a.book.now) a.s.now c.loop-a.k ((sym c.take.ensures ∙ c.in-Line.is)) in
+    omega (arith, f.next, f.within)
+
+pub bytes-requires-in-loop-a : goal.bytes-requires-in-loop-a
+bytes-requires-in-loop-a c =
+    let a = c.args in
+    let f = taken-fits-line (width a.book.now) a.t.now c.loop-a.l ((sym c.take-in-loop-a.ensures ∙ c.in-Line-take.is)) in
+    omega (arith, f.next, f.within)
+
+pub returns-then-not-same_part : goal.returns-then-not-same_part
+returns-then-not-same_part c =
+    let a = c.args in
+    let L = c.loop-a in
+    let w = width a.book.now in
+    let e = parts-by w a.s.now L.k L.a c.loop-a-test.true _ ((sym c.take.ensures ∙ c.in-Line.is)) in
+    let f = parts-by w a.t.now L.l L.b (omega (arith, c.if-b-eq0.false)) _ ((sym c.take-in-loop-a.ensures ∙ c.in-Line-take.is)) in
+    sym (covers-apart (schema_of c.schema-types.result.now) _ _ _ _ e _ _ f (sym ((c.same_part.ensures ∙ ap₂ (λ (v u : Bytes). same_part (schema_of c.schema-types.result.now) (part c.in-Line.x.a v) (part c.in-Line-take.y.a u)) c.bytes.ensures c.bytes-in-loop-a.ensures)) ∙ not-true _ c.if-not-same_part.true-raw)) ∙ L.invariant
+
+pub loop-a-preserved : goal.loop-a-preserved
+loop-a-preserved c =
+    let a = c.args in
+    let L = c.loop-a in
+    let w = width a.book.now in
+    let e = parts-by w a.s.now L.k L.a c.loop-a-test.true _ ((sym c.take.ensures ∙ c.in-Line.is)) in
+    let f = parts-by w a.t.now L.l L.b (omega (arith, c.if-b-eq0.false)) _ ((sym c.take-in-loop-a.ensures ∙ c.in-Line-take.is)) in
+    sym (covers-on (schema_of c.schema-types.result.now) _ _ _ _ e _ _ f (sym ((c.same_part.ensures ∙ ap₂ (λ (v u : Bytes). same_part (schema_of c.schema-types.result.now) (part c.in-Line.x.a v) (part c.in-Line-take.y.a u)) c.bytes.ensures c.bytes-in-loop-a.ensures)) ∙ not-false _ c.if-not-same_part.false-raw)) ∙ L.invariant
+
+pub returns : goal.returns
+returns c =
+    let a = c.args in
+    let L = c.loop-a in
+    let w = width a.book.now in
+    sym (covers-done (schema_of c.schema-types.result.now) (lines_at w a.s.now L.k) L.a (parts_of L.b (lines_at w a.t.now L.l)) c.loop-a-test.false) ∙ L.invariant

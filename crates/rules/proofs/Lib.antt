@@ -1,0 +1,4 @@
+pub mod Examples
+pub mod LaterExamples
+pub mod Laws
+pub mod Secrecy

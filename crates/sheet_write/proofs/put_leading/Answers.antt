@@ -1,0 +1,28 @@
+use Prim.Native.Nat.{◌≤◌}
+use mathlib.Core.Path.{◌≡◌, refl, sym, ◌∙◌}
+use native.Mathlib.Omega.{arith}
+use lib.ListN.{length, length-set}
+use Rattle.rules.specs.Sheet.{leading}
+use Rattle.rules.specs.Derived.{put_at}
+use Rattle.sheet_write.specs.Laws.Put.{digit-on, column-done}
+use borrow.Author.Rules.{rules}
+use Rattle.sheet_write.proofs.put_leading.Goals as goal
+
+pub loop-i-init : goal.loop-i-init
+loop-i-init c = (search rules, refl, refl)
+
+pub returns-then-v-eq0 : goal.returns-then-v-eq0
+returns-then-v-eq0 c =
+    let L = c.loop-i in
+    c.put_spaces.ensures ∙ rw c.if-v-eq0.true at L.invariant.2
+
+pub loop-i-preserved : goal.loop-i-preserved
+loop-i-preserved c =
+    let A = c.args in
+    let L = c.loop-i in
+    (search rules, simp length-set L.invariant.1, digit-on L.out A.at L.i L.v c.if-v-eq0.false c.loop-i-test.true (omega arith) ∙ L.invariant.2)
+
+pub returns : goal.returns
+returns c =
+    let L = c.loop-i in
+    sym (column-done L.out c.args.at L.i L.v c.loop-i-test.false) ∙ L.invariant.2
