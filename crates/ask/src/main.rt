@@ -2,7 +2,7 @@
 // answer, or "refused" and the number.
 #![tactic(auto)]
 
-ghost use Rattle.std.specs.Prelude.{◌≡◌, ◌≤◌, length, IfOk, IfSome};
+ghost use Rattle.std.specs.Prelude.{◌≡◌, ◌≤◌, length, take, IfOk, IfSome};
 ghost use Rattle.std.specs.Io.{ReadsAtMost};
 
 use answer_reply::Reply;
@@ -50,7 +50,8 @@ fn tell(rt: &impl Eprint, what: &str, error: io::Error) -> io::Result<()> {
 
 // The file at the front of `sheet`, as far as it has room.
 fn read(rt: &impl Files, path: &str, sheet: &mut [u8]) -> io::Result<usize>
-    ensures { ReadsAtMost result sheet.new }
+    ensures bound { ReadsAtMost result sheet.new }
+    ensures kept { length sheet.new ≡ length sheet.old }
 {
     let mut file = File::open(rt, path)?;
     let mut length = 0;
@@ -71,7 +72,8 @@ fn load(
     usual: &str,
     sheet: &mut [u8],
 ) -> io::Result<Option<usize>>
-    ensures { IfOk result (λ found. IfSome found (λ n. n ≤ length sheet.new)) }
+    ensures bound { IfOk result (λ found. IfSome found (λ n. (n ≤ length sheet.new) × (n ≡ length (take n sheet.new)))) }
+    ensures kept { length sheet.new ≡ length sheet.old }
 {
     let mut argument = [0u8; 4096];
     let path = match rt.arg(i, &mut argument) {
