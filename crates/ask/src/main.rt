@@ -99,9 +99,9 @@ fn load(
     }
 }
 
-// Standard error is told if printing failed.
-fn told(rt: &impl Eprint, printed: io::Result<()>) -> io::Result<()> {
-    match printed {
+// Prints bytes; standard error is told if that fails.
+fn put(rt: &(impl Print + Eprint), bytes: &[u8]) -> io::Result<()> {
+    match rt.write_all(bytes) {
         Ok(()) => Ok(()),
         Err(error) => tell(rt, "standard output", error),
     }
@@ -112,12 +112,17 @@ fn print(rt: &(impl Print + Eprint), out: &[u8], reply: Reply) -> io::Result<()>
     if reply.refusal == 0 {
         let n = reply.length as usize;
         if n <= out.len() {
-            told(rt, rt.write_all(&out[0..n]))?;
+            put(rt, &out[0..n])?;
         }
         return Ok(());
     }
+    put(rt, b"refused ")?;
     let number = reply.refusal;
-    told(rt, println!(rt; "refused {number}"))
+    // Where the number is not printed, neither is what stands round it, of which standard error is told.
+    match print!(rt; "{number}") {
+        Ok(()) | Err(_) => {}
+    }
+    put(rt, b"\n")
 }
 
 fn main(rt: HostRuntime) -> io::Result<()> {
