@@ -11,7 +11,7 @@ use Rattle.sheet_line.specs.Laws.{taken-fits-line}
 use Rattle.sheet_line.specs.declared.Taken.TheVariants as Taken
 use Rattle.tables.specs.Book.{width, schema}
 use Rattle.directory_lookup.specs.Laws.Names.{parts-by, covers-all, covers-none, covers-short, covers-apart, covers-on, covers-done}
-use Rattle.directory_lookup.proofs.Untaken.{no-parts}
+use Rattle.directory_lookup.proofs.Untaken.{no-parts-else}
 use borrow.Author.Rules.{rules}
 use Rattle.directory_lookup.proofs.names.covers.Goals as goal
 
@@ -26,7 +26,7 @@ returns-in_default c =
     let a = c.args in
     let L = c.loop-a in
     let w = width a.book.now in
-    sym (covers-all (schema_of c.schema-types.result.now) _ (parts_of L.b (lines_at w a.t.now L.l)) (no-parts w a.s.now L.k L.a c.loop-a-test.true _ (sym c.take.ensures) c.in_default.not-Line)) ∙ L.invariant
+    sym (covers-all (schema_of c.schema-types.result.now) _ (parts_of L.b (lines_at w a.t.now L.l)) (no-parts-else w a.s.now L.k L.a c.loop-a-test.true _ (sym c.take.ensures) c.in_default.not-Line)) ∙ L.invariant
 
 pub returns-then-b-eq0 : goal.returns-then-b-eq0
 returns-then-b-eq0 c =
@@ -42,7 +42,7 @@ returns-in_default-take c =
     let L = c.loop-a in
     let w = width a.book.now in
     let e = parts-by w a.s.now L.k L.a c.loop-a-test.true _ ((sym c.take.ensures ∙ c.in-Line.is)) in
-    sym (covers-short (schema_of c.schema-types.result.now) _ _ _ _ e (no-parts w a.t.now L.l L.b (omega (arith, c.if-b-eq0.false)) _ (sym c.take-in-loop-a.ensures) c.in_default-take.not-Line)) ∙ L.invariant
+    sym (covers-short (schema_of c.schema-types.result.now) _ _ _ _ e (no-parts-else w a.t.now L.l L.b (omega (arith, c.if-b-eq0.false)) _ (sym c.take-in-loop-a.ensures) c.in_default-take.not-Line)) ∙ L.invariant
 
 pub bytes-requires : goal.bytes-requires
 bytes-requires c =

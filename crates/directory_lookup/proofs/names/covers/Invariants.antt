@@ -12,7 +12,6 @@ use Rattle.sheet_line.specs.Laws.{taken-fits-line}
 use Rattle.sheet_line.specs.declared.Taken.TheVariants as Taken
 use Rattle.tables.specs.Book.{width, schema}
 use Rattle.directory_lookup.specs.Laws.Names.{parts-by, covers-all, covers-none, covers-short, covers-apart, covers-on, covers-done}
-use Rattle.directory_lookup.proofs.Untaken.{no-parts}
 use borrow.Author.Rules.{rules}
 use Rattle.directory_lookup.proofs.names.covers.Given as goal
 
