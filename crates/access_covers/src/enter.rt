@@ -31,9 +31,7 @@ pub fn enter_all(reach: &[usize; 256], order: &[usize], sets: &mut [u64; SETS])
     requires { (length order.now ≤ 256) × ((p : ℕ) → p < length order.now → get_or order.now p 0 < 256) }
     ensures { sets.new ≡ all_entered reach.now order.now (length order.now) sets.old }
 {
-    let mut p: usize = 0;
-    while p < order.len() {
+    for p in 0..order.len() {
         enter(sets, reach[order[p]], p);
-        p += 1;
     }
 }

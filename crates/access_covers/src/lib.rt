@@ -19,10 +19,8 @@ pub fn note_covers(reach: &[usize; 256], order: &[usize], parents: &[u64], sets:
     ensures { sets.new ≡ covers_noted reach.now order.now parents.now sets.old }
 {
     enter::enter_all(reach, order, sets);
-    let mut k: usize = 0;
-    while k < parents.len() {
-        row::inherit(sets, k + 1, parents[k] as usize);
-        k += 1;
+    for (k, parent) in parents.iter().enumerate() {
+        row::inherit(sets, k + 1, *parent as usize);
     }
 }
 

@@ -19,10 +19,8 @@ pub fn rank_items(rights: &[u64; ALL_RIGHTS], count: usize, order: &mut [usize; 
     ensures { order.new ≡ weight_order rights.now count ++ drop count order.old }
 {
     let mut keys: [u64; 256] = [0; 256];
-    let mut k: usize = 0;
-    while k < count {
+    for k in 0..count {
         keys[k] = rights[k * RIGHTS + SCORE];
-        k += 1;
     }
     access_order::sort(&keys[0..count], order);
 }
@@ -37,9 +35,7 @@ pub fn note_items(
     requires { Rising 0 schema.now × (length schema.now ≤ 64) × (length order.now ≤ 256) × Rows rights.now order.now }
     ensures { sets.new ≡ items_noted rights.now schema.now order.now (length order.now) sets.old }
 {
-    let mut j: usize = 0;
-    while j < order.len() {
+    for j in 0..order.len() {
         note::note_item(rights, order[j] * RIGHTS, schema, j, sets);
-        j += 1;
     }
 }

@@ -12,10 +12,8 @@ fn note_permissions(mask: u64, place: usize, sets: &mut [u64; SETS])
     requires { place < 256 }
     ensures { sets.new ≡ permitted 6 mask place sets.old }
 {
-    let mut b: usize = 0;
-    while b < 6 {
+    for b in 0..6 {
         mark(sets, tables::sets::PERMISSION + b, place, (mask >> b) % 2);
-        b += 1;
     }
 }
 

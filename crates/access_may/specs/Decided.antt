@@ -1,7 +1,7 @@
 -- The items stand in order of weight: the first of those asked decides.
 use Rattle.std.specs.Prelude.{ℕ, ◌≤◌, ◌<◌, ◌≡◌, Bool, true, false, List}
 use Rattle.rules.specs.Value.{by_found}
-use Rattle.rules.specs.declared.Found.{Found}
+use Rattle.rules.specs.Value.{Found}
 use Rattle.access_set.specs.Member.{Least}
 use Rattle.tables.specs.Sets.{grants_row, in_row}
 

@@ -16,7 +16,7 @@ ghost use Rattle.tables.specs.World.{World, Known, KnownEntry, KnownTypes};
 ghost use Rattle.access_may.specs.Decided.{Decided};
 
 use access_set::Bits;
-use rules::{Found, what};
+use rules::what;
 use single::decided_value;
 use tables::book::{BOOK, SCHEMA};
 use tables::sets::{GRANTS, PERMISSION, SETS, TYPE, WHAT, row};
@@ -46,7 +46,7 @@ fn naming(sets: &[u64; SETS], e: usize, q: usize) -> Bits
 fn decided(sets: &[u64; SETS], asked: Bits) -> bool
     ensures { Decided sets.now (member asked) result }
 {
-    let Found::At(i) = asked.first() else {
+    let Some(i) = asked.first() else {
         return false;
     };
     row(sets, GRANTS).has(i)

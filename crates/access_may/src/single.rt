@@ -7,7 +7,6 @@ ghost use Rattle.access_may.specs.Decided.{Decided, First};
 ghost use Rattle.access_may.specs.Single.{agrees_at, same_at};
 
 use access_set::Bits;
-use rules::Found;
 use tables::sets::{DIGEST, GRANTS, LENGTH, PLACE, SETS, first_slot, row, second_slot};
 use value_syntax::digest::digest;
 
@@ -24,11 +23,11 @@ fn agrees(sets: &[u64; SETS], p: &[u8], syntax: u64, digest: u64, v: &[u8], i: u
     name::equal_by(syntax, &p[from..from + size], v)
 }
 
-// The least member of a set; 256 where there is none.
+// The least member of a set; 256 where there is none. A number, and no Option: two places are compared, and none comes after all.
 fn place(s: Bits) -> usize
     ensures { First (member s) 256 result }
 {
-    let Found::At(i) = s.first() else {
+    let Some(i) = s.first() else {
         return 256;
     };
     i

@@ -1,5 +1,5 @@
 -- The reach of an item for a requester, from its rows of numbers and from names where they stand.
-use Rattle.std.specs.Prelude.{ℕ, zero, suc, ◌+◌, ◌*◌, ◌≡◌, Bool, true, ◌&&◌, cond, List, [], ◌∷◌, ◌++◌, eqb, leb, length, get_or}
+use Rattle.std.specs.Prelude.{ℕ, zero, suc, ◌+◌, ◌*◌, ◌≡◌, Bool, true, ◌&&◌, cond, List, [], ◌∷◌, ◌++◌, eqb, leb, length, get_or, Some, None}
 use Rattle.rules.specs.Sheet.{Bytes}
 use Rattle.rules.specs.Name.{Schema, covers}
 use Rattle.rules.specs.Directory.{Stored}
@@ -9,8 +9,7 @@ use Rattle.permission_sheet.specs.Noted.{GRANTS, RIGHTS, BELOW, BASE, BASE-PARTS
 use Rattle.tables.specs.Numbers.{walk, number_or0, base_reach, own_reach}
 use Rattle.access_scope.specs.declared.Requester.{Requester}
 use Rattle.access_scope.specs.declared.Scope.{Scope}
-use Rattle.rules.specs.declared.Found.{Found}
-use Rattle.rules.specs.declared.Found.TheVariants.{At, Nothing}
+use Rattle.rules.specs.Value.{Found}
 
 -- the requester of the setting, whose name stands on the sheet `q`
 pub record Asker (σ : Setting) (w : ℕ) (q : Bytes) (who : Requester) : Type 0 where
@@ -55,8 +54,8 @@ spread_by es who below b o = cond (eqb who 2) (own_reach es (eqb below 1) b o) (
 
 -- none where the base is not found
 abbrev pub spread_from : List Stored → ℕ → ℕ → ℕ → Found → ℕ
-spread_from es who below o (At b) = spread_by es who below b o
-spread_from es who below o Nothing = 0
+spread_from es who below o (Some b) = spread_by es who below b o
+spread_from es who below o None = 0
 
 -- the reach of the item with this scope
 unfoldable pub item_by : Schema → List Stored → ℕ → Bytes → Scope → Bytes → Requester → ℕ → ℕ

@@ -20,7 +20,6 @@ use permission_sheet::{
     ALL_RIGHTS, ALL_SCOPES, BASE, BASE_PARTS, BELOW, GRANTS, LEVEL, RIGHTS, SCOPES, USER,
     USER_PARTS, WHO,
 };
-use rules::Found;
 use rules::who::ENTRY_ITSELF;
 use tables::book::BOOK;
 
@@ -115,8 +114,8 @@ fn reach_base(book: &[u64; BOOK], d: &[u8], p: &[u8], x: Scope, o: usize) -> usi
     ensures { (σ : Setting) (es : List Stored) (held : List ℕ) → Entries σ es d.now book.now held → result ≡ spread_from es x.who x.below o (walk σ.schema es 0 (parts_of x.base_parts (lines_at (width book.now) p.now x.base))) }
 {
     match resolve(book, d, p, x.base, x.base_parts) {
-        Found::At(b) => spread(book, x.who, x.below, b, o),
-        Found::Nothing => 0,
+        Some(b) => spread(book, x.who, x.below, b, o),
+        None => 0,
     }
 }
 
@@ -145,8 +144,8 @@ fn own_number(book: &[u64; BOOK], d: &[u8], q: &[u8], who: Requester) -> usize
     ensures { (result ≤ entry_count book.now) × ((σ : Setting) (es : List Stored) (held : List ℕ) → Entries σ es d.now book.now held → result ≡ own_number σ.schema es (width book.now) q.now who) }
 {
     match resolve(book, d, q, who.place, who.parts) {
-        Found::At(b) => b,
-        Found::Nothing => 0,
+        Some(b) => b,
+        None => 0,
     }
 }
 
@@ -167,9 +166,7 @@ pub fn reach_all(
     ensures rest { drop count reach.new ≡ drop count reach.old }
 {
     let o = own_number(book, d, q, who);
-    let mut k: usize = 0;
-    while k < count {
+    for k in 0..count {
         reach[k] = reach_item(book, d, p, scope_at(rights, scopes, k), q, who, o);
-        k += 1;
     }
 }

@@ -1,9 +1,8 @@
 -- Sets of numbers below 256, as four words of 64 bits: membership, what two sets have in common and together, and the least member.
-use Rattle.std.specs.Prelude.{ℕ, ◌/◌, ◌%◌, ◌^◌, ◌<◌, ◌≡◌, Bool, true, false, cond, eqb}
+use Rattle.std.specs.Prelude.{ℕ, ◌/◌, ◌%◌, ◌^◌, ◌<◌, ◌≡◌, Bool, true, false, cond, eqb, Some, None}
 use Rattle.std.specs.Int.Bits.{bit_and, bit_or}
 use Rattle.access_set.specs.declared.Bits.{Bits}
-use Rattle.rules.specs.declared.Found.{Found}
-use Rattle.rules.specs.declared.Found.TheVariants.{At, Nothing}
+use Rattle.rules.specs.Value.{Found}
 
 -- bit `i` of `x`
 unfoldable pub bit_of : ℕ → ℕ → Bool
@@ -37,5 +36,5 @@ join s o = each bit_or s o
 
 -- the least number that passes
 abbrev pub Least : (ℕ → Bool) → Found → Type 0
-Least p (At i) = (i < 256) × (p i ≡ true) × ((j : ℕ) → j < i → p j ≡ false)
-Least p Nothing = (j : ℕ) → p j ≡ false
+Least p (Some i) = (i < 256) × (p i ≡ true) × ((j : ℕ) → j < i → p j ≡ false)
+Least p None = (j : ℕ) → p j ≡ false

@@ -4,9 +4,8 @@
 ghost use Rattle.std.specs.Prelude.{◌≡◌, true, false, not, ◌&&◌, ◌||◌, ℕ, ◌<◌, eqb};
 ghost use Rattle.access_set.specs.Member.{Lowest, word_of, member, meet, join, Least};
 
-use rules::Found;
-
-// Bit `i % 64` of word `i / 64`.
+// Bit `i % 64` of word `i / 64`. Four fields and not an array: `row_of`, `row_stored` and the theorems `with-a` to `least-none` of specs/ are said of the
+// fields, and `stored_there` would be false of a list of any other length.
 #[derive(Clone, Copy)]
 pub struct Bits {
     pub a: u64,
@@ -19,19 +18,13 @@ pub struct Bits {
 fn word(s: Bits, k: usize) -> u64
     ensures { result ≡ word_of s k }
 {
-    if k == 0 {
-        return s.a;
+    match k {
+        0 => s.a,
+        1 => s.b,
+        2 => s.c,
+        3 => s.d,
+        _ => 0,
     }
-    if k == 1 {
-        return s.b;
-    }
-    if k == 2 {
-        return s.c;
-    }
-    if k == 3 {
-        return s.d;
-    }
-    0
 }
 
 // The place of the lowest bit that is set.
@@ -91,24 +84,25 @@ impl Bits {
         requires { i < 256 }
         ensures { (j : ℕ) → member result j ≡ (eqb j i || member self j) }
     {
-        let k = i / 64;
-        let j = i % 64;
-        let x = 1u64 << j;
-        let mut s = self;
-        if k == 0 {
-            s.a = s.a | x;
-            return s;
+        let x = 1u64 << (i % 64);
+        match i / 64 {
+            0 => Bits {
+                a: self.a | x,
+                ..self
+            },
+            1 => Bits {
+                b: self.b | x,
+                ..self
+            },
+            2 => Bits {
+                c: self.c | x,
+                ..self
+            },
+            _ => Bits {
+                d: self.d | x,
+                ..self
+            },
         }
-        if k == 1 {
-            s.b = s.b | x;
-            return s;
-        }
-        if k == 2 {
-            s.c = s.c | x;
-            return s;
-        }
-        s.d = s.d | x;
-        s
     }
 
     // The set without `i`, a member of it.
@@ -116,46 +110,36 @@ impl Bits {
         requires { (i < 256) × (member self i ≡ true) }
         ensures { (j : ℕ) → member result j ≡ (member self j && not (eqb j i)) }
     {
-        let k = i / 64;
-        let j = i % 64;
-        let x = 1u64 << j;
-        let mut s = self;
-        if k == 0 {
-            s.a = s.a ^ x;
-            return s;
+        let x = 1u64 << (i % 64);
+        match i / 64 {
+            0 => Bits {
+                a: self.a ^ x,
+                ..self
+            },
+            1 => Bits {
+                b: self.b ^ x,
+                ..self
+            },
+            2 => Bits {
+                c: self.c ^ x,
+                ..self
+            },
+            _ => Bits {
+                d: self.d ^ x,
+                ..self
+            },
         }
-        if k == 1 {
-            s.b = s.b ^ x;
-            return s;
-        }
-        if k == 2 {
-            s.c = s.c ^ x;
-            return s;
-        }
-        s.d = s.d ^ x;
-        s
     }
 
     // The least member.
-    pub fn first(self) -> Found
+    pub fn first(self) -> Option<usize>
         ensures { Least (member self) result }
     {
-        let a = self.a;
-        if a != 0 {
-            return Found::At(lowest(a));
+        for (k, w) in [self.a, self.b, self.c, self.d].iter().enumerate() {
+            if *w != 0 {
+                return Some(k * 64 + lowest(*w));
+            }
         }
-        let b = self.b;
-        if b != 0 {
-            return Found::At(64 + lowest(b));
-        }
-        let c = self.c;
-        if c != 0 {
-            return Found::At(128 + lowest(c));
-        }
-        let d = self.d;
-        if d != 0 {
-            return Found::At(192 + lowest(d));
-        }
-        Found::Nothing
+        None
     }
 }

@@ -39,22 +39,13 @@ fn ranks_listed(book: &[u64; BOOK], q: &[u8], i: usize, n: usize) -> u64
     let types = tables::book::schema(book);
     let w = book[WIDTH] as usize;
     let mut ranks: u64 = 0;
-    let mut j = i;
-    let mut left = n;
-    while 0 < left {
-        match sheet_line::take(q, j, w) {
-            Taken::Line(x) => {
-                ranks = with_type(types, ranks, x.a);
-                j = x.next;
-                left -= 1;
-            }
-            Taken::NotInForm => {
-                return ranks;
-            }
-            Taken::End => {
-                return ranks;
-            }
-        }
+    let mut at = i;
+    for _ in 0..n {
+        let Taken::Line(line) = sheet_line::take(q, at, w) else {
+            return ranks;
+        };
+        ranks = with_type(types, ranks, line.a);
+        at = line.next;
     }
     ranks
 }

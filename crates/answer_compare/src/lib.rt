@@ -3,7 +3,6 @@
 
 ghost use Rattle.std.specs.Prelude.{◌≡◌, List, map, ℕ, suc, ◌+◌, ◌≤◌, ◌<◌, ltb, get_or};
 ghost use Rattle.rules.specs.Sheet.{Bytes};
-ghost use Rattle.rules.specs.Sheet as Sheet;
 ghost use Rattle.rules.specs.Name.{part, Name, equal};
 ghost use Rattle.rules.specs.Directory.{Stored, blank, entry_of};
 ghost use Rattle.rules.specs.Permission.{Compare};
@@ -12,8 +11,6 @@ ghost use Rattle.rules.specs.FilterItem.{holds, some_value};
 ghost use Rattle.rules.specs.Request.{Selection};
 ghost use Rattle.rules.specs.Request as Request;
 ghost use Rattle.rules.specs.Answer as Answer;
-ghost use Rattle.rules.specs.declared.Found.{Found};
-ghost use Rattle.rules.specs.declared.Found.TheVariants.{At};
 ghost use Rattle.tables.specs.Book.{type_count, entry_count, schema, first_at};
 ghost use Rattle.tables.specs.Held.{rank_at, bytes_at, type_at};
 ghost use Rattle.tables.specs.World.{World, Known};
@@ -24,27 +21,30 @@ ghost use Rattle.answer_compare.specs.Compare.{counts, held_outcome, compare_pla
 use access_may::{may_type, may_value};
 use answer_entry::{Sought, opening, withheld};
 use name::equal_by;
-use rules::{Found, Outcome, operation};
+use rules::{Outcome, operation};
 use tables::book::{BOOK, FIRST, SCHEMA};
 use tables::held::{HELD, bytes};
 use tables::plan::{Plan, absent, is_result, refused};
 use tables::sets::{COMPARE, DISCLOSE_ON_ERROR, READ, SETS};
+
+// The type of the value in row `i`, of those of the entry of index `k`.
+fn row_type(book: &[u64; BOOK], held: &[u64; HELD], k: usize, i: usize) -> u64
+    requires { ((d p : Bytes) × (sets : List ℕ) × Known d p book.now held.now sets) × (k < entry_count book.now) × (first_at book.now k ≤ i) × (i < first_at book.now (suc k)) }
+    ensures { result ≡ type_at (schema book.now) (rank_at held.now i) }
+{
+    book[SCHEMA + held[i] as usize] / 4
+}
 
 // The first row of the type `t` among the values of the entry of index `k`; the row after the last if it does not hold the type.
 fn row_of(book: &[u64; BOOK], held: &[u64; HELD], k: usize, t: u64) -> usize
     requires { ((d p : Bytes) × (sets : List ℕ) × Known d p book.now held.now sets) × (k < entry_count book.now) }
     ensures { (first_at book.now k ≤ result) × (result < first_at book.now (suc k) → type_at (schema book.now) (rank_at held.now result) ≡ t) × ((σ : Setting) (es : List Stored) (d p : Bytes) (sets : List ℕ) → World σ es d p book.now held.now sets → holds (entry_of (get_or es k blank)) t ≡ ltb result (first_at book.now (suc k))) }
 {
+    let first = book[FIRST + k] as usize;
     let end = book[FIRST + 1 + k] as usize;
-    let mut i = book[FIRST + k] as usize;
-    while i < end {
-        let rank = held[i] as usize;
-        if book[SCHEMA + rank] / 4 == t {
-            return i;
-        }
-        i += 1;
-    }
-    i
+    (first..end)
+        .find(|i| row_type(book, held, k, *i) == t)
+        .unwrap_or(end)
 }
 
 // The outcome for an open entry, that of index `k`, which holds the type of this rank; Compare on the type is asked first.
@@ -103,25 +103,9 @@ fn equal_any(
     requires { Known d.now p.now book.now held.now sets.now × (k < entry_count book.now) × (rank < type_count book.now) }
     ensures { (σ : Setting) (es : List Stored) → World σ es d.now p.now book.now held.now sets.now → result ≡ some_value σ (entry_of (get_or es k blank)) (type_at (schema book.now) rank) Compare (equal σ.schema (type_at (schema book.now) rank) v.now) }
 {
+    let first = book[FIRST + k] as usize;
     let end = book[FIRST + 1 + k] as usize;
-    let mut i = book[FIRST + k] as usize;
-    while i < end {
-        if equal_row(book, held, sets, d, p, k, rank, v, i) {
-            return true;
-        }
-        i += 1;
-    }
-    false
-}
-
-// 1 for true, 0 for false.
-fn bit(b: bool) -> u64
-    ensures { result ≡ Sheet.bit b }
-{
-    if b {
-        return 1;
-    }
-    0
+    (first..end).any(|i| equal_row(book, held, sets, d, p, k, rank, v, i))
 }
 
 // The plan of a comparison that was made.
@@ -134,7 +118,7 @@ fn compared(equal: bool) -> Plan
         more: 0,
         name: 0,
         entry: 0,
-        equal: bit(equal),
+        equal: u64::from(equal),
         shown: 0,
     }
 }
@@ -178,8 +162,8 @@ fn compare_entry(
     b: usize,
     missing: usize,
 ) -> Plan
-    requires { KnownBase d.now p.now book.now held.now sets.now (At b) missing }
-    ensures { ((hits : List ℕ) → SoundPlan (entry_count book.now) result hits) × ((σ : Setting) (es : List Stored) (n : Name) (s : Selection) (hits : List ℕ) → World σ es d.now p.now book.now held.now sets.now → Base σ es n (At b) missing → planned σ es s result hits ≡ Answer.answer σ (map entry_of es) (aliases_of σ es) n (Request.compare t v.now)) }
+    requires { KnownBase d.now p.now book.now held.now sets.now (Some b) missing }
+    ensures { ((hits : List ℕ) → SoundPlan (entry_count book.now) result hits) × ((σ : Setting) (es : List Stored) (n : Name) (s : Selection) (hits : List ℕ) → World σ es d.now p.now book.now held.now sets.now → Base σ es n (Some b) missing → planned σ es s result hits ≡ Answer.answer σ (map entry_of es) (aliases_of σ es) n (Request.compare t v.now)) }
 {
     let opened = opening(sets, b, READ);
     if !is_result(opened) {
@@ -207,7 +191,7 @@ pub fn compare(
 {
     let base = sought.base;
     match base {
-        Found::At(b) => compare_entry(book, held, sets, d, p, t, v, b, sought.missing),
-        Found::Nothing => absent(operation::COMPARE, sought.missing),
+        Some(b) => compare_entry(book, held, sets, d, p, t, v, b, sought.missing),
+        None => absent(operation::COMPARE, sought.missing),
     }
 }

@@ -2,3 +2,4 @@ pub mod Opening
 pub mod Returned
 pub mod Passing
 pub mod Whole
+pub mod Rows

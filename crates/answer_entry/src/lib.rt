@@ -2,23 +2,24 @@
 // plan of the entries that were found.
 #![tactic(auto)]
 
-ghost use Rattle.std.specs.Prelude.{◌≡◌, List, ℕ, ◌≤◌, ◌<◌, ◌^◌, length};
+ghost use Rattle.std.specs.Prelude.{◌≡◌, Bool, List, ℕ, ◌≤◌, ◌<◌, ◌^◌, length, take};
 ghost use Rattle.rules.specs.Sheet.{Bytes};
 ghost use Rattle.rules.specs.Directory.{Stored};
 ghost use Rattle.rules.specs.Decision.{Setting};
 ghost use Rattle.tables.specs.World.{World, KnownEntry};
 ghost use Rattle.answer_entry.specs.Opening.{opening_at, withheld_plan};
+ghost use Rattle.answer_entry.specs.Passing.{Indices, passing};
 ghost use Rattle.answer_entry.specs.Returned.{browsable_at, returnable_at, success_plan, limited_plan, returned_plan};
 
 use access_may::may_entry;
-use rules::{Found, Outcome};
+use rules::Outcome;
 use tables::plan::{Plan, absent, refused};
 use tables::sets::{BROWSE, DISCLOSE_ON_ERROR, READ, RETURN_DN, SETS};
 
 // The entry that a request names: its number, if there is one, and the number of the entry with the matched name.
 #[derive(Drop)]
 pub struct Sought {
-    pub base: Found,
+    pub base: Option<usize>,
     pub missing: usize,
 }
 
@@ -110,4 +111,21 @@ pub fn returned(operation: u64, missing: usize, disclosed: bool, limit: u64, cou
         return absent(operation, missing);
     }
     limited(operation, limit, count)
+}
+
+// Notes the indices below `count` that pass the test, in order; how many they are.
+pub fn note_passing<F: Fn(usize) -> bool>(count: usize, hits: &mut [usize; 256], test: F) -> usize
+    requires room { count ≤ 256 }
+    requires callable { (k : ℕ) → k < count → F.pre test k }
+    ensures indices { Indices count result hits.old hits.new }
+    ensures passing { (t : ℕ → Bool) → ((k : ℕ) (b : Bool) → k < count → F.post test k b → b ≡ t k) → take result hits.new ≡ passing t count }
+{
+    let mut n: usize = 0;
+    for k in 0..count {
+        if test(k) {
+            hits[n] = k;
+            n += 1;
+        }
+    }
+    n
 }

@@ -88,14 +88,7 @@ fn run_end(held: &[u64; HELD], i: usize, end: usize) -> usize
     requires { (i < end) × (end ≤ ROWS) }
     ensures { EndsAt held.now i end result }
 {
-    let mut j = i + 1;
-    while j < end {
-        if held[j] != held[i] {
-            return j;
-        }
-        j += 1;
-    }
-    j
+    (i + 1..end).find(|j| held[*j] != held[i]).unwrap_or(end)
 }
 
 // What is returned of entry number `e`, which is not the root.
@@ -116,6 +109,7 @@ fn emit_runs(
     let end = book[FIRST + e] as usize;
     let mut i = book[FIRST + (e - 1)] as usize;
     let mut next = at;
+    // A 'while': it goes from run to run, each as long as it is.
     while i < end {
         let run = Run {
             rank: held[i] as usize,

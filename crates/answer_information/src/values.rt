@@ -67,11 +67,8 @@ fn emit_values(
     ensures { (result.next ≤ at + (run.end - run.first) * line_room) × ((σ : Setting) (es : List Stored) → World σ es d.now p.now book.now held.now sets.now → Counted (width book.now) out.old (record { next = at; count = 0 }) (readable σ (name_at es e) (type_at (schema book.now) run.rank) (row_values d.now held.now run.first (run.end - run.first))) out.new result) }
 {
     let mut st = Written { next: at, count: 0 };
-    let end = run.end;
-    let mut i = run.first;
-    while i < end {
+    for i in run.first..run.end {
         st = emit_value(out, st, book, sets, p, e, run.rank, bytes(held, d, i));
-        i += 1;
     }
     st
 }

@@ -53,10 +53,9 @@ fn key_of(
 {
     let syntax = book[SCHEMA + rank] % 4;
     let first = book[FIRST + k] as usize;
-    let mut i = book[FIRST + 1 + k] as usize;
+    let end = book[FIRST + 1 + k] as usize;
     let mut best = NONE;
-    while first < i {
-        i -= 1;
+    for i in (first..end).rev() {
         if readable(book, held, sets, d, p, rank, k, i) {
             best = smaller(held, d, syntax, i, best);
         }
@@ -78,10 +77,7 @@ pub fn note_keys(
     requires { Known d.now p.now book.now held.now sets.now × (rank < type_count book.now) × Each (λ k. k < entry_count book.now) found.now × (length keys.old ≡ 256) }
     ensures { (length keys.new ≡ 256) × Each (λ k. KeyOf d.now p.now book.now held.now sets.now (type_at (schema book.now) rank) k (get_or keys.new k 0)) found.now }
 {
-    let mut j: usize = 0;
-    while j < found.len() {
-        let k = found[j];
-        keys[k] = key_of(book, held, sets, d, p, rank, k);
-        j += 1;
+    for k in found {
+        keys[*k] = key_of(book, held, sets, d, p, rank, *k);
     }
 }

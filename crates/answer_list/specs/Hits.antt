@@ -1,9 +1,8 @@
 -- The children that list returns, by number and index.
-use Rattle.std.specs.Prelude.{ℕ, suc, Bool, false, ◌&&◌, List, [], eqb, length, get_or}
+use Rattle.std.specs.Prelude.{ℕ, suc, Bool, false, ◌&&◌, List, [], eqb, length, get_or, Some, None}
 use Rattle.rules.specs.Directory.{Stored, blank}
 use Rattle.rules.specs.Decision.{Setting}
-use Rattle.rules.specs.declared.Found.{Found}
-use Rattle.rules.specs.declared.Found.TheVariants.{At, Nothing}
+use Rattle.rules.specs.Value.{Found}
 use Rattle.answer_entry.specs.Passing.{passing}
 use Rattle.answer_entry.specs.Returned.{returnable_at}
 
@@ -13,5 +12,5 @@ listed_at σ es b k = eqb (get_or es k blank).parent b && returnable_at σ es (s
 
 -- the indices of those that list returns, of the base; none of an absent one
 unfoldable pub list_found : Setting → List Stored → Found → List ℕ
-list_found σ es (At b) = passing (listed_at σ es b) (length es)
-list_found σ es Nothing = []
+list_found σ es (Some b) = passing (listed_at σ es b) (length es)
+list_found σ es None = []

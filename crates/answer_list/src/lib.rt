@@ -17,8 +17,8 @@ ghost use Rattle.answer_entry.specs.Passing.{Indices, passing, over};
 ghost use Rattle.answer_list.specs.Hits.{listed_at, list_found};
 
 use access_may::may_entry;
-use answer_entry::{Sought, returnable, returned};
-use rules::{Found, operation};
+use answer_entry::{Sought, note_passing, returnable, returned};
+use rules::operation;
 use tables::book::{BOOK, ENTRIES, PARENT};
 use tables::plan::{Plan, absent};
 use tables::sets::{DISCLOSE_ON_ERROR, SETS};
@@ -39,17 +39,7 @@ fn children(book: &[u64; BOOK], sets: &[u64; SETS], b: usize, hits: &mut [usize;
     requires { (entry_count book.now ≤ 256) × (length hits.old ≡ 256) × ((d p : Bytes) × (held : List ℕ) × Known d p book.now held sets.now) }
     ensures { Indices (entry_count book.now) result hits.old hits.new × ((σ : Setting) (es : List Stored) (d p : Bytes) (held : List ℕ) → World σ es d p book.now held sets.now → take result hits.new ≡ passing (listed_at σ es b) (length es)) }
 {
-    let count = book[ENTRIES] as usize;
-    let mut n: usize = 0;
-    let mut k: usize = 0;
-    while k < count {
-        if child(book, sets, b, k) {
-            hits[n] = k;
-            n += 1;
-        }
-        k += 1;
-    }
-    n
+    note_passing(book[ENTRIES] as usize, hits, |k| child(book, sets, b, k))
 }
 
 // The plan of a list: the children of the base that may be returned, within the size limit.
@@ -64,7 +54,7 @@ pub fn list(
     ensures { SoundPlan (entry_count book.now) result hits.new × ((σ : Setting) (es : List Stored) (d p : Bytes) (held : List ℕ) (n : Name) (s : Selection) → World σ es d p book.now held sets.now → Base σ es n sought.base sought.missing → planned σ es s result hits.new ≡ answer σ (map entry_of es) (aliases_of σ es) n (Request.list limit)) × ((σ : Setting) (es : List Stored) (d p : Bytes) (held : List ℕ) → World σ es d p book.now held sets.now → hits.new ≡ over (list_found σ es sought.base) hits.old) }
 {
     let base = sought.base;
-    let Found::At(b) = base else {
+    let Some(b) = base else {
         return absent(operation::LIST, sought.missing);
     };
     let count = children(book, sets, b, hits);

@@ -51,10 +51,7 @@ fn mark(book: &[u64; BOOK], k: usize) -> u64
     requires { (k < entry_count book.now) × (entry_count book.now ≤ 256) }
     ensures { (σ : Setting) (es : List Stored) (d : Bytes) (held : List ℕ) → Entries σ es d book.now held → result ≡ bit (is_alias (get_or es k blank).target) }
 {
-    if book[TARGET + k] == 0 {
-        return 0;
-    }
-    1
+    u64::from(book[TARGET + k] != 0)
 }
 
 // The K 32 line of the entry of index `k`: its naming part, and the mark of an alias.
@@ -73,6 +70,7 @@ pub fn depth(book: &[u64; BOOK], e: usize) -> usize
 {
     let mut n: usize = 0;
     let mut j = e;
+    // A 'while': it climbs from parent to parent, whose numbers are no range.
     while 0 < j {
         j = book[PARENT + (j - 1)] as usize;
         n += 1;

@@ -6,7 +6,7 @@ use Rattle.rules.specs.Directory.{Stored}
 use Rattle.rules.specs.Decision.{Setting}
 use Rattle.rules.specs.Request.{Operation, read, compare, list, search}
 use Rattle.tables.specs.Numbers.{walk}
-use Rattle.rules.specs.declared.Found.{Found}
+use Rattle.rules.specs.Value.{Found}
 use Rattle.answer_list.specs.Hits.{list_found}
 use Rattle.answer_search.specs.Hits.{search_found}
 

@@ -23,7 +23,7 @@ use answer_compare::compare;
 use answer_entry::Sought;
 use answer_list::list;
 use answer_read::read;
-use answer_resolution::{Resolved, resolve_name};
+use answer_resolution::resolve_name;
 use answer_search::{Query, search};
 use request_sheet::Asked;
 use rules::{Outcome, operation};
@@ -86,9 +86,7 @@ pub fn plan_of(
     ensures { SoundPlan (entry_count book.now) result hits.new × ((σ : Setting) (es : List Stored) (G : Grammar) (x : Request) → Posed σ es G x d.now p.now q.now book.now held.now sets.now asked choice → (planned σ es (selection_of x.operation) result hits.new ≡ answer_to σ (map entry_of es) (aliases_of σ es) x.base x.operation) × (hits.new ≡ over (found_for σ es (resolved σ.schema (aliases_of σ es) x.base) x.operation) hits.old)) }
 {
     match resolve_name(book, sets, d, q, asked.base, asked.base_parts) {
-        Resolved::Sought(sought) => {
-            plan_at(book, held, sets, d, p, q, asked, sought, choice, hits)
-        }
-        Resolved::AliasProblem => refused(asked.operation, Outcome::AliasProblem),
+        Some(sought) => { plan_at(book, held, sets, d, p, q, asked, sought, choice, hits) }
+        None => refused(asked.operation, Outcome::AliasProblem),
     }
 }

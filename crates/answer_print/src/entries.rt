@@ -31,10 +31,8 @@ pub(crate) fn emit_children(
     ensures { (σ : Setting) (es : List Stored) (held : List ℕ) → Entries σ es d.now book.now held → Emits (width book.now) out.old at (gather (child_lines es) hits.now) out.new result }
 {
     let mut next = at;
-    let mut i: usize = 0;
-    while i < hits.len() {
-        next = emit_child(out, next, book, d, hits[i]);
-        i += 1;
+    for k in hits {
+        next = emit_child(out, next, book, d, *k);
     }
     next
 }
@@ -59,7 +57,7 @@ pub(crate) fn emit_found(
     emit_information(out, next, book, held, sets, d, p, choice, e)
 }
 
-// The entries with these indices as a search returns them.
+// The entries with these indices as a search returns them. Shared with `emit_children`, the loop would take a closure that writes, and a contract longer than both.
 pub(crate) fn emit_matches(
     out: &mut [u8],
     at: usize,
@@ -75,11 +73,9 @@ pub(crate) fn emit_matches(
     ensures { (σ : Setting) (es : List Stored) (s : Selection) → World σ es d.now p.now book.now held.now sets.now → Chooses (schema book.now) s choice → Emits (width book.now) out.old at (gather (found_lines σ es s) hits.now) out.new result }
 {
     let mut next = at;
-    let mut i: usize = 0;
-    while i < hits.len() {
-        let e = hits[i] + 1;
+    for k in hits {
+        let e = *k + 1;
         next = emit_found(out, next, book, held, sets, d, p, choice, e, e);
-        i += 1;
     }
     next
 }

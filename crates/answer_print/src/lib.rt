@@ -24,7 +24,8 @@ use answer_line::emit;
 use answer_name::emit_name;
 use answer_reply::{Reply, refused};
 use entries::{emit_children, emit_found, emit_matches};
-use rules::{Outcome, operation, refusal};
+use rules::refusals::{Refusal, refusal_number};
+use rules::{Outcome, operation};
 use sheet_kind::Kind;
 use tables::book::{BOOK, WIDTH};
 use tables::held::HELD;
@@ -35,14 +36,7 @@ use tables::sets::SETS;
 fn outcome_number(outcome: Outcome) -> u64
     ensures { result ≡ outcome_number outcome }
 {
-    match outcome {
-        Outcome::Result => 0,
-        Outcome::NoSuchObject => 1,
-        Outcome::InsufficientAccessRights => 2,
-        Outcome::NoSuchAttributeOrValue => 3,
-        Outcome::InvalidAttributeSyntax => 4,
-        Outcome::AliasProblem => 5,
-    }
+    outcome as u64
 }
 
 // What follows line 30 of a result, by the operation.
@@ -132,7 +126,7 @@ pub fn write(
 {
     let n = print(&mut out[0..0], book, held, sets, d, p, plan, hits, choice);
     if out.len() < n {
-        return refused(refusal::BUFFER_TOO_SHORT);
+        return refused(refusal_number(Refusal::BufferTooShort));
     }
     let m = print(out, book, held, sets, d, p, plan, hits, choice);
     Reply {

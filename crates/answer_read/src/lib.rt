@@ -10,8 +10,6 @@ ghost use Rattle.rules.specs.Decision.{Setting};
 ghost use Rattle.rules.specs.Request.{Selection};
 ghost use Rattle.rules.specs.Request as Request;
 ghost use Rattle.rules.specs.Answer as Answer;
-ghost use Rattle.rules.specs.declared.Found.{Found};
-ghost use Rattle.rules.specs.declared.Found.TheVariants.{At};
 ghost use Rattle.tables.specs.Book.{entry_count, schema, first_at};
 ghost use Rattle.tables.specs.Held.{rank_at, bytes_at, type_at};
 ghost use Rattle.tables.specs.World.{World, Known};
@@ -22,7 +20,7 @@ ghost use Rattle.answer_read.specs.Read.{readable, disclosing, read_outcome, rea
 
 use access_may::{may_entry, may_type, may_value};
 use answer_entry::{Sought, opening, withheld};
-use rules::{Found, Outcome, operation};
+use rules::{Outcome, operation};
 use tables::book::{BOOK, FIRST};
 use tables::held::{HELD, bytes};
 use tables::plan::{Choice, Plan, absent, chosen, is_result, refused};
@@ -68,22 +66,24 @@ fn readable_any(
     requires { Known d.now p.now book.now held.now sets.now × (k < entry_count book.now) × KnownChoice (schema book.now) choice }
     ensures { (σ : Setting) (es : List Stored) (s : Selection) → World σ es d.now p.now book.now held.now sets.now → Chooses (schema book.now) s choice → result ≡ any (readable σ s (get_or es k blank).name) (get_or es k blank).values }
 {
+    let first = book[FIRST + k] as usize;
     let end = book[FIRST + 1 + k] as usize;
-    let mut i = book[FIRST + k] as usize;
-    while i < end {
-        if readable_row(book, held, sets, d, p, choice, k, i) {
-            return true;
-        }
-        i += 1;
-    }
-    false
+    (first..end).any(|i| readable_row(book, held, sets, d, p, choice, k, i))
 }
 
-// Is the type of this rank chosen, with DiscloseOnError in the entry of index `k`?
-fn disclosing_rank(sets: &[u64; SETS], choice: Choice, k: usize, rank: usize) -> bool
-    requires { KnownChoiceAt sets.now (k + 1) rank choice }
-    ensures { (σ : Setting) (es : List Stored) (s : Selection) (d p : Bytes) (book held : List ℕ) → World σ es d p book held sets.now → Chooses (schema book) s choice → k < length es → rank < length (schema book) → result ≡ disclosing σ s (get_or es k blank).name (type_at (schema book) rank) }
+// Is the type of the value in row `i` chosen, with DiscloseOnError in the entry of index `k`, which holds it?
+fn disclosing_row(
+    book: &[u64; BOOK],
+    held: &[u64; HELD],
+    sets: &[u64; SETS],
+    choice: Choice,
+    k: usize,
+    i: usize,
+) -> bool
+    requires { ((d p : Bytes) × Known d p book.now held.now sets.now) × (k < entry_count book.now) × (first_at book.now k ≤ i) × (i < first_at book.now (suc k)) × KnownChoice (schema book.now) choice }
+    ensures { (σ : Setting) (es : List Stored) (s : Selection) (d p : Bytes) → World σ es d p book.now held.now sets.now → Chooses (schema book.now) s choice → result ≡ disclosing σ s (get_or es k blank).name (type_at (schema book.now) (rank_at held.now i)) }
 {
+    let rank = held[i] as usize;
     if chosen(choice, rank) {
         return may_type(sets, k + 1, rank, DISCLOSE_ON_ERROR);
     }
@@ -101,15 +101,9 @@ fn discloses(
     requires { ((d p : Bytes) × Known d p book.now held.now sets.now) × (k < entry_count book.now) × KnownChoice (schema book.now) choice }
     ensures { (σ : Setting) (es : List Stored) (s : Selection) (d p : Bytes) → World σ es d p book.now held.now sets.now → Chooses (schema book.now) s choice → result ≡ any (λ v. disclosing σ s (get_or es k blank).name v.type) (get_or es k blank).values }
 {
+    let first = book[FIRST + k] as usize;
     let end = book[FIRST + 1 + k] as usize;
-    let mut i = book[FIRST + k] as usize;
-    while i < end {
-        if disclosing_rank(sets, choice, k, held[i] as usize) {
-            return true;
-        }
-        i += 1;
-    }
-    false
+    (first..end).any(|i| disclosing_row(book, held, sets, choice, k, i))
 }
 
 // The outcome for an open entry, that of index `k`: a result, or where nothing is left insufficient access rights if a chosen type has DiscloseOnError, else
@@ -196,8 +190,8 @@ fn read_entry(
     b: usize,
     missing: usize,
 ) -> Plan
-    requires { KnownBase d.now p.now book.now held.now sets.now (At b) missing × KnownChoice (schema book.now) choice }
-    ensures { ((hits : List ℕ) → SoundPlan (entry_count book.now) result hits) × ((σ : Setting) (es : List Stored) (n : Name) (s : Selection) (hits : List ℕ) → World σ es d.now p.now book.now held.now sets.now → Chooses (schema book.now) s choice → Base σ es n (At b) missing → planned σ es s result hits ≡ Answer.answer σ (map entry_of es) (aliases_of σ es) n (Request.read s)) }
+    requires { KnownBase d.now p.now book.now held.now sets.now (Some b) missing × KnownChoice (schema book.now) choice }
+    ensures { ((hits : List ℕ) → SoundPlan (entry_count book.now) result hits) × ((σ : Setting) (es : List Stored) (n : Name) (s : Selection) (hits : List ℕ) → World σ es d.now p.now book.now held.now sets.now → Chooses (schema book.now) s choice → Base σ es n (Some b) missing → planned σ es s result hits ≡ Answer.answer σ (map entry_of es) (aliases_of σ es) n (Request.read s)) }
 {
     let opened = opening(sets, b, READ);
     if !is_result(opened) {
@@ -224,7 +218,7 @@ pub fn read(
 {
     let base = sought.base;
     match base {
-        Found::At(b) => read_entry(book, held, sets, d, p, choice, b, sought.missing),
-        Found::Nothing => absent(operation::READ, sought.missing),
+        Some(b) => read_entry(book, held, sets, d, p, choice, b, sought.missing),
+        None => absent(operation::READ, sought.missing),
     }
 }

@@ -1,2 +1,3 @@
+pub mod Resolved
 pub mod Resolution
 pub mod Laws

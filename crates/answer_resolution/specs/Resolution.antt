@@ -1,5 +1,5 @@
 -- The way down a name by entry numbers, and where the name asked for leads once its beginnings are replaced (#105).
-use Rattle.std.specs.Prelude.{ℕ, ◌-◌, ◌≤◌, ◌<◌, ◌≡◌, Bool, ◌&&◌, cond, List, [], ◌∷◌, length, get_or}
+use Rattle.std.specs.Prelude.{ℕ, ◌-◌, ◌≤◌, ◌<◌, ◌≡◌, Bool, ◌&&◌, cond, List, [], ◌∷◌, length, get_or, Some, None, Some, None}
 use Rattle.std.proofs.Math.Option.{Option, none, some}
 use Rattle.rules.specs.Sheet.{Bytes, print}
 use Rattle.rules.specs.Name.{Name}
@@ -9,15 +9,12 @@ use Rattle.rules.specs.Decision.{Setting, entry}
 use Rattle.rules.specs.Judge.{name_lines}
 use Rattle.rules.specs.Places.{lines_at, parts_of}
 use Rattle.tables.specs.Numbers.{child_from}
-use Rattle.rules.specs.declared.Found.{Found}
-use Rattle.rules.specs.declared.Found.TheVariants.{At, Nothing}
+use Rattle.rules.specs.Value.{Found}
 use Rattle.tables.specs.Sets.{granted_at}
 use Rattle.directory_lookup.specs.Find.{by_child}
 use Rattle.tables.specs.Sound.{Base}
 use Rattle.answer_resolution.specs.declared.way.Way.{Way}
-use Rattle.answer_resolution.specs.declared.way.Way.TheVariants as Way
-use Rattle.answer_resolution.specs.declared.Resolved.{Resolved}
-use Rattle.answer_resolution.specs.declared.Resolved.TheVariants as Resolved
+use Rattle.answer_resolution.specs.Resolved.{Resolved}
 
 -- ---- the way down
 
@@ -33,10 +30,10 @@ pub data Ending : Type 0 where
 
 -- the way from number `from` on by the parts, `last` being the number of the last entry disclosed above it, 0 for none; up to the first alias if `stop`
 unfoldable pub way_down : Setting → List Stored → Bool → ℕ → ℕ → Name → Ending
-way_down σ es stop from last [] = whole (At from) last
+way_down σ es stop from last [] = whole (Some from) last
 way_down σ es stop from last (p ∷ ps) =
     let seen = last_of σ es from last in
-    by_child (whole Nothing seen) (λ k. cond (stop && under_alias es k) (alias k ps) (way_down σ es stop k seen ps)) (child_from σ.schema from p es 0)
+    by_child (whole None seen) (λ k. cond (stop && under_alias es k) (alias k ps) (way_down σ es stop k seen ps)) (child_from σ.schema from p es 0)
 
 -- the ending that is told by numbers, of a name on the sheet `s`
 abbrev pub ending_of : ℕ → Bytes → Way → Ending
@@ -69,7 +66,7 @@ pub record HoldsName (w : ℕ) (s : Bytes) (n : ℕ) (name : Name) : Type 0 wher
 
 -- the target of the name that is asked for in the end, none where a ninth replacement is due
 abbrev pub Resolves : Setting → List Stored → Option Name → Resolved → Type 0
-Resolves σ es (some n) (Resolved.Sought t) = Base σ es n t.base t.missing
-Resolves σ es (some n) Resolved.AliasProblem = ⊥
-Resolves σ es none (Resolved.Sought t) = ⊥
-Resolves σ es none Resolved.AliasProblem = Unit {0}
+Resolves σ es (some n) (Some t) = Base σ es n t.base t.missing
+Resolves σ es (some n) None = ⊥
+Resolves σ es none (Some t) = ⊥
+Resolves σ es none None = Unit {0}

@@ -22,14 +22,10 @@ use tables::book::BOOK;
 use tables::sets::SETS;
 use way::{Way, way_down};
 
-// The entry that a request names, or a ninth replacement is due.
-#[derive(Drop)]
-pub enum Resolved {
-    Sought(Sought),
-    AliasProblem,
-}
+// How often a name is replaced at most.
+const MOST: usize = 8;
 
-// The entry that a name names which begins with the alias of this number, `left` parts being behind it, from position `next` of the sheet `s` on.
+// The entry that a name names which begins with the alias of this number, `left` parts being behind it, from position `next` of the sheet `s` on; none where a ninth replacement is due.
 fn follow(
     book: &[u64; BOOK],
     sets: &[u64; SETS],
@@ -38,32 +34,29 @@ fn follow(
     number: usize,
     left: usize,
     next: usize,
-) -> Resolved
+) -> Option<Sought>
     requires { ((p : Bytes) × (held : List ℕ) × Known d.now p book.now held sets.now) × (1 ≤ number) × (number ≤ entry_count book.now) × (left ≤ 7) × Full (width book.now) s.now next left }
     ensures { (σ : Setting) (es : List Stored) (p : Bytes) (held : List ℕ) → World σ es d.now p book.now held sets.now → Resolves σ es (followed σ.schema (aliases_of σ es) 8 (target_of es number ++ parts_of left (lines_at (width book.now) s.now next))) result }
 {
     let mut name: [u8; NAME] = [0; NAME];
     let mut parts = replaced(book, d, s, number, left, next, &mut name);
-    let mut more: usize = 7;
-    loop {
+    for more in (0..MOST).rev() {
         match way_down(book, sets, d, &name, 0, parts, parts < 9) {
-            Way::End(sought) => {
-                return Resolved::Sought(sought);
-            }
+            Way::End(sought) => return Some(sought),
             Way::Alias { number, left, next } => {
                 if more == 0 {
-                    return Resolved::AliasProblem;
+                    break;
                 }
-                more -= 1;
                 let mut again: [u8; NAME] = [0; NAME];
                 parts = replaced(book, d, &name, number, left, next, &mut again);
                 name = again;
             }
         }
     }
+    None
 }
 
-// The entry that the `parts` K 9 lines at position `place` of the sheet `q` name.
+// The entry that the `parts` K 9 lines at position `place` of the sheet `q` name; none where a ninth replacement is due.
 pub fn resolve_name(
     book: &[u64; BOOK],
     sets: &[u64; SETS],
@@ -71,12 +64,12 @@ pub fn resolve_name(
     q: &[u8],
     place: usize,
     parts: usize,
-) -> Resolved
+) -> Option<Sought>
     requires { ((p : Bytes) × (held : List ℕ) × Known d.now p book.now held sets.now) × Full (width book.now) q.now place parts }
     ensures { (σ : Setting) (es : List Stored) (p : Bytes) (held : List ℕ) → World σ es d.now p book.now held sets.now → Resolves σ es (resolved σ.schema (aliases_of σ es) (parts_of parts (lines_at (width book.now) q.now place))) result }
 {
     match way_down(book, sets, d, q, place, parts, parts < 9) {
-        Way::End(sought) => Resolved::Sought(sought),
+        Way::End(sought) => Some(sought),
         Way::Alias { number, left, next } => follow(book, sets, d, q, number, left, next),
     }
 }

@@ -24,17 +24,12 @@ fn put_parts(name: &mut [u8; NAME], at: usize, w: usize, s: &[u8], i: usize, n: 
 {
     let mut to = at;
     let mut j = i;
-    let mut left = n;
-    while 0 < left {
-        match take(s, j, w) {
-            Taken::Line(x) => {
-                to = put_line(name, to, w, Kind::NamePart, x.a, 0, 0, bytes(s, x));
-                j = x.next;
-                left -= 1;
-            }
-            Taken::NotInForm => return to,
-            Taken::End => return to,
-        }
+    for _ in 0..n {
+        let Taken::Line(x) = take(s, j, w) else {
+            return to;
+        };
+        to = put_line(name, to, w, Kind::NamePart, x.a, 0, 0, bytes(s, x));
+        j = x.next;
     }
     to
 }

@@ -11,11 +11,11 @@ ghost use Rattle.answer_resolution.specs.Resolution.{last_of, way_down, ending_o
 use access_may::may_entry;
 use answer_entry::Sought;
 use directory_lookup::find::{Descent, down};
-use rules::Found;
 use tables::book::{BOOK, TARGET};
 use tables::sets::{DISCLOSE_ON_ERROR, SETS};
 
 // Where the way ends: at an alias, with `left` parts behind it, from position `next` on; or with the name.
+// Not a Result: neither end is an error, and both carry what comes next.
 #[derive(Drop)]
 pub(crate) enum Way {
     Alias {
@@ -53,12 +53,10 @@ pub(crate) fn way_down(
     let mut from: usize = 0;
     let mut last: usize = 0;
     let mut j = place;
-    let mut left = parts;
-    while 0 < left {
+    for left in (0..parts).rev() {
         match down(book, d, from, s, j) {
             Descent::To { number, next } => {
                 last = disclosed(sets, from, last);
-                left -= 1;
                 if stop {
                     if book[TARGET + (number - 1)] != 0 {
                         return Way::Alias { number, left, next };
@@ -69,20 +67,20 @@ pub(crate) fn way_down(
             }
             Descent::Lost => {
                 return Way::End(Sought {
-                    base: Found::Nothing,
+                    base: None,
                     missing: disclosed(sets, from, last),
                 });
             }
             Descent::Ended => {
                 return Way::End(Sought {
-                    base: Found::At(from),
+                    base: Some(from),
                     missing: last,
                 });
             }
         }
     }
     Way::End(Sought {
-        base: Found::At(from),
+        base: Some(from),
         missing: last,
     })
 }

@@ -31,14 +31,14 @@ ghost use Rattle.answer_search.specs.Query.{Seeks, KnownQuery};
 
 use access_may::may_entry;
 use answer_arrange::arrange;
-use answer_entry::{Sought, returnable, returned};
+use answer_entry::{Sought, note_passing, returnable, returned};
 use directory_lookup::climb::climbs;
 use filter_lines::lines::{FILTER, note};
 use filter_matchable::extent::Extent;
 use filter_matchable::mask::mask;
 use filter_tree::tree::matches;
 use rules::subset::{BASE, ONE_LEVEL};
-use rules::{Edition, Found, operation};
+use rules::{Edition, operation};
 use tables::book::{BOOK, ENTRIES, PARENT, WIDTH, schema};
 use tables::held::HELD;
 use tables::plan::{Plan, absent};
@@ -109,17 +109,9 @@ fn found(
     requires { Searched d.now p.now book.now held.now sets.now extent × (length hits.old ≡ 256) × LinesNoted (width book.now) q.now rows.now extent.lines × Typed (Book.schema book.now) rows.now extent.lines × Masks rows.now extent.lines extent.ranks × KnownFilter (width book.now) q.now (position_at rows.now 0) }
     ensures { Indices (entry_count book.now) result hits.old hits.new × ((σ : Setting) (es : List Stored) (g : Grammar) (f : Filter) → World σ es d.now p.now book.now held.now sets.now → FilterAt g (width book.now) q.now (position_at rows.now 0) f → take result hits.new ≡ passing (found_at σ es extent.base extent.subset extent.edition f) (length es)) }
 {
-    let count = book[ENTRIES] as usize;
-    let mut n: usize = 0;
-    let mut k: usize = 0;
-    while k < count {
-        if found_at(book, held, sets, d, p, q, rows, extent, k) {
-            hits[n] = k;
-            n += 1;
-        }
-        k += 1;
-    }
-    n
+    note_passing(book[ENTRIES] as usize, hits, |k| {
+        found_at(book, held, sets, d, p, q, rows, extent, k)
+    })
 }
 
 // Puts the first `n` of the hits in the order that is asked for.
@@ -164,7 +156,7 @@ pub fn search(
     ensures { SoundPlan (entry_count book.now) result hits.new × ((σ : Setting) (es : List Stored) (g : Grammar) (n : Name) (s : Search) → World σ es d.now p.now book.now held.now sets.now → Base σ es n sought.base sought.missing → Seeks g (width book.now) q.now s query → planned σ es s.selection result hits.new ≡ answer σ (map entry_of es) (aliases_of σ es) n (Request.search s)) × ((σ : Setting) (es : List Stored) (g : Grammar) (s : Search) → World σ es d.now p.now book.now held.now sets.now → Seeks g (width book.now) q.now s query → hits.new ≡ over (search_found σ es s sought.base) hits.old) }
 {
     let base = sought.base;
-    let Found::At(b) = base else {
+    let Some(b) = base else {
         return absent(operation::SEARCH, sought.missing);
     };
     let mut rows: [u64; FILTER] = [0; FILTER];

@@ -32,15 +32,10 @@ fn serve(
     engine::serve(directory, permissions, request, out, terms)
 }
 
-// For the exchange, in the form that it names.
-fn for_exchange(
-    directory: &[u8],
-    permissions: &[u8],
-    request: &[u8],
-    out: &mut [u8],
-    wide: bool,
-) -> Reply
-    ensures { Replies (Rules.serve_at (format_of wide) Rules.exchange directory.now permissions.now request.now (length out.old)) out.old result out.new }
+// For the exchange.
+pub fn dinghy_serve(directory: &[u8], permissions: &[u8], request: &[u8], out: &mut [u8]) -> Reply
+    ensures reply { result ≡ reply_of (Rules.serve_at narrow Rules.exchange directory.now permissions.now request.now (length out.old)) }
+    ensures left { out.new ≡ left_of (Rules.serve_at narrow Rules.exchange directory.now permissions.now request.now (length out.old)) out.old }
 {
     serve(
         directory,
@@ -48,29 +43,8 @@ fn for_exchange(
         request,
         out,
         caller::exchange(),
-        wide,
+        false,
     )
-}
-
-// For a panel, in the form that it names.
-fn for_panel(
-    directory: &[u8],
-    permissions: &[u8],
-    request: &[u8],
-    out: &mut [u8],
-    wide: bool,
-) -> Reply
-    ensures { Replies (Rules.serve_at (format_of wide) Rules.panel directory.now permissions.now request.now (length out.old)) out.old result out.new }
-{
-    serve(directory, permissions, request, out, caller::panel(), wide)
-}
-
-// For the exchange.
-pub fn dinghy_serve(directory: &[u8], permissions: &[u8], request: &[u8], out: &mut [u8]) -> Reply
-    ensures reply { result ≡ reply_of (Rules.serve_at narrow Rules.exchange directory.now permissions.now request.now (length out.old)) }
-    ensures left { out.new ≡ left_of (Rules.serve_at narrow Rules.exchange directory.now permissions.now request.now (length out.old)) out.old }
-{
-    for_exchange(directory, permissions, request, out, false)
 }
 
 // For the exchange, in the form that it names.
@@ -84,7 +58,14 @@ pub fn dinghy_serve_form(
     ensures reply { result ≡ reply_of (Rules.serve_at (format_of wide) Rules.exchange directory.now permissions.now request.now (length out.old)) }
     ensures left { out.new ≡ left_of (Rules.serve_at (format_of wide) Rules.exchange directory.now permissions.now request.now (length out.old)) out.old }
 {
-    for_exchange(directory, permissions, request, out, wide)
+    serve(
+        directory,
+        permissions,
+        request,
+        out,
+        caller::exchange(),
+        wide,
+    )
 }
 
 // For a panel.
@@ -97,7 +78,7 @@ pub fn dinghy_serve_panel(
     ensures reply { result ≡ reply_of (Rules.serve_at narrow Rules.panel directory.now permissions.now request.now (length out.old)) }
     ensures left { out.new ≡ left_of (Rules.serve_at narrow Rules.panel directory.now permissions.now request.now (length out.old)) out.old }
 {
-    for_panel(directory, permissions, request, out, false)
+    serve(directory, permissions, request, out, caller::panel(), false)
 }
 
 // For a panel, in the form that it names.
@@ -111,7 +92,7 @@ pub fn dinghy_serve_panel_form(
     ensures reply { result ≡ reply_of (Rules.serve_at (format_of wide) Rules.panel directory.now permissions.now request.now (length out.old)) }
     ensures left { out.new ≡ left_of (Rules.serve_at (format_of wide) Rules.panel directory.now permissions.now request.now (length out.old)) out.old }
 {
-    for_panel(directory, permissions, request, out, wide)
+    serve(directory, permissions, request, out, caller::panel(), wide)
 }
 
 // A directory sheet of six columns, moved to nine.

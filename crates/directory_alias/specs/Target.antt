@@ -1,5 +1,5 @@
 -- The target of an alias: what refuses its lines, what is known before them, and after them.
-use Rattle.std.specs.Prelude.{ℕ, ◌+◌, ◌≤◌, ◌≡◌, Bool, true, not, cond, List, ◌++◌, eqb, ltb, length}
+use Rattle.std.specs.Prelude.{ℕ, ◌+◌, ◌≤◌, ◌≡◌, Bool, true, not, cond, Result, Ok, Err, List, ◌++◌, eqb, ltb, length}
 use Rattle.std.proofs.Math.Option.{some}
 use Rattle.rules.specs.Lists.{any}
 use Rattle.rules.specs.Sheet.{Bytes, Usable}
@@ -10,13 +10,14 @@ use Rattle.rules.specs.Directory.{Target, parts, Stored, Reading, with_target, a
 use Rattle.rules.specs.Places.{lines_at, parts_of, schema_of}
 use Rattle.sheet_line.specs.declared.Line.{Line}
 use Rattle.sheet_line.specs.declared.Taken.{Taken}
-use Rattle.sheet_line.specs.declared.Taken.TheVariants as Taken
 use Rattle.sheet_line.specs.Line.{taken_at, bytes_of}
 use Rattle.directory_schema.specs.Lines.{judged_from, Passes, columns_fit, Other}
 use Rattle.directory_duplicates.specs.Rulings.{reading}
 use Rattle.tables.specs.World.{TargetAt}
 use Rattle.directory_alias.specs.declared.Last.{Last}
 use Rattle.directory_alias.specs.declared.TargetLines.{TargetLines}
+use Rattle.rules.specs.Refusals.{refusal_number}
+use Rattle.rules.specs.declared.refusals.Refusal.{Refusal}
 
 -- ---- what refuses a line, or 0
 
@@ -79,12 +80,25 @@ pub record PartsRead (f : Format) (s : Bytes) (ks : List ℕ) (e : Last) (x : Li
 
 -- ---- after the target
 
+-- how a target ended: the refusal number or 0; 0 for no alias, or the position of the first K 9 line times 16 and how many there are; and what
+-- stands after them, with its position
+pub record TargetNoted : Type 0 where
+  pub refusal : ℕ
+  pub target : ℕ
+  pub at : ℕ
+  pub taken : Taken
+
 -- the target refused: the number, and nothing else
-abbrev pub target_refused : ℕ → TargetLines
+abbrev pub target_refused : ℕ → TargetNoted
 target_refused n = record { refusal = n; target = 0; at = 0; taken = Taken.End }
 
+-- the target that was read, or a refusal
+abbrev pub target_noted : Result TargetLines Refusal → TargetNoted
+target_noted (Ok r) = record { refusal = 0; target = r.target; at = r.at; taken = r.taken }
+target_noted (Err e) = target_refused (refusal_number e)
+
 -- the target that was read, whole, up to the line after it
-pub record TargetEnded (f : Format) (s : Bytes) (ks : List ℕ) (e : Last) (complete : List Stored) (d : Stored) (r : TargetLines) : Type 0 where
+pub record TargetEnded (f : Format) (s : Bytes) (ks : List ℕ) (e : Last) (complete : List Stored) (d : Stored) (r : TargetNoted) : Type 0 where
   pub target : Target
   pub passed : Passes f s (reading_to ks complete d (alias_mark e.alias)) e.at (reading_to ks complete d target) r.at
   pub alias : is_alias target ≡ e.alias
@@ -96,15 +110,15 @@ pub record TargetEnded (f : Format) (s : Bytes) (ks : List ℕ) (e : Last) (comp
   pub other : is_unread target ≡ true → Other 3 r.taken
 
 -- a line of it refused, and the sheet with it
-pub record TargetStopped (f : Format) (s : Bytes) (ks : List ℕ) (e : Last) (complete : List Stored) (d : Stored) (r : TargetLines) : Type 0 where
+pub record TargetStopped (f : Format) (s : Bytes) (ks : List ℕ) (e : Last) (complete : List Stored) (d : Stored) (r : TargetNoted) : Type 0 where
   pub sheet : judged_from f s (reading_to ks complete d (alias_mark e.alias)) e.at ≡ refuse r.refusal
   pub only : r ≡ target_refused r.refusal
 
 -- the target of an entry
-pub record TargetJudged (f : Format) (s : Bytes) (ks : List ℕ) (e : Last) (complete : List Stored) (d : Stored) (r : TargetLines) : Type 0 where
+pub record TargetJudged (f : Format) (s : Bytes) (ks : List ℕ) (e : Last) (complete : List Stored) (d : Stored) (r : TargetNoted) : Type 0 where
   pub ended : r.refusal ≡ 0 → TargetEnded f s ks e complete d r
   pub refused : (r.refusal ≡ 0 → ⊥) → TargetStopped f s ks e complete d r
 
 -- whichever entry it is
-abbrev pub TargetAnswered : Format → Bytes → List ℕ → Last → TargetLines → Type 0
+abbrev pub TargetAnswered : Format → Bytes → List ℕ → Last → TargetNoted → Type 0
 TargetAnswered f s ks e r = (complete : List Stored) (d : Stored) → Owed f s ks e complete d → TargetJudged f s ks e complete d r

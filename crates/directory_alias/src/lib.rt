@@ -3,9 +3,11 @@
 
 ghost use Rattle.std.specs.Prelude.{◌≡◌, ◌+◌, ◌≤◌, length};
 ghost use Rattle.sheet_kind.specs.Kinds.{number_of};
-ghost use Rattle.directory_alias.specs.Target.{stray_number, absent_number, part_number, target_refused, PartsAsked, TargetAsked, TargetAnswered};
+ghost use Rattle.rules.specs.Refusals.{refusal_number, refusal_in};
+ghost use Rattle.directory_alias.specs.Target.{stray_number, absent_number, part_number, target_noted, PartsAsked, TargetAsked, TargetAnswered};
 
-use rules::{Format, refusal};
+use rules::Format;
+use rules::refusals::Refusal;
 use sheet_form::columns::directory_columns;
 use sheet_kind::{Kind, is};
 use sheet_line::{Line, Taken};
@@ -20,130 +22,108 @@ pub struct Last {
     pub taken: Taken,
 }
 
-// How a target ended: the refusal or 0; 0 for no alias, or the position of the first K 9 line times 16 and how many there are; and what stands after
-// them, with its position.
+// A target: 0 for no alias, or the position of the first K 9 line times 16 and how many there are; and what stands after them, with its position.
 #[derive(Drop)]
 pub struct TargetLines {
-    pub refusal: u64,
     pub target: u64,
     pub at: usize,
     pub taken: Taken,
 }
 
-// What refuses a line where one of this kind is due after `number` entries, of which the last lacks its naming value or not; or 0. `top` is the highest type.
-fn stray(line: Line, kind: Kind, top: u64, number: usize, lacks: bool) -> u64
-    ensures { result ≡ stray_number top (number_of kind) number lacks line }
+// A line where one of this kind is due after `number` entries, of which the last lacks its naming value or not: refused or not. `top` is the highest type.
+fn stray(line: Line, kind: Kind, top: u64, number: usize, lacks: bool) -> Result<(), Refusal>
+    ensures { refusal_in result ≡ stray_number top (number_of kind) number lacks line }
 {
     if !directory_columns(line, top) {
-        return refusal::NOT_ALLOWED;
+        return Err(Refusal::NotAllowed);
     }
     if is(line.kind, kind) {
-        return 0;
+        return Ok(());
     }
     if !is(line.kind, Kind::Entry) {
-        return refusal::OUT_OF_ORDER;
+        return Err(Refusal::OutOfOrder);
     }
     if (number as u64) < line.a {
-        return refusal::NOT_ALLOWED;
+        return Err(Refusal::NotAllowed);
     }
     if lacks {
-        return refusal::NAMING_VALUE_NOT_HELD;
+        return Err(Refusal::NamingValueNotHeld);
     }
-    refusal::OUT_OF_ORDER
+    Err(Refusal::OutOfOrder)
 }
 
 // What refuses the sheet where a line is due and none stands.
-fn absent(taken: Taken, lacks: bool) -> u64
-    ensures { result ≡ absent_number lacks taken }
+fn absent(taken: Taken, lacks: bool) -> Refusal
+    ensures { refusal_number result ≡ absent_number lacks taken }
 {
     match taken {
-        Taken::Line(_) => refusal::NOT_ALLOWED,
-        Taken::NotInForm => refusal::NOT_ALLOWED,
+        Taken::Line(_) => Refusal::NotAllowed,
+        Taken::NotInForm => Refusal::NotAllowed,
         Taken::End => {
             if lacks {
-                return refusal::NAMING_VALUE_NOT_HELD;
+                return Refusal::NamingValueNotHeld;
             }
-            refusal::OUT_OF_ORDER
+            Refusal::OutOfOrder
         }
     }
 }
 
-// What refuses a line where a part of a target is due, or 0.
-fn part_line(s: &[u8], top: u64, schema: &[u64], number: usize, lacks: bool, line: Line) -> u64
+// A line where a part of a target is due: refused or not.
+fn part_line(
+    s: &[u8],
+    top: u64,
+    schema: &[u64],
+    number: usize,
+    lacks: bool,
+    line: Line,
+) -> Result<(), Refusal>
     requires { line.place + line.length ≤ length s.now }
-    ensures { result ≡ part_number top s.now schema.now number lacks line }
+    ensures { refusal_in result ≡ part_number top s.now schema.now number lacks line }
 {
-    let refusal = stray(line, Kind::NamePart, top, number, lacks);
-    if refusal != 0 {
-        return refusal;
+    stray(line, Kind::NamePart, top, number, lacks)?;
+    if !name::allowed(schema, line.a, sheet_line::bytes(s, line)) {
+        return Err(Refusal::OutsideSchema);
     }
-    if name::allowed(schema, line.a, sheet_line::bytes(s, line)) {
-        return 0;
-    }
-    refusal::OUTSIDE_SCHEMA
-}
-
-// The target refused: the number, and nothing else.
-fn refused(number: u64) -> TargetLines
-    ensures { result ≡ target_refused number }
-{
-    TargetLines {
-        refusal: number,
-        target: 0,
-        at: 0,
-        taken: Taken::End,
-    }
+    Ok(())
 }
 
 // The K 9 lines that the K 36 `line` counts.
-fn parts(s: &[u8], f: Format, schema: &[u64], e: Last, line: Line) -> TargetLines
+fn parts(s: &[u8], f: Format, schema: &[u64], e: Last, line: Line) -> Result<TargetLines, Refusal>
     requires { PartsAsked f s.now schema.now e line }
-    ensures { TargetAnswered f s.now schema.now e result }
+    ensures { TargetAnswered f s.now schema.now e (target_noted result) }
 {
-    let mut left = line.b;
     let mut at = line.next;
-    loop {
+    for _k in 0..line.b {
         let taken = sheet_line::take(s, at, f.width);
-        if left == 0 {
-            return TargetLines {
-                refusal: 0,
-                target: line.next as u64 * 16 + line.b,
-                at,
-                taken,
-            };
-        }
         let Taken::Line(part) = taken else {
-            return refused(absent(taken, e.lacks));
+            return Err(absent(taken, e.lacks));
         };
-        let refusal = part_line(s, f.top, schema, e.number, e.lacks, part);
-        if refusal != 0 {
-            return refused(refusal);
-        }
-        left -= 1;
+        part_line(s, f.top, schema, e.number, e.lacks, part)?;
         at = part.next;
     }
+    Ok(TargetLines {
+        target: line.next as u64 * 16 + line.b,
+        at,
+        taken: sheet_line::take(s, at, f.width),
+    })
 }
 
 // The target of the entry `e`, if it is an alias.
-pub fn target(s: &[u8], f: Format, schema: &[u64], e: Last) -> TargetLines
+pub fn target(s: &[u8], f: Format, schema: &[u64], e: Last) -> Result<TargetLines, Refusal>
     requires { TargetAsked f s.now schema.now e }
-    ensures { TargetAnswered f s.now schema.now e result }
+    ensures { TargetAnswered f s.now schema.now e (target_noted result) }
 {
     let taken = e.taken;
     if !e.alias {
-        return TargetLines {
-            refusal: 0,
+        return Ok(TargetLines {
             target: 0,
             at: e.at,
             taken,
-        };
+        });
     }
     let Taken::Line(line) = taken else {
-        return refused(absent(taken, e.lacks));
+        return Err(absent(taken, e.lacks));
     };
-    let refusal = stray(line, Kind::Target, f.top, e.number, e.lacks);
-    if refusal != 0 {
-        return refused(refusal);
-    }
+    stray(line, Kind::Target, f.top, e.number, e.lacks)?;
     parts(s, f, schema, e, line)
 }

@@ -24,20 +24,14 @@ pub fn note(f: Format, notes: Notes, book: &mut [u64; BOOK])
     book[WIDTH] = f.width as u64;
     book[TYPES] = types as u64;
     book[ENTRIES] = count as u64;
-    let mut i: usize = 0;
-    while i < types {
-        book[SCHEMA + i] = notes.schema[i];
-        i += 1;
-    }
-    let mut k: usize = 0;
-    while k < count {
+    book[SCHEMA..SCHEMA + types].copy_from_slice(&notes.schema[..types]);
+    for k in 0..count {
         book[PLACE + k] = place(notes.at[k], f.width) as u64;
         book[PARENT + k] = notes.parents[k] as u64;
         book[NAMING + k] = notes.naming[k];
         book[LENGTH + k] = notes.lengths[k] as u64;
         book[FIRST + k] = notes.first[k] as u64;
         book[TARGET + k] = notes.targets[k];
-        k += 1;
     }
     book[FIRST + count] = notes.first[count] as u64;
 }

@@ -1,3 +1,4 @@
+pub mod Noted
 pub mod Mark
 pub mod Twins
 pub mod Rulings

@@ -8,7 +8,7 @@ use Rattle.rules.specs.Sheet.{Bytes}
 use Rattle.rules.specs.Value.{same}
 use Rattle.value_syntax.specs.Digest.{digest}
 use Rattle.access_set.specs.Member.{bit_of}
-use Rattle.directory_duplicates.specs.declared.Ruling.{Ruling}
+use Rattle.directory_duplicates.specs.Noted.{RulingNoted}
 
 -- the owner and type of a value as one number, where its bytes begin, and how many they are
 pub record Mark : Type 0 where
@@ -99,11 +99,11 @@ abbrev pub with_slot : List ℕ → ℕ → List ℕ
 with_slot t j = set t (slots + j / 64) (bit_or (get_or t (slots + j / 64) 0) (2 ^ (j % 64)))
 
 -- the table with mark `n`, counted from 0, that a ruling made
-unfoldable pub with_mark : List ℕ → ℕ → Ruling → List ℕ
+unfoldable pub with_mark : List ℕ → ℕ → RulingNoted → List ℕ
 with_mark t n r = with_slot (set (set t n r.mark) (heads + r.bucket) (n + 1)) r.slot
 
 -- there is room for it
-pub record Room (t : List ℕ) (n : ℕ) (r : Ruling) : Type 0 where
+pub record Room (t : List ℕ) (n : ℕ) (r : RulingNoted) : Type 0 where
   pub table : length t ≡ table_length
   pub number : n < heads
   pub bucket : r.bucket < 2048

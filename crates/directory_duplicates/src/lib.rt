@@ -5,20 +5,19 @@
 mod mark;
 
 ghost use Rattle.std.specs.Prelude.{◌≡◌};
-ghost use Rattle.directory_duplicates.specs.Rulings.{Claimed, Decides, ruled_of};
+ghost use Rattle.directory_duplicates.specs.Noted.{unrefused};
 ghost use Rattle.directory_duplicates.specs.Mark.{Room, with_mark};
-ghost use Rattle.directory_duplicates.specs.Rulings as Rulings;
+ghost use Rattle.directory_duplicates.specs.Rulings.{ruling_noted, Claimed, Decides, ruled_of};
 
 use mark::{HEADS, SLOTS};
-use rules::refusal;
+use rules::refusals::Refusal;
 
 // How many numbers the table of the marks has.
 pub const MARKS: usize = 5187;
 
-// A line's refusal; where that is 0 its type's rank, and the bucket, slot and mark of its value.
+// A line that is not refused: its type's rank, and the bucket, slot and mark of its value.
 #[derive(Clone, Copy)]
 pub struct Ruling {
-    pub refusal: u64,
     pub rank: usize,
     pub bucket: usize,
     pub slot: usize,
@@ -34,28 +33,15 @@ pub struct Claim {
     pub length: usize,
 }
 
-// A line refused.
-pub fn refusing(number: u64) -> Ruling
-    ensures { result ≡ Rulings.refusing number }
-{
-    Ruling {
-        refusal: number,
-        rank: 0,
-        bucket: 0,
-        slot: 0,
-        mark: 0,
-    }
-}
-
 // The ruling on a value: 4, or 5 where its owner has one equal to it.
-pub fn ruled(s: &[u8], schema: &[u64], marks: &[usize; MARKS], c: Claim) -> Ruling
+pub fn ruled(s: &[u8], schema: &[u64], marks: &[usize; MARKS], c: Claim) -> Result<Ruling, Refusal>
     requires { Claimed s.now schema.now marks.now c }
-    ensures { Decides s.now schema.now marks.now (ruled_of c.owner c.rank c.place c.length) result }
+    ensures { Decides s.now schema.now marks.now (ruled_of c.owner c.rank c.place c.length) (ruling_noted result) }
 {
     let rank = c.rank;
     let v = sheet_line::part(s, c.place, c.length);
     if !name::allowed_at(schema, rank, v) {
-        return refusing(refusal::OUTSIDE_SCHEMA);
+        return Err(Refusal::OutsideSchema);
     }
     let key = c.owner * 64 + rank;
     let digest = value_syntax::digest::digest(key as u64, v);
@@ -65,21 +51,20 @@ pub fn ruled(s: &[u8], schema: &[u64], marks: &[usize; MARKS], c: Claim) -> Ruli
     let slot = (digest / 65536 % 65536) as usize;
     let may = mark::slotted(marks, slot);
     if mark::twin(s, marks, may, head, label, schema[rank] % 4, v) {
-        return refusing(refusal::TWICE);
+        return Err(Refusal::Twice);
     }
-    Ruling {
-        refusal: 0,
+    Ok(Ruling {
         rank,
         bucket,
         slot,
         mark: ((label * 65536 + c.place) * 128 + c.length) * 16384 + head,
-    }
+    })
 }
 
 // The mark that was ruled on, as the next after `n` marks.
 pub fn note(marks: &mut [usize; MARKS], n: usize, r: Ruling)
-    requires { Room marks.old n r }
-    ensures { marks.new ≡ with_mark marks.old n r }
+    requires { Room marks.old n (unrefused r) }
+    ensures { marks.new ≡ with_mark marks.old n (unrefused r) }
 {
     marks[n] = r.mark;
     marks[HEADS + r.bucket] = n + 1;

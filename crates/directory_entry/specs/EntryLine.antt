@@ -6,7 +6,7 @@ use Rattle.sheet_line.specs.declared.Line.{Line}
 use Rattle.name.specs.Schema.{rank_in}
 use Rattle.directory_schema.specs.Lines.{columns_fit}
 use Rattle.directory_duplicates.specs.Mark.{Mark}
-use Rattle.directory_duplicates.specs.declared.Ruling.{Ruling}
+use Rattle.directory_duplicates.specs.Noted.{RulingNoted}
 use Rattle.directory_duplicates.specs.Rulings.{refusing, ruled_of}
 
 -- how many depths are kept: of the root, which is 0, and of 256 entries
@@ -26,7 +26,7 @@ unfoldable pub place_refusal : List ℕ → ℕ → Bool → ℕ → ℕ
 place_refusal depths count lacks a = place_number (ltb count a) lacks (leb 256 count) (leb 8 (get_or depths a 0))
 
 -- a line after `count` entries, where `top` is the highest type
-unfoldable pub entry_ruling : ℕ → List ℕ → ℕ → Bool → Line → Bytes → List ℕ → List ℕ → List Mark → Ruling
+unfoldable pub entry_ruling : ℕ → List ℕ → ℕ → Bool → Line → Bytes → List ℕ → List ℕ → List Mark → RulingNoted
 entry_ruling top depths count lacks x s ks table ms =
     cond (columns_fit top x)
     (cond (eqb x.kind 2)

@@ -2,11 +2,12 @@
 #![tactic(auto)]
 
 ghost use Rattle.std.specs.Prelude.{◌≡◌, ◌≤◌, length};
-ghost use Rattle.directory_duplicates.specs.Rulings.{ValueSought, Decides};
+ghost use Rattle.rules.specs.Refusals.{refusal_in};
+ghost use Rattle.directory_duplicates.specs.Rulings.{ValueSought, Decides, ruling_noted};
 ghost use Rattle.directory_entry.specs.EntryLine.{depth_count, place_refusal, entry_ruling};
 
-use directory_duplicates::{Claim, MARKS, Ruling, refusing, ruled};
-use rules::refusal;
+use directory_duplicates::{Claim, MARKS, Ruling, ruled};
+use rules::refusals::Refusal;
 use sheet_form::columns::directory_columns;
 use sheet_kind::{Kind, is};
 use sheet_line::Line;
@@ -14,25 +15,25 @@ use sheet_line::Line;
 // How many depths are kept: of the root, which is 0, and of 256 entries.
 pub const DEPTHS: usize = 257;
 
-// What refuses an entry line after `count` entries whatever its value is, or 0. The entry before it lacks its naming value or not.
-fn misplaced(depths: &[usize; DEPTHS], count: usize, lacks: bool, a: u64) -> u64
+// An entry line after `count` entries, refused or not whatever its value is. The entry before it lacks its naming value or not.
+fn misplaced(depths: &[usize; DEPTHS], count: usize, lacks: bool, a: u64) -> Result<(), Refusal>
     requires { (count ≤ 256) × (length depths.now ≡ depth_count) }
-    ensures { result ≡ place_refusal depths.now count lacks a }
+    ensures { refusal_in result ≡ place_refusal depths.now count lacks a }
 {
     if (count as u64) < a {
-        return refusal::NOT_ALLOWED;
+        return Err(Refusal::NotAllowed);
     }
     if lacks {
-        return refusal::NAMING_VALUE_NOT_HELD;
+        return Err(Refusal::NamingValueNotHeld);
     }
     if 256 <= count {
-        return refusal::OUT_OF_ORDER;
+        return Err(Refusal::OutOfOrder);
     }
     let parent = a as usize;
     if 8 <= depths[parent] {
-        return refusal::OUT_OF_ORDER;
+        return Err(Refusal::OutOfOrder);
     }
-    0
+    Ok(())
 }
 
 // A line that is no value line, after `count` entries: the only such line that may follow is an entry line. `top` is the highest type.
@@ -45,20 +46,17 @@ pub fn entry_line(
     count: usize,
     lacks: bool,
     line: Line,
-) -> Ruling
+) -> Result<Ruling, Refusal>
     requires { ValueSought s.now schema.now marks.now line × (count ≤ 256) × (length depths.now ≡ depth_count) }
-    ensures { Decides s.now schema.now marks.now (entry_ruling top depths.now count lacks line) result }
+    ensures { Decides s.now schema.now marks.now (entry_ruling top depths.now count lacks line) (ruling_noted result) }
 {
     if !directory_columns(line, top) {
-        return refusing(refusal::NOT_ALLOWED);
+        return Err(Refusal::NotAllowed);
     }
     if !is(line.kind, Kind::Entry) {
-        return refusing(refusal::OUT_OF_ORDER);
+        return Err(Refusal::OutOfOrder);
     }
-    let refusal = misplaced(depths, count, lacks, line.a);
-    if refusal != 0 {
-        return refusing(refusal);
-    }
+    misplaced(depths, count, lacks, line.a)?;
     let rank = name::rank(schema, 0, line.b);
     let c = Claim {
         owner: line.a as usize,

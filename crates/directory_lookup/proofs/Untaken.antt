@@ -1,5 +1,5 @@
 -- What was taken is no line where its arm of a match was not gone.
-use Prim.Native.Nat.{ℕ, ◌-◌, ◌<◌}
+use Prim.Native.Nat.{ℕ, ◌<◌}
 use mathlib.Core.Path.{◌≡◌, refl, subst}
 use mathlib.Core.List.{[], ◌∷◌}
 use types.Run.{OneOf, miss}
@@ -9,7 +9,6 @@ use Rattle.rules.specs.Places.{lines_at, parts_of}
 use Rattle.sheet_line.specs.Line.{taken_at}
 use Rattle.sheet_line.specs.declared.Line.{Line}
 use Rattle.sheet_line.specs.declared.Taken.{Taken}
-use Rattle.sheet_line.specs.declared.Taken.TheVariants as Taken
 use Rattle.sheet_line.specs.contracts.Taken.{the_type}
 use Rattle.directory_lookup.specs.Laws.Names.{parts-by}
 

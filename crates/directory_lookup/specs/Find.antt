@@ -1,5 +1,5 @@
 -- Entries found by their numbers in the book: a child of an entry, and one part of a name down from an entry.
-use Rattle.std.specs.Prelude.{ℕ, ◌≤◌, Bool, ◌&&◌, List, eqb}
+use Rattle.std.specs.Prelude.{ℕ, ◌≤◌, Bool, ◌&&◌, List, eqb, Some, None}
 use Rattle.rules.specs.Sheet.{Bytes}
 use Rattle.rules.specs.Name.{Schema, part}
 use Rattle.rules.specs.Directory.{Stored}
@@ -7,17 +7,15 @@ use Rattle.tables.specs.Numbers.{child_from}
 use Rattle.name.specs.Schema.{equal_by}
 use Rattle.sheet_line.specs.Line.{bytes_of}
 use Rattle.sheet_line.specs.declared.Taken.{Taken}
-use Rattle.sheet_line.specs.declared.Taken.TheVariants as Taken
 use Rattle.tables.specs.Book.{parent_at, naming_at, naming_of}
 use Rattle.directory_lookup.specs.declared.find.Descent.{Descent}
 use Rattle.directory_lookup.specs.declared.find.Descent.TheVariants.{To, Lost, Ended}
-use Rattle.rules.specs.declared.Found.{Found}
-use Rattle.rules.specs.declared.Found.TheVariants.{At, Nothing}
+use Rattle.rules.specs.Value.{Found}
 
 -- a number that was found is at most `n`
 abbrev pub UpTo : ℕ → Found → Type 0
-UpTo n (At b) = b ≤ n
-UpTo n Nothing = Unit {0}
+UpTo n (Some b) = b ≤ n
+UpTo n None = Unit {0}
 
 -- ---- a child
 
@@ -27,8 +25,8 @@ is_child book d k parent t s v = eqb (parent_at book k) parent && (eqb t (naming
 
 -- by the child found
 abbrev pub by_child : {A : Type 0} → A → (ℕ → A) → Found → A
-by_child lost to (At k) = to k
-by_child lost to Nothing = lost
+by_child lost to (Some k) = to k
+by_child lost to None = lost
 
 -- ---- one part down
 
@@ -40,8 +38,8 @@ LeadsWithin n Ended = Unit {0}
 
 -- to the child found
 abbrev pub step_found : Found → ℕ → Descent
-step_found (At k) next = To k next
-step_found Nothing next = Lost
+step_found (Some k) next = To k next
+step_found None next = Lost
 
 -- from entry `from` by what was taken from the sheet `s`
 unfoldable pub step_of : Schema → List Stored → ℕ → Bytes → Taken → Descent

@@ -36,13 +36,11 @@ pub fn covers(
     let w = book[WIDTH] as usize;
     let mut k = i;
     let mut l = j;
-    let mut a = n;
-    let mut b = m;
-    while 0 < a {
+    for a in 0..n {
         let Taken::Line(x) = sheet_line::take(s, k, w) else {
             return true;
         };
-        if b == 0 {
+        if m <= a {
             return false;
         }
         let Taken::Line(y) = sheet_line::take(t, l, w) else {
@@ -59,8 +57,6 @@ pub fn covers(
         }
         k = x.next;
         l = y.next;
-        a -= 1;
-        b -= 1;
     }
     true
 }

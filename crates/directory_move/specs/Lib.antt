@@ -1,2 +1,3 @@
 pub mod Rewritten
+pub mod Movable
 pub mod Laws

@@ -6,7 +6,8 @@ ghost use Rattle.directory_move.specs.Rewritten.{rewritten_from};
 use sheet_line::{Taken, bytes, take};
 use sheet_write::{put_numbered, size};
 
-// How many bytes the lines of width `w` take in the width `v`.
+// How many bytes the lines of width `w` take in the width `v`. The walk is that of `rewritten`: one walk to which each hands what it does at a line would be
+// longer than the two.
 pub(crate) fn measured(s: &[u8], w: usize, v: usize) -> usize
     requires { (w ≤ 18) × (v ≤ 18) × (length s.now ≤ 65536) }
     ensures { result ≡ length (rewritten_from w v s.now 0) }
@@ -25,7 +26,7 @@ pub(crate) fn measured(s: &[u8], w: usize, v: usize) -> usize
     }
 }
 
-// The lines of width `w` written in the width `v`.
+// The lines of width `w` written in the width `v`. Not one function with `measured`: with a closure that writes it would be longer than both.
 pub(crate) fn rewritten(s: &[u8], w: usize, v: usize, out: &mut [u8])
     requires { (w ≤ 18) × (1 ≤ v) × (v ≤ 18) × (length (rewritten_from w v s.now 0) ≤ length out.old) }
     ensures { out.new ≡ put_at out.old 0 (rewritten_from w v s.now 0) }

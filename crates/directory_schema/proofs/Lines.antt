@@ -5,7 +5,6 @@ use types.Run.{OneOf, miss}
 use denote.Enum.Declared.{tag_of}
 use Rattle.sheet_line.specs.declared.Line.{Line}
 use Rattle.sheet_line.specs.declared.Taken.{Taken}
-use Rattle.sheet_line.specs.declared.Taken.TheVariants as Taken
 use Rattle.sheet_line.specs.contracts.Taken.{the_type}
 
 pub not_line : (t : Taken) → OneOf (1 ∷ (2 ∷ [])) (tag_of the_type t) → (x : Line) → t ≡ Taken.Line x → ⊥

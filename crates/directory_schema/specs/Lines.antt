@@ -9,7 +9,6 @@ use Rattle.rules.specs.Places.{lines_at}
 use Rattle.sheet_form.specs.Columns.{columns_in}
 use Rattle.sheet_line.specs.declared.Line.{Line}
 use Rattle.sheet_line.specs.declared.Taken.{Taken}
-use Rattle.sheet_line.specs.declared.Taken.TheVariants as Taken
 use Rattle.sheet_line.specs.Line.{taken_at, line_of}
 
 -- the rest of the sheet from position `i` on, judged with what was read before

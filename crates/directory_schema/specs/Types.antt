@@ -1,5 +1,5 @@
 -- The K 1 lines: what is known of the sheet after some of them, and where they end.
-use Rattle.std.specs.Prelude.{ℕ, ◌≤◌, ◌≡◌, Bool, cond, List, [], leb, length, take, replicate}
+use Rattle.std.specs.Prelude.{ℕ, ◌≤◌, ◌≡◌, Bool, cond, Result, Ok, Err, List, [], leb, length, take, replicate}
 use Rattle.std.proofs.Math.Option.{none}
 use Rattle.rules.specs.Sheet.{Bytes, lines}
 use Rattle.rules.specs.declared.Format.{Format}
@@ -7,11 +7,13 @@ use Rattle.rules.specs.Judge.{refuse, fold}
 use Rattle.rules.specs.Directory.{Reading, last_type, step, finish, nothing}
 use Rattle.rules.specs.Places.{schema_of}
 use Rattle.sheet_line.specs.declared.Line.{Line}
-use Rattle.sheet_line.specs.declared.Taken.TheVariants as Taken
+use Rattle.sheet_line.specs.declared.Taken.{Taken}
 use Rattle.sheet_line.specs.Line.{taken_at}
 use Rattle.name.specs.Schema.{Rising}
 use Rattle.directory_schema.specs.Lines.{Passes, columns_fit, Other}
 use Rattle.directory_schema.specs.Zeros.{ZerosFrom}
+use Rattle.rules.specs.Refusals.{refusal_number}
+use Rattle.rules.specs.declared.refusals.Refusal.{Refusal}
 use Rattle.directory_schema.specs.declared.TypeLines.{TypeLines}
 
 -- the types read so far, as numbers, and no entry
@@ -26,9 +28,22 @@ type_number form low full = cond form (cond low 3 (cond full 3 0)) 2
 unfoldable pub type_refusal : ℕ → Line → ℕ → ℕ → ℕ
 type_refusal top x last n = type_number (columns_fit top x) (leb x.a last) (leb 64 n)
 
+-- how the K 1 lines ended: the refusal number or 0, how many there are, their numbers, and what stands after them, with its position
+pub record TypesNoted : Type 0 where
+  pub refusal : ℕ
+  pub count : ℕ
+  pub schema : List ℕ
+  pub at : ℕ
+  pub taken : Taken
+
 -- the K 1 lines refused: the number, and nothing else
-abbrev pub types_refused : ℕ → TypeLines
+abbrev pub types_refused : ℕ → TypesNoted
 types_refused n = record { refusal = n; count = 0; schema = replicate 64 0; at = 0; taken = Taken.End }
+
+-- the lines that were read, or a refusal
+abbrev pub types_noted : Result TypeLines Refusal → TypesNoted
+types_noted (Ok t) = record { refusal = 0; count = t.count; schema = t.schema; at = t.at; taken = t.taken }
+types_noted (Err r) = types_refused (refusal_number r)
 
 -- `n` types have been read, up to position `i`
 pub record TypesRead (f : Format) (s : Bytes) (schema : List ℕ) (n last i : ℕ) : Type 0 where
@@ -41,14 +56,14 @@ pub record TypesRead (f : Format) (s : Bytes) (schema : List ℕ) (n last i : �
   pub passed : Passes f s nothing 0 (typed (take n schema)) i
 
 -- the K 1 lines that were read, up to another line
-pub record TypesEnded (f : Format) (s : Bytes) (r : TypeLines) : Type 0 where
+pub record TypesEnded (f : Format) (s : Bytes) (r : TypesNoted) : Type 0 where
   pub last : ℕ
   pub read : TypesRead f s r.schema r.count last r.at
   pub stands : r.taken ≡ taken_at f.width s r.at
   pub other : Other 1 r.taken
 
 -- the K 1 lines that were read, up to one that is refused, and the sheet with it
-pub record TypesStopped (f : Format) (s : Bytes) (r : TypeLines) : Type 0 where
+pub record TypesStopped (f : Format) (s : Bytes) (r : TypesNoted) : Type 0 where
   pub schema : List ℕ
   pub count : ℕ
   pub last : ℕ
@@ -62,6 +77,6 @@ pub record TypesStopped (f : Format) (s : Bytes) (r : TypeLines) : Type 0 where
   pub only : r ≡ types_refused r.refusal
 
 -- the K 1 lines of a sheet
-pub record TypesJudged (f : Format) (s : Bytes) (r : TypeLines) : Type 0 where
+pub record TypesJudged (f : Format) (s : Bytes) (r : TypesNoted) : Type 0 where
   pub ended : r.refusal ≡ 0 → TypesEnded f s r
   pub refused : (r.refusal ≡ 0 → ⊥) → TypesStopped f s r

@@ -3,56 +3,44 @@
 
 ghost use Rattle.std.specs.Prelude.{◌≡◌};
 ghost use Rattle.rules.specs.Sheet.{Usable};
-ghost use Rattle.directory_schema.specs.Types.{type_refusal, types_refused, TypesJudged};
+ghost use Rattle.rules.specs.Refusals.{refusal_in};
+ghost use Rattle.directory_schema.specs.Types.{type_refusal, types_noted, TypesJudged};
 
-use rules::{Format, refusal};
+use rules::Format;
+use rules::refusals::Refusal;
 use sheet_form::columns::directory_columns;
 use sheet_kind::{Kind, is};
 use sheet_line::{Line, Taken};
 
-// How the K 1 lines ended: the refusal or 0, how many there are, their numbers, and what stands after them, with its position.
+// The K 1 lines: how many there are, their numbers, and what stands after them, with its position.
 #[derive(Drop)]
 pub struct TypeLines {
-    pub refusal: u64,
     pub count: usize,
     pub schema: [u64; 64],
     pub at: usize,
     pub taken: Taken,
 }
 
-// A K 1 line after `n` types, of which the last has the number `last`, where `top` is the highest type: its refusal, or 0.
-fn type_line(line: Line, top: u64, last: u64, n: usize) -> u64
-    ensures { result ≡ type_refusal top line last n }
+// A K 1 line after `n` types, of which the last has the number `last`, where `top` is the highest type: refused or not.
+fn type_line(line: Line, top: u64, last: u64, n: usize) -> Result<(), Refusal>
+    ensures { refusal_in result ≡ type_refusal top line last n }
 {
     if !directory_columns(line, top) {
-        return refusal::NOT_ALLOWED;
+        return Err(Refusal::NotAllowed);
     }
     if line.a <= last {
-        return refusal::OUT_OF_ORDER;
+        return Err(Refusal::OutOfOrder);
     }
     if 64 <= n {
-        return refusal::OUT_OF_ORDER;
+        return Err(Refusal::OutOfOrder);
     }
-    0
-}
-
-// The K 1 lines refused: the number, and nothing else.
-fn refused(number: u64) -> TypeLines
-    ensures { result ≡ types_refused number }
-{
-    TypeLines {
-        refusal: number,
-        count: 0,
-        schema: [0; 64],
-        at: 0,
-        taken: Taken::End,
-    }
+    Ok(())
 }
 
 // The K 1 lines of a sheet.
-pub fn types(s: &[u8], f: Format) -> TypeLines
+pub fn types(s: &[u8], f: Format) -> Result<TypeLines, Refusal>
     requires { Usable f }
-    ensures { TypesJudged f s.now result }
+    ensures { TypesJudged f s.now (types_noted result) }
 {
     let mut schema: [u64; 64] = [0; 64];
     let mut n: usize = 0;
@@ -61,27 +49,22 @@ pub fn types(s: &[u8], f: Format) -> TypeLines
     loop {
         let taken = sheet_line::take(s, at, f.width);
         let Taken::Line(line) = taken else {
-            return TypeLines {
-                refusal: 0,
+            return Ok(TypeLines {
                 count: n,
                 schema,
                 at,
                 taken,
-            };
+            });
         };
         if !is(line.kind, Kind::AttributeType) {
-            return TypeLines {
-                refusal: 0,
+            return Ok(TypeLines {
                 count: n,
                 schema,
                 at,
                 taken,
-            };
+            });
         }
-        let refusal = type_line(line, f.top, last, n);
-        if refusal != 0 {
-            return refused(refusal);
-        }
+        type_line(line, f.top, last, n)?;
         schema[n] = line.a * 4 + line.b;
         n += 1;
         last = line.a;

@@ -1,11 +1,10 @@
 -- The entries: what is known of the sheet after the K 1 lines, and what refuses it where no line stands.
-use Rattle.std.specs.Prelude.{ℕ, ◌≤◌, ◌≡◌, Bool, cond, List, length, get_or, take, replicate}
+use Rattle.std.specs.Prelude.{ℕ, ◌≤◌, ◌≡◌, Bool, cond, Result, Ok, Err, List, length, get_or, take, replicate}
 use Rattle.rules.specs.Sheet.{Bytes, Usable, lines}
 use Rattle.rules.specs.declared.Format.{Format}
 use Rattle.rules.specs.Judge.{fold}
 use Rattle.rules.specs.Directory.{step, finish, nothing}
 use Rattle.sheet_line.specs.declared.Taken.{Taken}
-use Rattle.sheet_line.specs.declared.Taken.TheVariants as Taken
 use Rattle.sheet_line.specs.Line.{taken_at}
 use Rattle.directory_schema.specs.Lines.{judged_from, Other}
 use Rattle.name.specs.Schema.{Rising}
@@ -13,7 +12,8 @@ use Rattle.directory_schema.specs.Types.{typed}
 use Rattle.tables.specs.Book.{FIRST-ROWS}
 use Rattle.tables.specs.Held.{none_held}
 use Rattle.directory_entry.specs.EntryLine.{depth_count}
-use Rattle.directory_sheet.specs.Judged.{NothingAfter}
+use Rattle.directory_sheet.specs.Judged.{NothingAfter, DirectoryJudged}
+use Rattle.rules.specs.declared.refusals.Refusal.{Refusal}
 use Rattle.directory_sheet.specs.declared.Notes.{Notes}
 
 -- the arrays have their lengths, and the schema's numbers are `ks`
@@ -35,6 +35,11 @@ end_number (Taken.Line x) lacks = 2
 end_number Taken.NotInForm lacks = 2
 end_number Taken.End lacks = cond lacks 6 0
 
+-- the answer of the entries; with a refusal the table is still to be emptied
+abbrev pub EntriesJudged : Format → Bytes → Result Notes Refusal → List ℕ → Type 0
+EntriesJudged f s (Ok x) held = DirectoryJudged f s (Ok x) held
+EntriesJudged f s (Err e) held = DirectoryJudged f s (Err e) none_held
+
 -- the K 1 lines have been read, up to position `i`
 pub record Opened (f : Format) (s : Bytes) (ks : List ℕ) (notes : Notes) (held : List ℕ) (i : ℕ) (taken : Taken) : Type 0 where
   pub sheet : length s ≤ 65536
@@ -42,7 +47,6 @@ pub record Opened (f : Format) (s : Bytes) (ks : List ℕ) (notes : Notes) (held
   pub rising : Rising 0 ks
   pub few : length ks ≤ 64
   pub sized : Sized ks notes (replicate depth_count 0)
-  pub accepting : notes.refusal ≡ 0
   pub after : NothingAfter notes
   pub none_yet : notes.count ≡ 0
   pub none-held : get_or notes.first 0 0 ≡ 0

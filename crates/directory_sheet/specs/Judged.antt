@@ -1,6 +1,6 @@
--- What `judge` answers: the refusal number that the rules give, and of an accepted directory what later steps go by. `held` is the table of the
+-- What `judge` answers: the refusal that the rules give, and of an accepted directory what later steps go by. `held` is the table of the
 -- values held, as `judge` leaves it.
-use Rattle.std.specs.Prelude.{ℕ, ◌+◌, ◌*◌, ◌≤◌, ◌<◌, ◌≡◌, List, length, get_or, take, drop, replicate}
+use Rattle.std.specs.Prelude.{ℕ, ◌+◌, ◌*◌, ◌≤◌, ◌<◌, ◌≡◌, Result, Ok, Err, List, length, get_or, take, drop, replicate}
 use Rattle.rules.specs.Sheet.{Bytes, bit, front_of, value_of}
 use Rattle.rules.specs.declared.Format.{Format}
 use Rattle.rules.specs.Judge.{accept, refuse, refusal_of}
@@ -13,12 +13,13 @@ use Rattle.tables.specs.Book.{FIRST-ROWS}
 use Rattle.tables.specs.Held.{ROWS, HELD, none_held, HeldAt}
 use Rattle.tables.specs.World.{TargetAt}
 use Rattle.directory_values.specs.Rows.{RowKept}
+use Rattle.rules.specs.Refusals.{refusal_number, refusal_in}
+use Rattle.rules.specs.declared.refusals.Refusal.{Refusal}
 use Rattle.directory_sheet.specs.declared.Notes.{Notes}
 
--- nothing noted, with a refusal number or 0
-abbrev pub nothing_noted : ℕ → Notes
-nothing_noted n = record {
-  refusal = n;
+-- nothing noted
+abbrev pub nothing_noted : Notes
+nothing_noted = record {
   types = 0;
   schema = replicate 64 0;
   count = 0;
@@ -77,8 +78,8 @@ pub record DirectoryNoted (w : ℕ) (s : Bytes) (d : Directory) (r : Notes) (hel
   pub after : NothingAfter r
   pub held_after : NoneFrom (get_or r.first r.count 0) held
 
--- the answer for the sheet `s`
-pub record DirectoryJudged (f : Format) (s : Bytes) (r : Notes) (held : List ℕ) : Type 0 where
-  pub refusal : r.refusal ≡ refusal_of (directory_of f s)
-  pub noted : (d : Directory) → directory_of f s ≡ accept d → DirectoryNoted f.width s d r held
-  pub refused : (n : ℕ) → directory_of f s ≡ refuse n → (r ≡ nothing_noted n) × (held ≡ none_held)
+-- the answer for the sheet `s`; with a refusal nothing is noted, and no value is held
+pub record DirectoryJudged (f : Format) (s : Bytes) (r : Result Notes Refusal) (held : List ℕ) : Type 0 where
+  pub refusal : refusal_in r ≡ refusal_of (directory_of f s)
+  pub noted : (d : Directory) → directory_of f s ≡ accept d → (x : Notes) × (r ≡ Ok x) × DirectoryNoted f.width s d x held
+  pub refused : (n : ℕ) → directory_of f s ≡ refuse n → (e : Refusal) × (r ≡ Err e) × (refusal_number e ≡ n) × (held ≡ none_held)

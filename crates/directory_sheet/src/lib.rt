@@ -1,4 +1,4 @@
-// The directory sheet judged line by line: the refusal that the rules give, or 0 with what later steps need of the sheet,
+// The directory sheet judged line by line: the refusal that the rules give, or what later steps need of the sheet,
 // noted on the way: the schema as numbers, each entry line's position, parent, naming type and length, the values that each entry holds, and
 // where the target of an alias stands.
 #![tactic(auto)]
@@ -6,21 +6,22 @@
 ghost use Rattle.std.specs.Prelude.{◌≡◌, cond, ◌+◌, ◌<◌};
 ghost use Rattle.rules.specs.Sheet.{Usable};
 ghost use Rattle.tables.specs.Held.{none_held};
+ghost use Rattle.rules.specs.Refusals.{refusal_in};
 ghost use Rattle.directory_sheet.specs.Judged.{nothing_noted, DirectoryJudged};
-ghost use Rattle.directory_sheet.specs.Entries.{Opened, end_number};
+ghost use Rattle.directory_sheet.specs.Entries.{Opened, end_number, EntriesJudged};
 
 use directory_duplicates::MARKS;
 use directory_entry::DEPTHS;
-use rules::{Format, refusal};
+use rules::Format;
+use rules::refusals::Refusal;
 use sheet_line::Taken;
 use tables::book::FIRST_ROWS;
 use tables::held::HELD;
 
-// The refusal or 0, and what is noted; `first` has the row of each entry's first value, and then the row after the last value; `targets` has 0, or where
+// What is noted; `first` has the row of each entry's first value, and then the row after the last value; `targets` has 0, or where
 // the K 9 lines of an alias's target begin, times 16, and how many they are.
 #[derive(Drop)]
 pub struct Notes {
-    pub refusal: u64,
     pub types: usize,
     pub schema: [u64; 64],
     pub count: usize,
@@ -32,12 +33,11 @@ pub struct Notes {
     pub targets: [u64; 256],
 }
 
-// Nothing noted, with a refusal or 0.
-fn blank(refusal: u64) -> Notes
-    ensures { result ≡ nothing_noted refusal }
+// Nothing noted.
+fn blank() -> Notes
+    ensures { result ≡ nothing_noted }
 {
     Notes {
-        refusal,
         types: 0,
         schema: [0; 64],
         count: 0,
@@ -50,26 +50,18 @@ fn blank(refusal: u64) -> Notes
     }
 }
 
-// The directory refused: nothing is noted, and no value is held.
-fn refused(number: u64, held: &mut [u64; HELD]) -> Notes
-    ensures { (result ≡ nothing_noted number) × (held.new ≡ none_held) }
-{
-    *held = [0; HELD];
-    blank(number)
-}
-
-// The refusal where no line stands, or 0.
-fn ended(taken: Taken, lacks: bool) -> u64
-    ensures { result ≡ end_number taken lacks }
+// A place where no line stands: refused or not. Not one function with `directory_alias`'s `absent`, by which the sheet's end is always refused.
+fn ended(taken: Taken, lacks: bool) -> Result<(), Refusal>
+    ensures { refusal_in result ≡ end_number taken lacks }
 {
     match taken {
-        Taken::Line(_) => refusal::NOT_ALLOWED,
-        Taken::NotInForm => refusal::NOT_ALLOWED,
+        Taken::Line(_) => Err(Refusal::NotAllowed),
+        Taken::NotInForm => Err(Refusal::NotAllowed),
         Taken::End => {
             if lacks {
-                return refusal::NAMING_VALUE_NOT_HELD;
+                return Err(Refusal::NamingValueNotHeld);
             }
-            0
+            Ok(())
         }
     }
 }
@@ -85,7 +77,7 @@ fn level(above: usize, alias: bool) -> usize
     above + 1
 }
 
-// The entries, from the line `first` at `from` on.
+// The entries, from the line `first` at `from` on. With a refusal, rows are left in `held`.
 fn entries(
     s: &[u8],
     f: Format,
@@ -94,9 +86,9 @@ fn entries(
     from: usize,
     first: Taken,
     held: &mut [u64; HELD],
-) -> Notes
+) -> Result<Notes, Refusal>
     requires { Opened f s.now schema.now begun held.old from first }
-    ensures { DirectoryJudged f s.now result held.new }
+    ensures { EntriesJudged f s.now result held.new }
 {
     let mut notes = begun;
     let mut depths: [usize; DEPTHS] = [0; DEPTHS];
@@ -107,27 +99,18 @@ fn entries(
     let mut taken = first;
     loop {
         let Taken::Line(line) = taken else {
-            let refusal = ended(taken, lacks);
-            if refusal != 0 {
-                return refused(refusal, held);
-            }
-            return notes;
+            ended(taken, lacks)?;
+            return Ok(notes);
         };
         let count = notes.count;
-        let x = directory_entry::entry_line(s, f.top, schema, &depths, &marks, count, lacks, line);
-        if x.refusal != 0 {
-            return refused(x.refusal, held);
-        }
+        let x = directory_entry::entry_line(s, f.top, schema, &depths, &marks, count, lacks, line)?;
         directory_duplicates::note(&mut marks, n, x);
         let e = directory_values::Current {
             number: count + 1,
             line,
             first: notes.first[count],
         };
-        let run = directory_values::values(s, f, schema, e, n + 1, &mut marks, held);
-        if run.refusal != 0 {
-            return refused(run.refusal, held);
-        }
+        let run = directory_values::values(s, f, schema, e, n + 1, &mut marks, held)?;
         let alias = line.c == 1;
         let next = run.taken;
         let last = directory_alias::Last {
@@ -137,10 +120,7 @@ fn entries(
             at: run.at,
             taken: next,
         };
-        let t = directory_alias::target(s, f, schema, last);
-        if t.refusal != 0 {
-            return refused(t.refusal, held);
-        }
+        let t = directory_alias::target(s, f, schema, last)?;
         let p = line.a as usize;
         notes.at[count] = at;
         notes.parents[count] = p;
@@ -157,23 +137,26 @@ fn entries(
     }
 }
 
-// The whole sheet, and in `held`, where no value is at first, a row for each value.
-pub fn judge(s: &[u8], f: Format, held: &mut [u64; HELD]) -> Notes
+// The whole sheet, and in `held`, where no value is at first, a row for each value; none with a refusal.
+pub fn judge(s: &[u8], f: Format, held: &mut [u64; HELD]) -> Result<Notes, Refusal>
     requires { Usable f × (held.old ≡ none_held) }
     ensures { DirectoryJudged f s.now result held.new }
 {
     if 65536 < s.len() {
-        return blank(refusal::TOO_LONG);
+        return Err(Refusal::TooLong);
     }
-    let t = directory_schema::types(s, f);
-    if t.refusal != 0 {
-        return blank(t.refusal);
-    }
+    let t = directory_schema::types(s, f)?;
     let types = t.count;
     let schema = t.schema;
-    let mut notes = blank(0);
+    let mut notes = blank();
     notes.types = types;
     notes.schema = schema;
     let taken = t.taken;
-    entries(s, f, &schema[0..types], notes, t.at, taken, held)
+    match entries(s, f, &schema[0..types], notes, t.at, taken, held) {
+        Ok(notes) => Ok(notes),
+        Err(refusal) => {
+            *held = [0; HELD];
+            Err(refusal)
+        }
+    }
 }

@@ -1,5 +1,5 @@
 -- The value lines of one entry: what is known before them, and after some of them.
-use Rattle.std.specs.Prelude.{ℕ, ◌+◌, ◌*◌, ◌≤◌, ◌≡◌, Bool, true, false, List, [], ◌∷◌, ◌++◌, length}
+use Rattle.std.specs.Prelude.{ℕ, ◌+◌, ◌*◌, ◌≤◌, ◌≡◌, Bool, true, false, Result, Ok, Err, List, [], ◌∷◌, ◌++◌, length}
 use Rattle.std.proofs.Math.Option.{some}
 use Rattle.rules.specs.Lists.{any, last_or}
 use Rattle.rules.specs.Sheet.{Bytes, Usable}
@@ -9,7 +9,7 @@ use Rattle.rules.specs.Judge.{refuse}
 use Rattle.rules.specs.Directory.{Stored, Reading, is_unread, with_values}
 use Rattle.rules.specs.Places.{lines_at, values_of, schema_of}
 use Rattle.sheet_line.specs.declared.Line.{Line}
-use Rattle.sheet_line.specs.declared.Taken.TheVariants as Taken
+use Rattle.sheet_line.specs.declared.Taken.{Taken}
 use Rattle.sheet_line.specs.Line.{taken_at, bytes_of}
 use Rattle.name.specs.Schema.{Rising, rank_in}
 use Rattle.directory_schema.specs.Lines.{judged_from, Passes, Other}
@@ -21,6 +21,8 @@ use Rattle.directory_values.specs.ValueLine.{value_ruling}
 use Rattle.directory_values.specs.Rows.{RowsWritten}
 use Rattle.directory_values.specs.declared.Current.{Current}
 use Rattle.directory_values.specs.declared.ValueLines.{ValueLines}
+use Rattle.rules.specs.Refusals.{refusal_number}
+use Rattle.rules.specs.declared.refusals.Refusal.{Refusal}
 
 -- the entry `d` stands at `e`, after the entries `complete`, with `n` marks
 pub record Begun (f : Format) (s : Bytes) (ks table held : List ℕ) (n : ℕ) (e : Current) (complete : List Stored) (d : Stored) (ms : List Mark) : Type 0 where
@@ -70,12 +72,27 @@ pub record ValuesRead (f : Format) (s : Bytes) (ks table before held : List ℕ)
   pub rows : RowsWritten ks s vs before held e.first to
   pub fewer : to ≤ n
 
+-- how an entry's value lines ended: the refusal number or 0, what stands after them with its position, the number of marks, whether the naming
+-- value was found among the values, and the row after the last value
+pub record ValuesNoted : Type 0 where
+  pub refusal : ℕ
+  pub at : ℕ
+  pub taken : Taken
+  pub marks : ℕ
+  pub found : Bool
+  pub to : ℕ
+
 -- the value lines refused: the number, and nothing else
-abbrev pub values_refused : ℕ → ValueLines
+abbrev pub values_refused : ℕ → ValuesNoted
 values_refused n = record { refusal = n; at = 0; taken = Taken.End; marks = 0; found = false; to = 0 }
 
+-- the lines that were read, or a refusal
+abbrev pub values_noted : Result ValueLines Refusal → ValuesNoted
+values_noted (Ok r) = record { refusal = 0; at = r.at; taken = r.taken; marks = r.marks; found = r.found; to = r.to }
+values_noted (Err e) = values_refused (refusal_number e)
+
 -- the values that were read, up to another line
-pub record ValuesEnded (f : Format) (s : Bytes) (ks table before held : List ℕ) (e : Current) (complete : List Stored) (d : Stored) (r : ValueLines) : Type 0 where
+pub record ValuesEnded (f : Format) (s : Bytes) (ks table before held : List ℕ) (e : Current) (complete : List Stored) (d : Stored) (r : ValuesNoted) : Type 0 where
   pub values : List Part
   pub all : List Mark
   pub last : ℕ
@@ -85,7 +102,7 @@ pub record ValuesEnded (f : Format) (s : Bytes) (ks table before held : List ℕ
   pub other : Other 3 r.taken
 
 -- the values that were read, up to one that is refused, and the sheet with it
-pub record ValuesStopped (f : Format) (s : Bytes) (ks table before held : List ℕ) (e : Current) (complete : List Stored) (d : Stored) (r : ValueLines) : Type 0 where
+pub record ValuesStopped (f : Format) (s : Bytes) (ks table before held : List ℕ) (e : Current) (complete : List Stored) (d : Stored) (r : ValuesNoted) : Type 0 where
   pub values : List Part
   pub all : List Mark
   pub marks : ℕ
@@ -103,11 +120,11 @@ pub record ValuesStopped (f : Format) (s : Bytes) (ks table before held : List �
   pub only : r ≡ values_refused r.refusal
 
 -- the values of an entry
-pub record ValuesJudged (f : Format) (s : Bytes) (ks table before held : List ℕ) (e : Current) (complete : List Stored) (d : Stored) (r : ValueLines) : Type 0 where
+pub record ValuesJudged (f : Format) (s : Bytes) (ks table before held : List ℕ) (e : Current) (complete : List Stored) (d : Stored) (r : ValuesNoted) : Type 0 where
   pub ended : r.refusal ≡ 0 → ValuesEnded f s ks table before held e complete d r
   pub refused : (r.refusal ≡ 0 → ⊥) → ValuesStopped f s ks table before held e complete d r
 
 -- whatever stood before the run
-abbrev pub ValuesAnswered : Format → Bytes → List ℕ → List ℕ → List ℕ → ℕ → Current → List ℕ → List ℕ → ValueLines → Type 0
+abbrev pub ValuesAnswered : Format → Bytes → List ℕ → List ℕ → List ℕ → ℕ → Current → List ℕ → List ℕ → ValuesNoted → Type 0
 ValuesAnswered f s ks table held n e table' held' r =
     (complete : List Stored) (d : Stored) (ms : List Mark) → Begun f s ks table held n e complete d ms → ValuesJudged f s ks table' held held' e complete d r

@@ -8,13 +8,14 @@ ghost use Rattle.sheet_kind.specs.Kinds.{number_of};
 ghost use Rattle.sheet_kind.specs.declared.Kind.TheVariants as Kinds;
 ghost use Rattle.name.specs.Schema.{rank_in};
 ghost use Rattle.tables.specs.Held.{ROWS, HELD};
-ghost use Rattle.directory_duplicates.specs.Rulings.{ValueSought, Decides};
+ghost use Rattle.directory_duplicates.specs.Rulings.{ValueSought, Decides, ruling_noted};
 ghost use Rattle.directory_values.specs.ValueLine.{value_ruling};
 ghost use Rattle.directory_values.specs.Rows.{written};
-ghost use Rattle.directory_values.specs.Values.{values_refused, ValuesAsked, ValuesAnswered};
+ghost use Rattle.directory_values.specs.Values.{values_noted, ValuesAsked, ValuesAnswered};
 
-use directory_duplicates::{Claim, MARKS, Ruling, note, refusing, ruled};
-use rules::{Format, refusal};
+use directory_duplicates::{Claim, MARKS, Ruling, note, ruled};
+use rules::Format;
+use rules::refusals::Refusal;
 use sheet_form::columns::value_columns;
 use sheet_kind::{Kind, is};
 use sheet_line::{Line, Taken};
@@ -28,11 +29,10 @@ pub struct Current {
     pub first: usize,
 }
 
-// How an entry's value lines ended: the refusal or 0, what stands after them with its position, the number of marks,
-// whether the naming value was found among the values, and the row after the last value.
+// An entry's value lines: what stands after them with its position, the number of marks, whether the naming value was found
+// among the values, and the row after the last value.
 #[derive(Drop)]
 pub struct ValueLines {
-    pub refusal: u64,
     pub at: usize,
     pub taken: Taken,
     pub marks: usize,
@@ -53,15 +53,15 @@ fn value_line(
     last: u64,
     from: usize,
     line: Line,
-) -> Ruling
+) -> Result<Ruling, Refusal>
     requires { ValueSought s.now schema.now marks.now line × (number ≤ 256) × (last ≤ line.a → from ≤ rank_in schema.now line.a) × (line.kind ≡ number_of Kinds.Value) }
-    ensures { Decides s.now schema.now marks.now (value_ruling top number last line) result }
+    ensures { Decides s.now schema.now marks.now (value_ruling top number last line) (ruling_noted result) }
 {
     if !value_columns(line, top) {
-        return refusing(refusal::NOT_ALLOWED);
+        return Err(Refusal::NotAllowed);
     }
     if line.a < last {
-        return refusing(refusal::OUT_OF_ORDER);
+        return Err(Refusal::OutOfOrder);
     }
     let rank = name::rank(schema, from, line.a);
     let owner = VALUE_OWNERS + number;
@@ -103,20 +103,6 @@ fn put_row(held: &mut [u64; HELD], i: usize, rank: usize, line: Line)
     held[SIZE + i] = line.length as u64;
 }
 
-// The value lines refused: the number, and nothing else.
-fn refused(number: u64) -> ValueLines
-    ensures { result ≡ values_refused number }
-{
-    ValueLines {
-        refusal: number,
-        at: 0,
-        taken: Taken::End,
-        marks: 0,
-        found: false,
-        to: 0,
-    }
-}
-
 // The value lines after the line of `e`, each with its row.
 pub fn values(
     s: &[u8],
@@ -126,9 +112,9 @@ pub fn values(
     marked: usize,
     marks: &mut [usize; MARKS],
     held: &mut [u64; HELD],
-) -> ValueLines
+) -> Result<ValueLines, Refusal>
     requires { ValuesAsked f s.now schema.now marks.old held.old marked e }
-    ensures { ValuesAnswered f s.now schema.now marks.old held.old marked e marks.new held.new result }
+    ensures { ValuesAnswered f s.now schema.now marks.old held.old marked e marks.new held.new (values_noted result) }
 {
     let mut n = marked;
     let mut to = e.first;
@@ -139,29 +125,24 @@ pub fn values(
     loop {
         let taken = sheet_line::take(s, at, f.width);
         let Taken::Line(line) = taken else {
-            return ValueLines {
-                refusal: 0,
+            return Ok(ValueLines {
                 at,
                 taken,
                 marks: n,
                 found,
                 to,
-            };
+            });
         };
         if !is(line.kind, Kind::Value) {
-            return ValueLines {
-                refusal: 0,
+            return Ok(ValueLines {
                 at,
                 taken,
                 marks: n,
                 found,
                 to,
-            };
+            });
         }
-        let x = value_line(s, f.top, schema, marks, e.number, last, from, line);
-        if x.refusal != 0 {
-            return refused(x.refusal);
-        }
+        let x = value_line(s, f.top, schema, marks, e.number, last, from, line)?;
         found = holding(s, schema, x.rank, e.line, found, line);
         put_row(held, to, x.rank, line);
         note(marks, n, x);

@@ -17,7 +17,8 @@ use answer_reply::{Reply, refused};
 use caller::above;
 use permission_sheet::{ALL_RIGHTS, ALL_SCOPES};
 use respond::requested;
-use rules::{Format, Limits, refusal};
+use rules::refusals::{Refusal, refusal_number};
+use rules::{Format, Limits};
 use tables::book::{BOOK, schema};
 use tables::held::HELD;
 
@@ -44,10 +45,10 @@ fn permitted(
     let mut rights: [u64; ALL_RIGHTS] = [0; ALL_RIGHTS];
     let mut scopes: [u64; ALL_SCOPES] = [0; ALL_SCOPES];
     let items = permission_sheet::judge(p, terms.format, schema(book), &mut rights, &mut scopes);
-    if items.refusal != 0 {
-        return refused(items.refusal);
-    }
-    let count = items.count;
+    let count = match items {
+        Ok(count) => count,
+        Err(refusal) => return refused(refusal_number(refusal)),
+    };
     let mut order: [usize; 256] = [0; 256];
     rank_items(&rights, count, &mut order);
     requested(
@@ -70,10 +71,10 @@ fn judged(d: &[u8], p: &[u8], q: &[u8], out: &mut [u8], terms: Terms) -> Reply
     ensures { Replies (judged_at terms.format terms.limits d.now p.now q.now (length out.old)) out.old result out.new }
 {
     let mut held: [u64; HELD] = [0; HELD];
-    let notes = directory_sheet::judge(d, terms.format, &mut held);
-    if notes.refusal != 0 {
-        return refused(notes.refusal);
-    }
+    let notes = match directory_sheet::judge(d, terms.format, &mut held) {
+        Ok(notes) => notes,
+        Err(refusal) => return refused(refusal_number(refusal)),
+    };
     let mut book: [u64; BOOK] = [0; BOOK];
     directory_book::note(terms.format, notes, &mut book);
     permitted(out, &book, &held, d, p, q, terms)
@@ -85,7 +86,7 @@ pub fn serve(d: &[u8], p: &[u8], q: &[u8], out: &mut [u8], terms: Terms) -> Repl
     ensures { Replies (serve_at terms.format terms.limits d.now p.now q.now (length out.old)) out.old result out.new }
 {
     if above(terms.limits, out.len()) {
-        return refused(refusal::PANEL_BUFFER_TOO_LONG);
+        return refused(refusal_number(Refusal::PanelBufferTooLong));
     }
     judged(d, p, q, out, terms)
 }

@@ -31,6 +31,7 @@ use answer_reply::{Reply, refused};
 use caller::within;
 use permission_sheet::{ALL_RIGHTS, ALL_SCOPES};
 use request_sheet::Asked;
+use rules::refusals::refusal_number;
 use tables::book::{BOOK, parents, schema};
 use tables::held::HELD;
 use tables::sets::SETS;
@@ -91,10 +92,10 @@ pub fn requested(
     requires { (g : Ground) × GroundAt terms.format d.now p.now g book.now held.now rights.now scopes.now order.now }
     ensures { (g : Ground) → GroundAt terms.format d.now p.now g book.now held.now rights.now scopes.now order.now → Replies (from_ground terms.format terms.limits g q.now (length out.old)) out.old result out.new }
 {
-    let judged = request_sheet::judge(q, terms.format, schema(book));
-    if judged.refusal != 0 {
-        return refused(judged.refusal);
-    }
+    let judged = match request_sheet::judge(q, terms.format, schema(book)) {
+        Ok(asked) => asked,
+        Err(refusal) => return refused(refusal_number(refusal)),
+    };
     let asked = within(judged, terms.limits);
     let who = Requester {
         level: asked.level,

@@ -12,9 +12,9 @@ ghost use Rattle.filter_matchable.specs.Matchable.{RowsWithin};
 ghost use Rattle.filter_matchable.specs.Matchable.{MatchableAt, AskedIn};
 ghost use Rattle.filter_matchable.specs.Candidate.{Admitted};
 
-use super::rows::{RowsSought, holds, some_containing, some_equal, some_ordered};
+use super::rows::{RowsSought, equal, holds, some_ordered, some_row};
 use filter_lines::lines::{FILTER, LINE, RANK, SECOND, value_of};
-use filter_lines::pieces::pieces_fit;
+use filter_lines::pieces::{pieces_fit, substrings};
 use filter_matchable::extent::Extent;
 use filter_matchable::matchable::{END, in_word};
 use filter_truth::truth_of;
@@ -85,7 +85,7 @@ fn satisfied(
     }
     let v = value_of(q, rows, k);
     if is(kind, Kind::Equality) {
-        return some_equal(held, values, d, sought, s, v);
+        return some_row(held, values, d, sought, |u| equal(s, v, u));
     }
     if is(kind, Kind::AtLeast) {
         return some_ordered(held, values, d, sought, s, true, v);
@@ -93,7 +93,14 @@ fn satisfied(
     if is(kind, Kind::AtMost) {
         return some_ordered(held, values, d, sought, s, false, v);
     }
-    some_containing(held, values, d, sought, q, rows, lines, k)
+    let n = rows[k * LINE + SECOND];
+    some_row(
+        held,
+        values,
+        d,
+        sought,
+        |u| substrings(q, rows, lines, k + 1, n, u),
+    )
 }
 
 // The truth of the item in line `line` for the entry of index `k`, a candidate of the search. `types` and `values` are which of its types and values FilterMatch is granted on.

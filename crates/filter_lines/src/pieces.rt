@@ -1,12 +1,23 @@
 // The pieces of a substrings item: the K 28 lines that follow its line. Where there are fewer lines than pieces, the pieces end with the lines.
-ghost use Rattle.std.specs.Prelude.{◌≡◌, ◌-◌, ◌≤◌, length};
+ghost use Rattle.std.specs.Prelude.{◌≡◌, ◌+◌, ◌-◌, ◌≤◌, length};
 ghost use Rattle.rules.specs.Lists.{all};
 ghost use Rattle.rules.specs.Value as Value;
 ghost use Rattle.filter_lines.specs.Lines.{RowsPlaced, pieces_in, pieces_stand, lesser};
 
 use crate::lines::{FILTER, FIRST, LINE, value_of};
-use rules::Found;
 use value_blank::{tidied, tidy};
+
+// The line after the `n` pieces from line `k` on, of `lines` lines.
+fn end_of(lines: usize, k: usize, n: u64) -> usize
+    requires { k ≤ lines }
+    ensures within { result ≤ lines }
+    ensures is { result ≡ k + lesser n (lines - k) }
+{
+    if n < (lines - k) as u64 {
+        return k + n as usize;
+    }
+    lines
+}
 
 // Do all of the `n` pieces from line `k` on, of `lines` lines, fit the syntax?
 pub fn pieces_fit(
@@ -20,17 +31,10 @@ pub fn pieces_fit(
     requires { RowsPlaced q.now rows.now lines × (k ≤ lines) }
     ensures { result ≡ all (λ p. Value.fits syntax p.bytes) (pieces_in q.now rows.now k (lesser n (lines - k))) }
 {
-    let mut j = k;
-    let mut left = n;
-    while 0 < left {
-        if lines <= j {
-            return true;
-        }
+    for j in k..end_of(lines, k, n) {
         if !value_syntax::fits(syntax, value_of(q, rows, j)) {
             return false;
         }
-        j += 1;
-        left -= 1;
     }
     true
 }
@@ -41,13 +45,8 @@ fn pieces_stand(q: &[u8], rows: &[u64; FILTER], lines: usize, k: usize, n: u64, 
     ensures { result ≡ pieces_stand v.now (pieces_in q.now rows.now k (lesser n (lines - k))) }
 {
     let mut from: usize = 0;
-    let mut j = k;
-    let mut left = n;
-    while 0 < left {
-        if lines <= j {
-            return true;
-        }
-        let Found::At(used) = value_syntax::piece_end(
+    for j in k..end_of(lines, k, n) {
+        let Some(used) = value_syntax::piece_end(
             v,
             from,
             rows[j * LINE + FIRST],
@@ -56,8 +55,6 @@ fn pieces_stand(q: &[u8], rows: &[u64; FILTER], lines: usize, k: usize, n: u64, 
             return false;
         };
         from += used;
-        j += 1;
-        left -= 1;
     }
     true
 }

@@ -1,12 +1,11 @@
 -- #103: "search looks at Browse (for the base Browse or Read) and ReturnDN before it looks at the filter": what is known of an entry whose filter is judged.
-use Rattle.std.specs.Prelude.{ℕ, ◌<◌, ◌≡◌, true, List, get_or}
+use Rattle.std.specs.Prelude.{ℕ, ◌<◌, ◌≡◌, true, List, get_or, Some}
 use Rattle.rules.specs.Sheet.{Bytes}
 use Rattle.rules.specs.Name.{Name}
 use Rattle.rules.specs.Directory.{Stored, blank, entry_of}
 use Rattle.rules.specs.Decision.{Setting}
 use Rattle.rules.specs.Answer as Answer
 use Rattle.tables.specs.Numbers.{walk}
-use Rattle.rules.specs.declared.Found.TheVariants.{At}
 use Rattle.tables.specs.Book.{entry_count}
 use Rattle.tables.specs.World.{World}
 use Rattle.filter_matchable.specs.Matchable.{MatchableAt}
@@ -18,7 +17,7 @@ pub record Searched (d p : Bytes) (book held sets : List ℕ) (x : Extent) : Typ
   pub stored : List Stored
   pub world : World setting stored d p book held sets
   pub base : Name
-  pub walked : walk setting.schema stored 0 base ≡ At x.base
+  pub walked : walk setting.schema stored 0 base ≡ Some x.base
 
 -- the entry of index `k` is a candidate of the search
 pub record Candidate (d p : Bytes) (book held sets : List ℕ) (x : Extent) (k : ℕ) : Type 0 where

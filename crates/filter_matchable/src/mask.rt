@@ -23,16 +23,14 @@ fn sought(rows: &[u64; FILTER], k: usize) -> bool
     rows[k * LINE + RANK] < 64
 }
 
-// The mask of the ranks that occur in the filter.
+// The mask of the ranks that occur in the filter. Not one function with `matchable_types`: their loops would share one line, and take a closure for the rest.
 pub fn mask(rows: &[u64; FILTER], lines: usize) -> u64
     requires { lines ≤ LINES }
     ensures { Masks rows.now lines result }
 {
     let mut x: u64 = 0;
-    let mut k: usize = 0;
-    while k < lines {
-        x = x | bit_if(sought(rows, k), rows[k * LINE + RANK] as usize);
-        k += 1;
+    for k in 0..lines {
+        x |= bit_if(sought(rows, k), rows[k * LINE + RANK] as usize);
     }
     x
 }

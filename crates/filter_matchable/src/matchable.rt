@@ -63,10 +63,8 @@ fn matchable_types(sets: &[u64; SETS], n: usize, e: usize, asked: u64) -> u64
     ensures { (σ : Setting) (es : List Stored) (d p : Bytes) (book held : List ℕ) → World σ es d p book held sets.now → e ≤ length es → n ≤ length (schema book) → MatchableTypes σ es book e asked n result }
 {
     let mut x: u64 = 0;
-    let mut r: usize = 0;
-    while r < n {
-        x = x | bit_if(type_matchable(sets, e, asked, r), r);
-        r += 1;
+    for r in 0..n {
+        x |= bit_if(type_matchable(sets, e, asked, r), r);
     }
     x
 }
@@ -108,13 +106,9 @@ fn matchable_values(
     let first = book[FIRST + k] as usize;
     let end = book[END + k] as usize;
     let mut values: [u64; 34] = [0; 34];
-    let mut i = first;
-    while i < end {
+    for i in first..end {
         let j = i - first;
-        let word = j / 64;
-        values[word] = values[word]
-            | bit_if(value_matchable(book, held, sets, d, p, k, asked, i), j);
-        i += 1;
+        values[j / 64] |= bit_if(value_matchable(book, held, sets, d, p, k, asked, i), j);
     }
     values
 }

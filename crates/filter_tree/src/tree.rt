@@ -16,9 +16,9 @@ ghost use Rattle.filter_matchable.specs.Candidate.{Candidate};
 ghost use Rattle.filter_tree.specs.Tree.{after_by, matches_at, FilterAt, KnownFilter};
 ghost use Rattle.filter_tree.specs.Truths.{Truths, KnownTruths};
 
-use super::items::{note_truths, truth_at};
+use super::items::note_truths;
 use filter_lines::joins;
-use filter_lines::lines::{FILTER, FIRST, LINE, SECOND};
+use filter_lines::lines::{FILTER, FIRST, LINE, LINES, SECOND};
 use filter_matchable::extent::Extent;
 use filter_matchable::matchable::ask;
 use filter_truth::{is_true, joined, negated, start};
@@ -65,7 +65,7 @@ pub(crate) struct Evaluation {
 // are passed over in any case.
 pub(crate) fn evaluate(
     rows: &[u64],
-    truths: &[u8],
+    truths: &[Truth; LINES],
     lines: usize,
     k: usize,
     depth: usize,
@@ -89,28 +89,25 @@ pub(crate) fn evaluate(
     let kind = rows[k * LINE];
     if is(kind, Kind::Not) {
         let part = evaluate(rows, truths, lines, k + 1, depth - 1, edition);
-        let truth = part.truth;
         return Evaluation {
-            truth: negated(truth),
+            truth: negated(part.truth),
             next: part.next,
         };
     }
     if joins(kind) {
         let conjunction = is(kind, Kind::And);
         let mut next = k + 1;
-        let mut left = rows[k * LINE + FIRST];
-        let mut truth = start(edition, conjunction, left);
-        while 0 < left {
+        let parts = rows[k * LINE + FIRST];
+        let mut truth = start(edition, conjunction, parts);
+        for _i in 0..parts {
             let part = evaluate(rows, truths, lines, next, depth - 1, edition);
-            let one = part.truth;
-            truth = joined(edition, conjunction, truth, one);
+            truth = joined(edition, conjunction, truth, part.truth);
             next = part.next;
-            left -= 1;
         }
         return Evaluation { truth, next };
     }
     Evaluation {
-        truth: truth_at(truths, k),
+        truth: truths[k],
         next: after_item(rows, lines, k),
     }
 }
@@ -134,6 +131,5 @@ pub fn matches(
     let truths = note_truths(book, held, d, open.types, &open.values, extent, k, q, rows);
     let edition = extent.edition;
     let whole = evaluate(rows, &truths, extent.lines, 0, 16, edition);
-    let truth = whole.truth;
-    is_true(truth)
+    is_true(whole.truth)
 }

@@ -20,6 +20,7 @@ pub(crate) fn both_first(t: Truth, u: Truth) -> Truth
 }
 
 // "or" in the first edition: undefined is neutral; true if one is true, else false.
+// Not one function with 'both_first': 'negated(both_first(negated(t), negated(u)))' would be no plainer.
 pub(crate) fn either_first(t: Truth, u: Truth) -> Truth
     ensures { result ≡ Filter.either_first t u }
 {

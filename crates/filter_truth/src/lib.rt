@@ -10,9 +10,10 @@ ghost use Rattle.tables.specs.FilterLines as Filter;
 ghost use Rattle.filter_truth.specs.Join.{join_by};
 
 use first::{both_first, either_first};
-use rules::{Edition, Order, Truth};
+use rules::{Edition, Truth};
+use std::cmp::Ordering;
 
-// The truth of a test.
+// The truth of a test. Not a `From<bool>`: the same two cases, without the name.
 pub fn truth_of(b: bool) -> Truth
     ensures { result ≡ truth b }
 {
@@ -20,25 +21,17 @@ pub fn truth_of(b: bool) -> Truth
 }
 
 // Is the first value not below the second?
-pub fn not_below(order: Order) -> bool
+pub fn not_below(order: Ordering) -> bool
     ensures { result ≡ not (is_less order) }
 {
-    match order {
-        Order::Less => false,
-        Order::Equal => true,
-        Order::Greater => true,
-    }
+    matches!(order, Ordering::Equal | Ordering::Greater)
 }
 
 // Is it true?
 pub fn is_true(t: Truth) -> bool
     ensures { result ≡ is_true t }
 {
-    match t {
-        Truth::True => true,
-        Truth::False => false,
-        Truth::Undefined => false,
-    }
+    matches!(t, Truth::True)
 }
 
 // "and" of what came before and one part more: false if one is false, true if both are true, else undefined.
@@ -57,6 +50,7 @@ fn both(t: Truth, u: Truth) -> Truth
 }
 
 // "or" of what came before and one part more: true if one is true, false if both are false, else undefined.
+// Not one function with 'both': by its dual, 'negated(both(negated(t), negated(u)))', or with the two truths as arguments, it would be no plainer.
 fn either(t: Truth, u: Truth) -> Truth
     ensures { result ≡ Filter.either t u }
 {

@@ -1,9 +1,8 @@
 -- A schema as numbers: the rank of a type, its syntax, whether a value is allowed, and the equality of two values of a syntax.
-use Rattle.std.specs.Prelude.{ℕ, suc, ◌/◌, ◌%◌, ◌<◌, Bool, ◌&&◌, cond, List, [], ◌∷◌, eqb, ltb, length, get_or}
+use Rattle.std.specs.Prelude.{ℕ, suc, ◌/◌, ◌%◌, ◌<◌, Bool, ◌&&◌, cond, List, [], ◌∷◌, eqb, ltb, length, get_or, Some, None}
 use Rattle.rules.specs.Sheet.{Bytes}
 use Rattle.rules.specs.Value.{fits, same}
-use Rattle.rules.specs.declared.Found.{Found}
-use Rattle.rules.specs.declared.Found.TheVariants.{At, Nothing}
+use Rattle.rules.specs.Value.{Found}
 
 -- the types rise, and all are above `n`
 abbrev pub Rising : ℕ → List ℕ → Type 0
@@ -17,7 +16,7 @@ rank_in (k ∷ ks) t = cond (eqb (k / 4) t) 0 (suc (rank_in ks t))
 
 -- the syntax of a type, by its rank
 unfoldable pub syntax_in : List ℕ → ℕ → Found
-syntax_in ks t = cond (ltb (rank_in ks t) (length ks)) (At (get_or ks (rank_in ks t) 0 % 4)) Nothing
+syntax_in ks t = cond (ltb (rank_in ks t) (length ks)) (Some (get_or ks (rank_in ks t) 0 % 4)) None
 
 -- a value of the type of this rank is allowed
 unfoldable pub allowed_at : List ℕ → ℕ → Bytes → Bool

@@ -7,33 +7,29 @@ ghost use Rattle.rules.specs.Value;
 ghost use Rattle.rules.specs.Places.{schema_of};
 ghost use Rattle.name.specs.Schema.{rank_in, syntax_in, allowed_at, equal_by};
 
-use rules::Found;
-
 // The rank of an attribute type in the schema: how many types stand before it; the number of all types if the schema does not have it.
 // The first `from` types are others.
 pub fn rank(schema: &[u64], from: usize, t: u64) -> usize
     requires { from ≤ rank_in schema.now t }
     ensures { result ≡ rank_in schema.now t }
 {
-    let mut i = from;
-    while i < schema.len() {
+    for i in from..schema.len() {
         if schema[i] / 4 == t {
             return i;
         }
-        i += 1;
     }
-    i
+    schema.len()
 }
 
 // The syntax of an attribute type, if the schema has it.
-pub fn syntax_of(schema: &[u64], t: u64) -> Found
+pub fn syntax_of(schema: &[u64], t: u64) -> Option<usize>
     ensures { result ≡ syntax_in schema.now t }
 {
     let r = rank(schema, 0, t);
     if r < schema.len() {
-        return Found::At((schema[r] % 4) as usize);
+        return Some((schema[r] % 4) as usize);
     }
-    Found::Nothing
+    None
 }
 
 // Is the type known?
@@ -41,8 +37,8 @@ pub fn known(schema: &[u64], t: u64) -> bool
     ensures { result ≡ Name.known (schema_of schema.now) t }
 {
     match syntax_of(schema, t) {
-        Found::At(_) => true,
-        Found::Nothing => false,
+        Some(_) => true,
+        None => false,
     }
 }
 
@@ -68,8 +64,8 @@ pub fn ordered(schema: &[u64], t: u64) -> bool
     ensures { result ≡ Name.of_syntax (schema_of schema.now) Value.ordered t }
 {
     match syntax_of(schema, t) {
-        Found::At(s) => value_syntax::ordered(s as u64),
-        Found::Nothing => false,
+        Some(s) => value_syntax::ordered(s as u64),
+        None => false,
     }
 }
 
@@ -90,7 +86,7 @@ pub fn equal(schema: &[u64], t: u64, v: &[u8], u: &[u8]) -> bool
     ensures { result ≡ Name.equal (schema_of schema.now) t v.now u.now }
 {
     match syntax_of(schema, t) {
-        Found::At(s) => equal_by(s as u64, v, u),
-        Found::Nothing => false,
+        Some(s) => equal_by(s as u64, v, u),
+        None => false,
     }
 }

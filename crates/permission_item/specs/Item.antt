@@ -9,8 +9,7 @@ use Rattle.rules.specs.Places.{lines_at, parts_of}
 use Rattle.sheet_line.specs.Line.{bytes_of}
 use Rattle.rules.specs.declared.Format.{Format}
 use Rattle.sheet_due.specs.Lines.{reached_at, after_due, after_group, due_at, group_at}
-use Rattle.sheet_due.specs.declared.Due.{Due}
-use Rattle.sheet_due.specs.declared.Group.{Group}
+use Rattle.sheet_due.specs.Outcomes.{Due, Group}
 use Rattle.permission_item.specs.declared.ItemLines.{ItemLines}
 
 module _ (f : Format) (p : Bytes) (S : Schema) (at : ℕ) where
@@ -32,9 +31,13 @@ module _ (f : Format) (p : Bytes) (S : Schema) (at : ℕ) where
   abbrev pub mask_at : Due
   mask_at = due_at G f.width p (after_due target_at) 8
 
-  -- the lines of the item at `at`
+  -- the refusal number of the item at `at`, 0 where there is none
+  unfoldable pub item_refusal : ℕ
+  item_refusal = mask_at.refusal
+
+  -- its lines, where there is none
   unfoldable pub item_lines : ItemLines
-  item_lines = record { refusal = mask_at.refusal; head = head_at.line; base = base_at.line; user = user_at.line; target = target_at.line; mask = mask_at.line }
+  item_lines = record { head = head_at.line; base = base_at.line; user = user_at.line; target = target_at.line; mask = mask_at.line }
 
 -- the item of these lines
 unfoldable pub item_of : ℕ → Bytes → ItemLines → Item

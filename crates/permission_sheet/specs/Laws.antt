@@ -3,3 +3,4 @@ pub mod Rows
 pub mod ItemRows
 pub mod ItemsRead
 pub mod Misplaced
+pub mod Noted

@@ -1,7 +1,7 @@
 -- What the judge of the permission sheet gives: the refusal number, or the items as rows of numbers. The contract of `judge` is `PermissionsJudged`.
 -- An item has a row of rights (what a question about it touches) and a row of scopes (which entries and which users it is for, by name and level).
 -- Names and values are noted by their positions on the sheet, a value by its digest too.
-use Rattle.std.specs.Prelude.{ℕ, ◌+◌, ◌-◌, ◌*◌, ◌≤◌, ◌<◌, ◌≡◌, List, [], length, get_or, take, drop, replicate}
+use Rattle.std.specs.Prelude.{ℕ, ◌+◌, ◌-◌, ◌*◌, ◌≤◌, ◌<◌, ◌≡◌, List, [], length, get_or, take, drop, replicate, Result, Ok, Err}
 use Rattle.rules.specs.Sheet.{Bytes, bit, lines}
 use Rattle.rules.specs.declared.Format.{Format}
 use Rattle.rules.specs.Name.{Schema}
@@ -10,7 +10,8 @@ use Rattle.rules.specs.Permission.{Item, items, permissions_of}
 use Rattle.rules.specs.Places.{lines_at, parts_of, schema_of}
 use Rattle.rules.specs.Derived.{weight, score, no_item}
 use Rattle.value_syntax.specs.Digest.{digest}
-use Rattle.permission_sheet.specs.declared.NotedItems.{NotedItems}
+use Rattle.rules.specs.Refusals.{refusal_number}
+use Rattle.rules.specs.declared.refusals.Refusal.{Refusal}
 
 -- ---- the numbers of a row, by their places in it
 
@@ -121,6 +122,11 @@ pub record Table (w : ℕ) (p : Bytes) (is : List Item) (rights scopes : List �
   pub rights-rest : drop (length is * RIGHTS) rights ≡ replicate (256 * RIGHTS - length is * RIGHTS) 0
   pub scopes-rest : drop (length is * SCOPES) scopes ≡ replicate (256 * SCOPES - length is * SCOPES) 0
 
+-- the refusal number (0: none), and how many items are noted
+pub record NotedItems : Type 0 where
+  pub refusal : ℕ
+  pub count : ℕ
+
 -- the accepted items `is`
 pub record PermissionsNoted (f : Format) (p : Bytes) (is : List Item) (r : NotedItems) (rights scopes : List ℕ) : Type 0 where
   pub refusal : r.refusal ≡ 0
@@ -131,6 +137,11 @@ pub record PermissionsNoted (f : Format) (p : Bytes) (is : List Item) (r : Noted
 -- nothing but a refusal
 abbrev pub items_refused : ℕ → NotedItems
 items_refused n = record { refusal = n; count = 0 }
+
+-- what a result gives: the number of items, or nothing but the refusal
+abbrev pub noted_of : Result ℕ Refusal → NotedItems
+noted_of (Ok n) = record { refusal = 0; count = n }
+noted_of (Err r) = items_refused (refusal_number r)
 
 -- the rows of the first items of a sheet, as far as it was read
 pub record FirstItems (f : Format) (p : Bytes) (S : Schema) (rights scopes : List ℕ) : Type 0 where

@@ -1,6 +1,6 @@
 -- The rows of an item, and their places among all rows: the definitions that the contracts of this crate cite. That they are what the rules give
 -- is proved in `Laws`.
-use Rattle.std.specs.Prelude.{ℕ, List, [], ◌∷◌, length}
+use Rattle.std.specs.Prelude.{ℕ, List, [], ◌∷◌}
 use Rattle.rules.specs.Sheet.{Bytes}
 use Rattle.value_syntax.specs.Digest.{digest}
 use Rattle.sheet_line.specs.Line.{bytes_of}

@@ -6,13 +6,10 @@ use Rattle.request_piece.specs.Pieces.{on_step, pieces_at}
 use Rattle.sheet_line.specs.declared.Line.{Line}
 use Rattle.sheet_due.specs.Lines.{seen_at, misplaced_by}
 use Rattle.sheet_due.specs.declared.Seen.{Seen}
-use Rattle.sheet_due.specs.declared.Seen.TheVariants as Seen
-use Rattle.request_piece.specs.declared.Progress.{Progress}
-use Rattle.request_piece.specs.declared.Progress.TheVariants as Progress
-use Rattle.request_piece.specs.declared.Progress.TheVariants.{Read}
-use Rattle.request_filter.specs.declared.Node.{Node}
-use Rattle.request_filter.specs.declared.Node.TheVariants as Node
-use Rattle.request_filter.specs.declared.Node.TheVariants.{Operator, Item}
+use Rattle.request_piece.specs.Progress.{Progress}
+use Rattle.request_piece.specs.Progress.{Read}
+use Rattle.request_filter.specs.Node.{Node}
+use Rattle.request_filter.specs.Node.{Operator, Item}
 
 -- pieces that were read make an item
 abbrev pub item_node : Progress → Node

@@ -4,19 +4,26 @@ use Rattle.rules.specs.Sheet.{Bytes}
 use Rattle.rules.specs.Judge.{Grammar}
 use Rattle.sheet_line.specs.declared.Line.{Line}
 use Rattle.sheet_due.specs.Lines.{reached_at, after_due, after_group, no_line, due_at, group_at}
-use Rattle.sheet_due.specs.declared.Due.{Due}
-use Rattle.sheet_due.specs.declared.Reached.{Reached}
-use Rattle.sheet_due.specs.declared.Group.{Group}
+use Rattle.sheet_due.specs.Outcomes.{Due, Reached, Group}
 use Rattle.request_filter.specs.Filters.{filter_at}
-use Rattle.request_piece.specs.declared.Progress.{Progress}
-use Rattle.request_piece.specs.declared.Progress.TheVariants.{Read, Refused}
+use Rattle.request_piece.specs.Progress.{Progress}
+use Rattle.request_piece.specs.Progress.{Read, Refused}
 use Rattle.request_operation.specs.declared.Body.{Body}
-use Rattle.request_operation.specs.declared.SearchLines.{SearchLines}
+
+-- the lines of an operation, or the refusal number (0: none)
+pub record BodyDue : Type 0 where
+  pub refusal : ℕ
+  pub body : Body
+
+-- the lines that say of which entries a search is and how they are ordered: K 16, 0 where there is none, and K 15 or the refusal
+pub record SearchLines : Type 0 where
+  pub ordering : Line
+  pub subset : Due
 
 -- K 12, K 14, K 16 and K 15, up to `e`
-abbrev pub body_of : Reached → Line → Line → Line → Line → Body
+abbrev pub body_of : Reached → Line → Line → Line → Line → BodyDue
 body_of e selection assertion ordering subset =
-    record { refusal = e.refusal; selection = selection; assertion = assertion; ordering = ordering; subset = subset; next = e.next }
+    record { refusal = e.refusal; body = record { selection = selection; assertion = assertion; ordering = ordering; subset = subset; next = e.next } }
 
 -- the position after a filter, or its refusal
 abbrev pub reached_by : Progress → Reached
@@ -24,7 +31,7 @@ reached_by (Read next left) = reached_at next
 reached_by (Refused n) = record { refusal = n; next = 0 }
 
 -- a list has no more lines
-abbrev pub list_at : ℕ → Body
+abbrev pub list_at : ℕ → BodyDue
 list_at at = body_of (reached_at at) no_line no_line no_line no_line
 
 module _ (G : Grammar) (w : ℕ) (q : Bytes) where
@@ -52,15 +59,15 @@ module _ (G : Grammar) (w : ℕ) (q : Bytes) where
     abbrev pub search_scope : SearchLines
     search_scope = search_lines_at (after_group selection_at)
 
-    unfoldable pub read_at : Body
+    unfoldable pub read_at : BodyDue
     read_at = body_of (after_group selection_at) selection_at.line no_line no_line no_line
 
-    unfoldable pub compare_at : Body
+    unfoldable pub compare_at : BodyDue
     compare_at = body_of (after_due assertion_at) no_line assertion_at.line no_line no_line
 
-    unfoldable pub search_at : Body
+    unfoldable pub search_at : BodyDue
     search_at = body_of (filter_from (after_due search_scope.subset)) selection_at.line no_line search_scope.ordering search_scope.subset.line
 
     -- by the operation
-    unfoldable pub body_at : ℕ → Body
+    unfoldable pub body_at : ℕ → BodyDue
     body_at op = cond (eqb op 1) read_at (cond (eqb op 2) compare_at (cond (eqb op 3) (list_at at) search_at))

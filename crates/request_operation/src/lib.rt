@@ -4,20 +4,21 @@
 ghost use Rattle.std.specs.Prelude.{◌≡◌};
 ghost use Rattle.rules.specs.Sheet.{Usable};
 ghost use Rattle.rules.specs.Request.{request_grammar};
-ghost use Rattle.request_operation.specs.Operations.{body_of, reached_by, filter_from, read_at, compare_at, list_at, search_lines_at, search_at, body_at};
+ghost use Rattle.sheet_due.specs.Lines.{reached_at};
+ghost use Rattle.sheet_due.specs.Outcomes.{Gives};
+ghost use Rattle.request_operation.specs.Operations.{read_at, compare_at, list_at, search_lines_at, search_at, body_at};
 
 use request_filter::filter_at;
-use request_piece::Progress;
+use rules::refusals::Refusal;
 use rules::{Format, operation};
 use sheet_due::grammar::Grammar;
-use sheet_due::{Due, Reached, after_due, after_group, due_at, group_at, no_line, reached_at};
+use sheet_due::{due_at, group_at, no_line};
 use sheet_kind::Kind;
 use sheet_line::Line;
 
-// The lines, each 0 where the operation has none, and the position after them; or the refusal (0: none).
+// The lines, each 0 where the operation has none, and the position after them.
 #[derive(Clone, Copy)]
 pub struct Body {
-    pub refusal: u64,
     // K 12, which its K 13 follow.
     pub selection: Line,
     // K 14.
@@ -29,139 +30,116 @@ pub struct Body {
     pub next: usize,
 }
 
-// The lines that say of which entries a search is and how they are ordered: K 16, 0 where there is none, and K 15 or the refusal.
+// The lines that say of which entries a search is and how they are ordered: K 16, 0 where there is none, and K 15.
 #[derive(Drop)]
 pub struct SearchLines {
     pub ordering: Line,
-    pub subset: Due,
-}
-
-// The lines up to `end`.
-fn body_of(end: Reached, selection: Line, assertion: Line, ordering: Line, subset: Line) -> Body
-    ensures { result ≡ body_of end selection assertion ordering subset }
-{
-    Body {
-        refusal: end.refusal,
-        selection,
-        assertion,
-        ordering,
-        subset,
-        next: end.next,
-    }
-}
-
-// The position after a filter, or its refusal.
-fn reached_by(step: Progress) -> Reached
-    ensures { result ≡ reached_by step }
-{
-    match step {
-        Progress::Read { next, .. } => reached_at(next),
-        Progress::Refused(number) => Reached {
-            refusal: number,
-            next: 0,
-        },
-    }
-}
-
-// The filter, unless there is a refusal already.
-fn filter_from(q: &[u8], f: Format, from: Reached) -> Reached
-    requires { Usable f }
-    ensures { result ≡ filter_from (request_grammar f.top) f.width q.now from }
-{
-    if from.refusal != 0 {
-        return from;
-    }
-    reached_by(filter_at(q, from.next, f, 16, 128))
+    pub subset: Line,
 }
 
 // A read: K 12 with its K 13.
-fn read_at(q: &[u8], f: Format, at: usize) -> Body
+fn read_at(q: &[u8], f: Format, at: usize) -> Result<Body, Refusal>
     requires { Usable f }
-    ensures { result ≡ read_at (request_grammar f.top) f.width q.now at }
+    ensures { let b = read_at (request_grammar f.top) f.width q.now at in Gives result b.refusal b.body }
 {
     let group = group_at(
         q,
         f,
         Grammar::Request,
         &[],
-        reached_at(at),
+        at,
         Kind::Selection,
         Kind::SelectedType,
-    );
-    body_of(
-        after_group(group),
-        group.line,
-        no_line(),
-        no_line(),
-        no_line(),
-    )
+    )?;
+    Ok(Body {
+        selection: group.line,
+        assertion: no_line(),
+        ordering: no_line(),
+        subset: no_line(),
+        next: group.next,
+    })
 }
 
 // A compare: K 14.
-fn compare_at(q: &[u8], f: Format, at: usize) -> Body
+fn compare_at(q: &[u8], f: Format, at: usize) -> Result<Body, Refusal>
     requires { Usable f }
-    ensures { result ≡ compare_at (request_grammar f.top) f.width q.now at }
+    ensures { let b = compare_at (request_grammar f.top) f.width q.now at in Gives result b.refusal b.body }
 {
-    let due = due_at(q, f, Grammar::Request, &[], reached_at(at), Kind::Assertion);
-    body_of(after_due(due), no_line(), due.line, no_line(), no_line())
+    let assertion = due_at(q, f, Grammar::Request, &[], at, Kind::Assertion)?;
+    Ok(Body {
+        selection: no_line(),
+        assertion,
+        ordering: no_line(),
+        subset: no_line(),
+        next: assertion.next,
+    })
 }
 
 // A list has no more lines.
 fn list_at(at: usize) -> Body
-    ensures { result ≡ list_at at }
+    ensures { result ≡ (list_at at).body }
 {
-    body_of(reached_at(at), no_line(), no_line(), no_line(), no_line())
+    Body {
+        selection: no_line(),
+        assertion: no_line(),
+        ordering: no_line(),
+        subset: no_line(),
+        next: at,
+    }
 }
 
 // K 15, and K 16 before it where there is one. K 15 is read first: most searches have no K 16.
-fn search_lines(q: &[u8], f: Format, from: Reached) -> SearchLines
+fn search_lines(q: &[u8], f: Format, at: usize) -> Result<SearchLines, Refusal>
     requires { Usable f }
-    ensures { result ≡ search_lines_at (request_grammar f.top) f.width q.now from }
+    ensures { let x = search_lines_at (request_grammar f.top) f.width q.now (reached_at at) in Gives result x.subset.refusal (record { ordering = x.ordering; subset = x.subset.line }) }
 {
-    let first = due_at(q, f, Grammar::Request, &[], from, Kind::Subset);
-    if first.refusal == 0 {
-        return SearchLines {
+    match due_at(q, f, Grammar::Request, &[], at, Kind::Subset) {
+        Ok(subset) => Ok(SearchLines {
             ordering: no_line(),
-            subset: first,
-        };
-    }
-    let due = due_at(q, f, Grammar::Request, &[], from, Kind::Ordering);
-    let ordering = due.line;
-    SearchLines {
-        ordering,
-        subset: due_at(q, f, Grammar::Request, &[], after_due(due), Kind::Subset),
+            subset,
+        }),
+        Err(_) => {
+            let ordering = due_at(q, f, Grammar::Request, &[], at, Kind::Ordering)?;
+            let subset = due_at(q, f, Grammar::Request, &[], ordering.next, Kind::Subset)?;
+            Ok(SearchLines { ordering, subset })
+        }
     }
 }
 
 // A search: K 12 with its K 13, K 16 where there is one, K 15, and the filter.
-fn search_at(q: &[u8], f: Format, at: usize) -> Body
+fn search_at(q: &[u8], f: Format, at: usize) -> Result<Body, Refusal>
     requires { Usable f }
-    ensures { result ≡ search_at (request_grammar f.top) f.width q.now at }
+    ensures { let b = search_at (request_grammar f.top) f.width q.now at in Gives result b.refusal b.body }
 {
     let group = group_at(
         q,
         f,
         Grammar::Request,
         &[],
-        reached_at(at),
+        at,
         Kind::Selection,
         Kind::SelectedType,
-    );
-    let scope = search_lines(q, f, after_group(group));
-    let due = scope.subset;
-    let end = filter_from(q, f, after_due(due));
-    body_of(end, group.line, no_line(), scope.ordering, due.line)
+    )?;
+    let scope = search_lines(q, f, group.next)?;
+    let end = filter_at(q, scope.subset.next, f, 16, 128)?;
+    Ok(Body {
+        selection: group.line,
+        assertion: no_line(),
+        ordering: scope.ordering,
+        subset: scope.subset,
+        next: end.next,
+    })
 }
 
 // The lines of the operation `op`, from a position on.
-pub fn body_at(q: &[u8], f: Format, at: usize, op: u64) -> Body
+pub fn body_at(q: &[u8], f: Format, at: usize, op: u64) -> Result<Body, Refusal>
     requires { Usable f }
-    ensures { result ≡ body_at (request_grammar f.top) f.width q.now at op }
+    ensures { let b = body_at (request_grammar f.top) f.width q.now at op in Gives result b.refusal b.body }
 {
     match op {
         operation::READ => read_at(q, f, at),
         operation::COMPARE => compare_at(q, f, at),
-        operation::LIST => list_at(at),
+        operation::LIST => Ok(list_at(at)),
         _ => search_at(q, f, at),
     }
 }

@@ -1,2 +1,3 @@
+pub mod Progress
 pub mod Pieces
 pub mod Laws

@@ -5,10 +5,8 @@ use Rattle.rules.specs.Judge.{Grammar}
 use Rattle.sheet_line.specs.declared.Line.{Line}
 use Rattle.sheet_due.specs.Lines.{seen_at}
 use Rattle.sheet_due.specs.declared.Seen.{Seen}
-use Rattle.sheet_due.specs.declared.Seen.TheVariants as Seen
-use Rattle.request_piece.specs.declared.Progress.{Progress}
-use Rattle.request_piece.specs.declared.Progress.TheVariants as Progress
-use Rattle.request_piece.specs.declared.Progress.TheVariants.{Read}
+use Rattle.request_piece.specs.Progress.{Progress}
+use Rattle.request_piece.specs.Progress.{Read}
 
 -- what follows, or the refusal
 abbrev pub on_step : Progress → (ℕ → ℕ → Progress) → Progress

@@ -4,18 +4,20 @@
 ghost use Rattle.std.specs.Prelude.{◌≡◌, true};
 ghost use Rattle.rules.specs.Sheet.{Usable};
 ghost use Rattle.rules.specs.Request.{request_grammar};
+ghost use Rattle.request_piece.specs.Progress.{progress_of};
 ghost use Rattle.request_piece.specs.Pieces.{in_place, piece_of, piece_by, piece_at, pieces_at};
 
-use rules::{Format, refusal};
+use rules::Format;
+use rules::refusals::Refusal;
 use sheet_due::{Seen, seen_at};
 use sheet_kind::{Kind, is};
 use sheet_line::Line;
 
-// A part of a filter that was read, up to `next`, with `left` more lines allowed; or the refusal.
-#[derive(Drop)]
-pub enum Progress {
-    Read { next: usize, left: u64 },
-    Refused(u64),
+// How far a part of a filter was read: up to `next`, with `left` more lines allowed.
+#[derive(Clone, Copy)]
+pub struct Step {
+    pub next: usize,
+    pub left: u64,
 }
 
 // A piece of place `a`: an initial one is the first, a final one has none after it.
@@ -30,71 +32,64 @@ fn in_place(a: u64, first: bool, after: u64) -> bool
 }
 
 // An allowed line where a piece is due.
-fn piece_of(first: bool, after: u64, left: u64, line: Line) -> Progress
-    ensures { result ≡ piece_of 20 first after left line }
+fn piece_of(first: bool, after: u64, left: u64, line: Line) -> Result<Step, Refusal>
+    ensures { progress_of result ≡ piece_of 20 first after left line }
 {
     if !is(line.kind, Kind::Piece) {
-        return Progress::Refused(refusal::REQUEST_OUT_OF_ORDER);
+        return Err(Refusal::RequestOutOfOrder);
     }
     if in_place(line.a, first, after) {
-        Progress::Read {
+        Ok(Step {
             next: line.next,
             left,
-        }
+        })
     } else {
-        Progress::Refused(refusal::REQUEST_OUT_OF_ORDER)
+        Err(Refusal::RequestOutOfOrder)
     }
 }
 
 // What was seen where a piece is due.
-fn piece_by(first: bool, after: u64, left: u64, seen: Seen) -> Progress
-    ensures { result ≡ piece_by 20 first after left seen }
+fn piece_by(first: bool, after: u64, left: u64, seen: Seen) -> Result<Step, Refusal>
+    ensures { progress_of result ≡ piece_by 20 first after left seen }
 {
     match seen {
         Seen::Line(line) => {
             if left == 0 {
-                Progress::Refused(refusal::REQUEST_OUT_OF_ORDER)
+                Err(Refusal::RequestOutOfOrder)
             } else {
                 piece_of(first, after, left - 1, line)
             }
         }
-        Seen::NotAllowed => Progress::Refused(refusal::REQUEST_NOT_ALLOWED),
-        Seen::Missing => Progress::Refused(refusal::REQUEST_OUT_OF_ORDER),
+        Seen::NotAllowed => Err(Refusal::RequestNotAllowed),
+        Seen::Missing => Err(Refusal::RequestOutOfOrder),
     }
 }
 
 // A piece at a position, with `after` pieces after it.
-fn piece_at(q: &[u8], at: usize, f: Format, first: bool, after: u64, left: u64) -> Progress
+fn piece_at(
+    q: &[u8],
+    at: usize,
+    f: Format,
+    first: bool,
+    after: u64,
+    left: u64,
+) -> Result<Step, Refusal>
     requires { Usable f }
-    ensures { result ≡ piece_at (request_grammar f.top) f.width q.now first after at left }
+    ensures { progress_of result ≡ piece_at (request_grammar f.top) f.width q.now first after at left }
 {
     piece_by(first, after, left, seen_at(q, f, at))
 }
 
 // `count` pieces from a position on.
-pub fn pieces_at(q: &[u8], at: usize, f: Format, count: u64, left: u64) -> Progress
+pub fn pieces_at(q: &[u8], at: usize, f: Format, count: u64, left: u64) -> Result<Step, Refusal>
     requires { Usable f }
-    ensures { result ≡ pieces_at (request_grammar f.top) f.width q.now true count at left }
+    ensures { progress_of result ≡ pieces_at (request_grammar f.top) f.width q.now true count at left }
 {
-    let mut pos = at;
-    let mut room = left;
+    let mut step = Step { next: at, left };
     let mut first = true;
-    let mut n = count;
-    while 0 < n {
-        match piece_at(q, pos, f, first, n - 1, room) {
-            Progress::Read { next, left } => {
-                pos = next;
-                room = left;
-            }
-            Progress::Refused(number) => {
-                return Progress::Refused(number);
-            }
-        }
+    for after in (0..count).rev() {
+        step = piece_at(q, step.next, f, first, after, step.left)?;
         first = false;
-        n -= 1;
     }
-    Progress::Read {
-        next: pos,
-        left: room,
-    }
+    Ok(step)
 }

@@ -1,11 +1,13 @@
--- What `judge` promises: the refusal number of the rules, and, of an accepted request, where everything stands that was asked.
-use Rattle.std.specs.Prelude.{ℕ, ◌+◌, ◌≤◌, ◌≡◌, false, length, take, drop}
+-- What `judge` promises: the refusal of the rules, and, of an accepted request, where everything stands that was asked.
+use Rattle.std.specs.Prelude.{ℕ, ◌+◌, ◌≤◌, ◌≡◌, false, length, take, drop, Result, Ok, Err}
 use Rattle.rules.specs.Sheet.{Bytes}
 use Rattle.rules.specs.Name.{Schema, Name}
 use Rattle.rules.specs.declared.Format.{Format}
-use Rattle.rules.specs.Judge.{accept, refusal_of, Grammar}
+use Rattle.rules.specs.Judge.{accept, refuse, Grammar}
 use Rattle.rules.specs.Request.{Selection, Search, Operation, read, compare, list, search, Request, request_grammar, request_of, filter}
 use Rattle.rules.specs.Places.{lines_at, parts_of, types_of, ordering_by}
+use Rattle.rules.specs.Refusals.{refusal_number}
+use Rattle.rules.specs.declared.refusals.Refusal.{Refusal}
 use Rattle.rules.specs.declared.Edition.TheVariants.{LaterLogic}
 use Rattle.request_sheet.specs.declared.Asked.{Asked}
 
@@ -96,37 +98,7 @@ pub record RequestNoted (G : Grammar) (w : ℕ) (q : Bytes) (x : Request) (r : A
   pub operation : NotedOperation G w q x.operation r
   pub short : length q ≤ 8192
 
--- nothing is asked: the refusal `n`
-abbrev pub request_refused : ℕ → Asked
-request_refused n =
-    record {
-      refusal = n;
-      level = 0;
-      requester = 0;
-      requester_parts = 0;
-      operation = 0;
-      base = 0;
-      base_parts = 0;
-      limit = 0;
-      listed = false;
-      types = 0;
-      types_listed = 0;
-      values = false;
-      attribute = 0;
-      value = 0;
-      length = 0;
-      order_type = 0;
-      falling = false;
-      subset = 0;
-      filter = 0;
-      edition = LaterLogic;
-    }
-
--- the result `r` for the sheet `q` in the format `f` under the schema `S`: the refusal of the rules, and what is noted of a request that they accept
-pub record RequestJudged (f : Format) (S : Schema) (q : Bytes) (r : Asked) : Type 0 where
-  pub refusal : r.refusal ≡ refusal_of (request_of f S q)
-  pub noted : (x : Request) → request_of f S q ≡ accept x → RequestNoted (request_grammar f.top) f.width q x r
-  -- no refusal is an acceptance
-  pub accepted : r.refusal ≡ 0 → (x : Request) × (request_of f S q ≡ accept x)
-  -- of a refused request nothing is noted
-  pub nothing : (r.refusal ≡ 0 → ⊥) → r ≡ request_refused r.refusal
+-- the result for the sheet `q` in the format `f` under the schema `S`: what is noted of the request that the rules accept, or their refusal
+abbrev pub RequestJudged : Format → Schema → Bytes → Result Asked Refusal → Type 0
+RequestJudged f S q (Ok a) = (x : Request) × (request_of f S q ≡ accept x) × RequestNoted (request_grammar f.top) f.width q x a
+RequestJudged f S q (Err r) = request_of f S q ≡ refuse (refusal_number r)

@@ -1,4 +1,4 @@
-// A request sheet judged: the refusal number that the rules give, or 0 with the positions and numbers that answering needs.
+// A request sheet judged: the refusal that the rules give, or the positions and numbers that answering needs.
 // Nothing is copied: names, types, the value and the filter stay in the sheet, noted by position.
 #![tactic(auto)]
 
@@ -6,20 +6,20 @@ ghost use Rattle.std.specs.Prelude.{◌≡◌};
 ghost use Rattle.rules.specs.Sheet.{Usable};
 ghost use Rattle.rules.specs.Request.{request_grammar};
 ghost use Rattle.rules.specs.Places.{schema_of};
-ghost use Rattle.request_sheet.specs.Noted.{request_refused, RequestJudged};
-ghost use Rattle.request_sheet.specs.Whole.{edition_in, asked, end_by, with_body, asked_of, orderable_by};
+ghost use Rattle.request_sheet.specs.Noted.{RequestJudged};
+ghost use Rattle.request_sheet.specs.Whole.{numbered, edition_in, asked, end_by, asked_of, orderable_by};
 
 use request_operation::{Body, body_at};
-use rules::{Edition, Format, operation, refusal};
+use rules::refusals::Refusal;
+use rules::{Edition, Format, operation};
 use sheet_due::grammar::Grammar;
-use sheet_due::{Seen, after_group, group_at, reached_at, seen_at};
+use sheet_due::{Seen, group_at, seen_at};
 use sheet_kind::Kind;
 use sheet_line::Line;
 
-// What a request asks. Of a refused one, all but the refusal is 0; of an accepted one, what its operation does not have is 0.
+// What a request asks. What its operation does not have is 0, and no `Option`: so `NoSelection`, `NoAssertion` and `NoFilter` of `RequestNoted` say.
 #[derive(Clone, Copy)]
 pub struct Asked {
-    pub refusal: u64,
     pub level: u64,
     // The position of the first K 9 line, and how many there are.
     pub requester: usize,
@@ -46,34 +46,6 @@ pub struct Asked {
     pub edition: Edition,
 }
 
-// Nothing is asked: the refusal.
-fn refuse(refusal: u64) -> Asked
-    ensures { result ≡ request_refused refusal }
-{
-    Asked {
-        refusal,
-        level: 0,
-        requester: 0,
-        requester_parts: 0,
-        operation: 0,
-        base: 0,
-        base_parts: 0,
-        limit: 0,
-        listed: false,
-        types: 0,
-        types_listed: 0,
-        values: false,
-        attribute: 0,
-        value: 0,
-        length: 0,
-        order_type: 0,
-        falling: false,
-        subset: 0,
-        filter: 0,
-        edition: Edition::LaterLogic,
-    }
-}
-
 // The edition that a search is asked in, by column C of K 10; other operations have none.
 fn edition_in(op: u64, c: u64) -> Edition
     ensures { result ≡ edition_in op c }
@@ -92,7 +64,6 @@ fn accept(requester: Line, base: Line, body: Body) -> Asked
     ensures { result ≡ asked requester base body }
 {
     Asked {
-        refusal: 0,
         level: requester.a,
         requester: requester.next,
         requester_parts: requester.b as usize,
@@ -116,70 +87,57 @@ fn accept(requester: Line, base: Line, body: Body) -> Asked
 }
 
 // What was seen after the last line that was due.
-fn end_by(requester: Line, base: Line, body: Body, seen: Seen) -> Asked
-    ensures { result ≡ end_by 20 requester base body seen }
+fn end_by(requester: Line, base: Line, body: Body, seen: Seen) -> Result<Asked, Refusal>
+    ensures { numbered result ≡ end_by 20 requester base body seen }
 {
     match seen {
-        Seen::Line(_) => refuse(refusal::REQUEST_OUT_OF_ORDER),
-        Seen::NotAllowed => refuse(refusal::REQUEST_NOT_ALLOWED),
-        Seen::Missing => accept(requester, base, body),
+        Seen::Line(_) => Err(Refusal::RequestOutOfOrder),
+        Seen::NotAllowed => Err(Refusal::RequestNotAllowed),
+        Seen::Missing => Ok(accept(requester, base, body)),
     }
-}
-
-// The operation's lines, then the end of the sheet.
-fn with_body(q: &[u8], f: Format, requester: Line, base: Line, body: Body) -> Asked
-    requires { Usable f }
-    ensures { result ≡ with_body (request_grammar f.top) f.width q.now requester base body }
-{
-    if body.refusal != 0 {
-        return refuse(body.refusal);
-    }
-    end_by(requester, base, body, seen_at(q, f, body.next))
 }
 
 // The sheet line by line: requester, base, the operation's lines, the end.
-fn asked_of(q: &[u8], f: Format) -> Asked
+fn asked_of(q: &[u8], f: Format) -> Result<Asked, Refusal>
     requires { Usable f }
-    ensures { result ≡ asked_of (request_grammar f.top) f.width q.now }
+    ensures { numbered result ≡ asked_of (request_grammar f.top) f.width q.now }
 {
     if 8192 < q.len() {
-        return refuse(refusal::REQUEST_TOO_LONG);
+        return Err(Refusal::RequestTooLong);
     }
     let g = Grammar::Request;
-    let requester = group_at(q, f, g, &[], reached_at(0), Kind::Requester, Kind::NamePart);
+    let requester = group_at(q, f, g, &[], 0, Kind::Requester, Kind::NamePart)?;
     let base = group_at(
         q,
         f,
         g,
         &[],
-        after_group(requester),
+        requester.next,
         Kind::Operation,
         Kind::NamePart,
-    );
-    if base.refusal != 0 {
-        return refuse(base.refusal);
-    }
-    let body = body_at(q, f, base.next, base.line.a);
-    with_body(q, f, requester.line, base.line, body)
+    )?;
+    let body = body_at(q, f, base.next, base.line.a)?;
+    end_by(requester.line, base.line, body, seen_at(q, f, body.next))
 }
 
 // The request, unless its entries are to be ordered by a type that is unknown or has no order.
-fn orderable(schema: &[u64], asked: Asked) -> Asked
-    ensures { result ≡ orderable_by (schema_of schema.now) asked }
+fn orderable(schema: &[u64], asked: Asked) -> Result<Asked, Refusal>
+    ensures { numbered result ≡ orderable_by (schema_of schema.now) asked }
 {
     if asked.order_type == 0 {
-        return asked;
+        return Ok(asked);
     }
     if name::ordered(schema, asked.order_type) {
-        return asked;
+        return Ok(asked);
     }
-    refuse(refusal::TYPE_WITHOUT_ORDER)
+    Err(Refusal::TypeWithoutOrder)
 }
 
 // The request in the sheet `q`, in the format `f`, under the schema of the directory.
-pub fn judge(q: &[u8], f: Format, schema: &[u64]) -> Asked
+pub fn judge(q: &[u8], f: Format, schema: &[u64]) -> Result<Asked, Refusal>
     requires { Usable f }
     ensures { RequestJudged f (schema_of schema.now) q.now result }
 {
-    orderable(schema, asked_of(q, f))
+    let asked = asked_of(q, f)?;
+    orderable(schema, asked)
 }

@@ -28,8 +28,8 @@ use Rattle.rules.specs.declared.Edition.{Edition}
 use Rattle.rules.specs.declared.Edition.TheVariants.{LaterLogic}
 use Rattle.rules.specs.declared.Truth.{Truth}
 use Rattle.rules.specs.declared.Truth.TheVariants.{True, False, Undefined}
-use Rattle.rules.specs.declared.Order.{Order}
-use Rattle.rules.specs.declared.Order.TheVariants.{Less}
+use Rattle.std.specs.declared.cmp.Ordering.{Ordering}
+use Rattle.std.specs.declared.cmp.Ordering.TheVariants.{Less}
 
 -- the bytes of a text of ASCII characters
 abbrev pub bytes_of : String → Bytes
@@ -49,7 +49,7 @@ pub data Example : Type 0 where
   -- these items decide for the requester with the name Ann, of level 0, on the entry Bob
   decided : List Item → Bool → Example
   -- two values of a syntax compare so
-  compared : ℕ → String → String → Order → Example
+  compared : ℕ → String → String → Ordering → Example
   -- "any" pieces stand in a text
   contained : List String → String → Bool → Example
   -- a syntax allows a value

@@ -27,7 +27,7 @@ use Rattle.rules.specs.Answer
 use Rattle.rules.specs.Serve.{exchange, above, judged_at, serve_at, ground, tighter, capped, within, respond, fitting}
 use Rattle.rules.specs.declared.Edition.TheVariants.{FirstEdition}
 use Rattle.rules.specs.declared.Truth.TheVariants.{True, False, Undefined}
-use Rattle.rules.specs.declared.Order.TheVariants.{Less, Equal, Greater}
+use Rattle.std.specs.declared.cmp.Ordering.TheVariants.{Less, Equal, Greater}
 use Rattle.rules.proofs.Examples.{sheet_of, Example, both, either, compared, contained, All, open'}
 
 -- ---- #104, the first edition

@@ -32,3 +32,4 @@ pub mod EntriesLow
 pub mod AnswerLow
 pub mod FormsAlike
 pub mod Theorems
+pub mod Refusals

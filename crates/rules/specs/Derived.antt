@@ -4,8 +4,8 @@ use Rattle.std.specs.Prelude.{ℕ, ◌+◌, ◌*◌, ◌≤◌, ◌<◌, ◌≡�
 use Rattle.std.proofs.Math.Option.{Option, none, some}
 use Rattle.rules.specs.Lists.{given}
 use Rattle.rules.specs.Sheet.{Bytes}
-use Rattle.rules.specs.declared.Order.{Order}
-use Rattle.rules.specs.declared.Order.TheVariants.{Less, Equal, Greater}
+use Rattle.std.specs.declared.cmp.Ordering.{Ordering}
+use Rattle.std.specs.declared.cmp.Ordering.TheVariants.{Less, Equal, Greater}
 use Rattle.rules.specs.Value.{Piece, normal_piece}
 use Rattle.rules.specs.Name.{Schema, Name, allowed, same_part}
 use Rattle.rules.specs.Directory.{Stored, blank, name_at, under_alias}
@@ -31,7 +31,7 @@ put_at d at s = (take at d ++ s) ++ drop (at + length s) d
 -- ---- values
 
 -- the order turned round
-abbrev pub reversed : Order → Order
+abbrev pub reversed : Ordering → Ordering
 reversed Less = Greater
 reversed Equal = Equal
 reversed Greater = Less

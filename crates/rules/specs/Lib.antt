@@ -19,3 +19,4 @@ pub mod Shown
 pub mod Theorems
 pub mod Derived
 pub mod Places
+pub mod Refusals

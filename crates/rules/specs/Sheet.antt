@@ -1,10 +1,8 @@
 -- Document 01, "Sheets": a sheet of bytes as lines, and lines as bytes. The width of a column is a parameter, `w`: what holds of a line leaves it
 -- open (#109).
-use Rattle.std.specs.Prelude.{ℕ, zero, suc, ◌+◌, ◌-◌, ◌*◌, ◌/◌, ◌%◌, ◌≤◌, ◌<◌, Bool, true, false, cond, List, [], ◌∷◌, ◌++◌, leb, ltb, eqb, length, get_or, take, drop}
+use Rattle.std.specs.Prelude.{ℕ, zero, suc, ◌+◌, ◌-◌, ◌*◌, ◌/◌, ◌%◌, ◌≤◌, ◌<◌, Bool, true, false, cond, List, [], ◌∷◌, ◌++◌, leb, ltb, eqb, length, get_or, take, drop, Option, Some, None}
 use Rattle.rules.specs.Lists.{gather}
 use Rattle.rules.specs.declared.Format.{Format}
-use Rattle.rules.specs.declared.Column.{Column}
-use Rattle.rules.specs.declared.Column.TheVariants.{Number, Malformed}
 use Rattle.rules.specs.declared.Front.{Front}
 use Rattle.rules.specs.declared.Front.TheVariants.{Taken, NotInForm, End}
 
@@ -51,6 +49,10 @@ pub record Usable (f : Format) : Type 0 where
 
 -- ---- a column read
 
+-- the number of a column, none where it is not in form
+abbrev pub Column : Type 0
+Column = Option ℕ
+
 -- "spaces on the left": what is left after them
 unfoldable pub strip : Bytes → Bytes
 strip [] = []
@@ -58,14 +60,14 @@ strip (b ∷ bs) = cond (eqb b 32) (strip bs) (b ∷ bs)
 
 -- the decimal digits `bs` after the number `v`
 unfoldable pub digits : ℕ → Bytes → Column
-digits v [] = Number v
-digits v (b ∷ bs) = cond (leb 48 b) (cond (leb b 57) (digits (v * 10 + (b - 48)) bs) Malformed) Malformed
+digits v [] = Some v
+digits v (b ∷ bs) = cond (leb 48 b) (cond (leb b 57) (digits (v * 10 + (b - 48)) bs) None) None
 
 -- "no leading zero, zero is one 0"
 unfoldable pub numeral : Bytes → Column
-numeral [] = Malformed
+numeral [] = None
 numeral (b ∷ []) = digits 0 (b ∷ [])
-numeral (b ∷ (c ∷ bs)) = cond (eqb b 48) Malformed (digits 0 (b ∷ (c ∷ bs)))
+numeral (b ∷ (c ∷ bs)) = cond (eqb b 48) None (digits 0 (b ∷ (c ∷ bs)))
 
 -- "right-justified"
 unfoldable pub column_of : Bytes → Column
@@ -79,12 +81,12 @@ column_at w i s = take w (drop (i * w) s)
 
 -- the five numbers, "then L bytes (L 0 to 64), then byte 10"
 unfoldable pub whole : ℕ → Bytes → Column → Column → Column → Column → Column → Front
-whole w s Malformed fa fb fc fl = NotInForm
-whole w s (Number k) Malformed fb fc fl = NotInForm
-whole w s (Number k) (Number a) Malformed fc fl = NotInForm
-whole w s (Number k) (Number a) (Number b) Malformed fl = NotInForm
-whole w s (Number k) (Number a) (Number b) (Number c) Malformed = NotInForm
-whole w s (Number k) (Number a) (Number b) (Number c) (Number l) =
+whole w s None fa fb fc fl = NotInForm
+whole w s (Some k) None fb fc fl = NotInForm
+whole w s (Some k) (Some a) None fc fl = NotInForm
+whole w s (Some k) (Some a) (Some b) None fl = NotInForm
+whole w s (Some k) (Some a) (Some b) (Some c) None = NotInForm
+whole w s (Some k) (Some a) (Some b) (Some c) (Some l) =
     cond (leb l 64) (cond (ltb (5 * w + l) (length s)) (cond (eqb (get_or s (5 * w + l) 0) 10) (Taken k a b c l) NotInForm) NotInForm) NotInForm
 
 -- what stands at the front of a sheet's rest

@@ -1,16 +1,10 @@
 -- Document 01, "Values": the three syntaxes, by their numbers in K 1. Text is compared with #102's blanks (document 02).
-use Rattle.std.specs.Prelude.{ℕ, ◌+◌, ◌-◌, Bool, true, false, ◌&&◌, not, cond, List, [], ◌∷◌, map, leb, ltb, eqb, length, drop, ℤ, pos, neg_ℤ}
+use Rattle.std.specs.Prelude.{ℕ, ◌+◌, ◌-◌, Bool, true, false, ◌&&◌, not, cond, List, [], ◌∷◌, map, leb, ltb, eqb, length, drop, ℤ, pos, neg_ℤ, Option, Some, None}
 use Rattle.std.specs.Int.Signed.{lt_z}
 use Rattle.rules.specs.Lists.{all, is_empty}
-use Rattle.rules.specs.Sheet.{Bytes, numeral, strip}
-use Rattle.rules.specs.declared.Column.{Column}
-use Rattle.rules.specs.declared.Column.TheVariants.{Number, Malformed}
-use Rattle.rules.specs.declared.Found.{Found}
-use Rattle.rules.specs.declared.Found.TheVariants.{At, Nothing}
-use Rattle.rules.specs.declared.Integer.{Integer}
-use Rattle.rules.specs.declared.Integer.TheVariants.{Value, NotAnInteger}
-use Rattle.rules.specs.declared.Order.{Order}
-use Rattle.rules.specs.declared.Order.TheVariants.{Less, Equal, Greater}
+use Rattle.rules.specs.Sheet.{Bytes, Column, numeral, strip}
+use Rattle.std.specs.declared.cmp.Ordering.{Ordering}
+use Rattle.std.specs.declared.cmp.Ordering.TheVariants.{Less, Equal, Greater}
 
 abbrev pub octets : ℕ
 octets = 0
@@ -23,23 +17,27 @@ integer = 2
 
 -- ---- integers
 
+-- the number that a value of syntax 2 writes, none where it writes none
+abbrev pub Integer : Type 0
+Integer = Option ℤ
+
 -- "decimal from −9223372036854775808 to 9223372036854775807": -m, where m is not 0 ("no −0")
 abbrev pub negative : Column → Integer
-negative Malformed = NotAnInteger
-negative (Number m) = cond (eqb m 0) NotAnInteger (cond (leb m 9223372036854775808) (Value (neg_ℤ (pos m))) NotAnInteger)
+negative None = None
+negative (Some m) = cond (eqb m 0) None (cond (leb m 9223372036854775808) (Some (neg_ℤ (pos m))) None)
 
 abbrev pub positive : Column → Integer
-positive Malformed = NotAnInteger
-positive (Number m) = cond (ltb m 9223372036854775808) (Value (pos m)) NotAnInteger
+positive None = None
+positive (Some m) = cond (ltb m 9223372036854775808) (Some (pos m)) None
 
 -- "a minus sign where negative (byte 45), no leading zero"
 unfoldable pub integer_of : Bytes → Integer
-integer_of [] = NotAnInteger
+integer_of [] = None
 integer_of (b ∷ bs) = cond (eqb b 45) (negative (numeral bs)) (positive (numeral (b ∷ bs)))
 
 abbrev pub is_integer : Integer → Bool
-is_integer (Value z) = true
-is_integer NotAnInteger = false
+is_integer (Some z) = true
+is_integer None = false
 
 -- ---- text
 
@@ -113,27 +111,27 @@ same s v w = identical (normal s v) (normal s w)
 unfoldable pub ordered : ℕ → Bool
 ordered s = not (eqb s octets)
 
-abbrev pub orderℕ : ℕ → ℕ → Order → Order
+abbrev pub orderℕ : ℕ → ℕ → Ordering → Ordering
 orderℕ a b next = cond (ltb a b) Less (cond (ltb b a) Greater next)
 
-abbrev pub orderℤ : ℤ → ℤ → Order
+abbrev pub orderℤ : ℤ → ℤ → Ordering
 orderℤ a b = cond (lt_z a b) Less (cond (lt_z b a) Greater Equal)
 
 -- "by byte .. a prefix first"
-unfoldable pub order_bytes : Bytes → Bytes → Order
+unfoldable pub order_bytes : Bytes → Bytes → Ordering
 order_bytes [] [] = Equal
 order_bytes [] (b ∷ bs) = Less
 order_bytes (a ∷ as') [] = Greater
 order_bytes (a ∷ as') (b ∷ bs) = orderℕ a b (order_bytes as' bs)
 
 -- "order is numeric"
-abbrev pub order_integers : Integer → Integer → Order
-order_integers (Value a) (Value b) = orderℤ a b
-order_integers (Value a) NotAnInteger = Equal
-order_integers NotAnInteger y = Equal
+abbrev pub order_integers : Integer → Integer → Ordering
+order_integers (Some a) (Some b) = orderℤ a b
+order_integers (Some a) None = Equal
+order_integers None y = Equal
 
 -- how two values that the syntax allows compare
-unfoldable pub order : ℕ → Bytes → Bytes → Order
+unfoldable pub order : ℕ → Bytes → Bytes → Ordering
 order s v w = cond (eqb s integer) (order_integers (integer_of v) (integer_of w)) (order_bytes (normal s v) (normal s w))
 
 -- ---- substrings
@@ -157,21 +155,25 @@ begins (a ∷ as') (b ∷ bs) = eqb a b && begins as' bs
 unfoldable pub ends : Bytes → Bytes → Bool
 ends v p = leb (length p) (length v) && identical (drop (length v - length p) v) p
 
+-- a place in a value or a list, or none
+abbrev pub Found : Type 0
+Found = Option ℕ
+
 -- the end of the first place of `p` in `v`, whose first byte is number `i`
 unfoldable pub find : Bytes → Bytes → ℕ → Found
-find p [] i = cond (begins [] p) (At (i + length p)) Nothing
-find p (x ∷ xs) i = cond (begins (x ∷ xs) p) (At (i + length p)) (find p xs (i + 1))
+find p [] i = cond (begins [] p) (Some (i + length p)) None
+find p (x ∷ xs) i = cond (begins (x ∷ xs) p) (Some (i + length p)) (find p xs (i + 1))
 
 -- how many bytes of `v` are used up to the end of a piece: "an initial one at the value's beginning, a final one at its end"
 unfoldable pub used : ℕ → Bytes → Bytes → Found
 used place p v =
-    cond (eqb place 0) (cond (begins v p) (At (length p)) Nothing)
+    cond (eqb place 0) (cond (begins v p) (Some (length p)) None)
     (cond (eqb place 1) (find p v 0)
-    (cond (ends v p) (At (length v)) Nothing))
+    (cond (ends v p) (Some (length v)) None))
 
 abbrev pub by_found : Found → (ℕ → Bool) → Bool
-by_found (At i) next = next i
-by_found Nothing next = false
+by_found (Some i) next = next i
+by_found None next = false
 
 -- "pieces appear in order without overlap": each at the first place in what the pieces before it left
 unfoldable pub matches : List Piece → Bytes → Bool

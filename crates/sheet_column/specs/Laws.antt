@@ -1,6 +1,6 @@
 -- What the loops over a column need: the definitions of `rules.Sheet` at a place of a list, a law for each way through the code.
 use Prim.Native.Nat.{ℕ, zero, suc, ◌+◌, ◌-◌, ◌*◌, ◌^◌, ◌≤◌, ◌<◌}
-use Rattle.std.specs.Prelude.{◌≡◌, Bool, true, false, get_or, take, drop, ltb}
+use Rattle.std.specs.Prelude.{◌≡◌, Bool, true, false, get_or, take, drop, ltb, Some, None}
 use Rattle.std.proofs.Math.Path.{refl}
 use Rattle.std.proofs.Common.{sym, ◌∙◌, lt_of_lt_of_le, pow-suc, drop_of_length-le}
 use mathlib.Core.List.{[], ◌∷◌}
@@ -11,9 +11,8 @@ use Rattle.std.proofs.Math.ListN.{length}
 use Rattle.std.proofs.Math.Seq.{drop-cons}
 use borrow.Author.Tests.{eq-eqb, ne_eqb, le-leb, lt-leb, ltb-true, ltb-false}
 use Rattle.rules.specs.Sheet.{Bytes, strip, digits, numeral, column_of}
-use Rattle.rules.specs.declared.Column.{Column}
+use Rattle.rules.specs.Sheet.{Column}
 use Rattle.sheet_column.specs.Coded.{Coded, Spaces}
-use Rattle.rules.specs.declared.Column.TheVariants.{Number, Malformed}
 
 module _ (l : Bytes) (i : ℕ) (h : i < length l) where
   pub strip-space : get_or l i 0 ≡ 32 → strip (drop i l) ≡ strip (drop (i + 1) l)
@@ -24,11 +23,11 @@ module _ (l : Bytes) (i : ℕ) (h : i < length l) where
   unfolding strip
   strip-stop e = rw (drop-cons l i 0, ne_eqb (get_or l i 0) 32 e)
 
-  pub digits_low : (v : ℕ) → get_or l i 0 < 48 → digits v (drop i l) ≡ Malformed
+  pub digits_low : (v : ℕ) → get_or l i 0 < 48 → digits v (drop i l) ≡ None
   unfolding digits
   digits_low v e = rw (drop-cons l i 0, lt-leb 48 (get_or l i 0) e)
 
-  pub digits-high : (v : ℕ) → 57 < get_or l i 0 → digits v (drop i l) ≡ Malformed
+  pub digits-high : (v : ℕ) → 57 < get_or l i 0 → digits v (drop i l) ≡ None
   unfolding digits
   digits-high v e = rw (drop-cons l i 0, le-leb 48 (get_or l i 0) (omega arith), lt-leb (get_or l i 0) 57 e)
 
@@ -40,7 +39,7 @@ pub strip-end : (l : Bytes) (i : ℕ) → length l ≤ i → strip (drop i l) �
 unfolding strip
 strip-end l i h = rw drop_of_length-le
 
-pub digits-end : (l : Bytes) (i v : ℕ) → length l ≤ i → digits v (drop i l) ≡ Number v
+pub digits-end : (l : Bytes) (i v : ℕ) → length l ≤ i → digits v (drop i l) ≡ Some v
 unfolding digits
 digits-end l i v h = rw drop_of_length-le
 
@@ -56,11 +55,11 @@ power-positive i = pow-le-pow_right {n = 10} (omega arith) {i = 0} {j = i} (omeg
 
 -- a column whose first byte after the spaces stands at `k`
 module _ (l : Bytes) (k : ℕ) (e : drop k l ≡ strip l) where
-  pub column-empty : length l ≤ k → column_of l ≡ Malformed
+  pub column-empty : length l ≤ k → column_of l ≡ None
   unfolding column_of numeral
   column-empty h = rw (← e, drop_of_length-le)
 
-  pub column-zero : get_or l k 0 ≡ 48 → k + 1 < length l → column_of l ≡ Malformed
+  pub column-zero : get_or l k 0 ≡ 48 → k + 1 < length l → column_of l ≡ None
   unfolding column_of numeral
   column-zero z h =
       let h₀ : k < length l = omega arith in
@@ -89,14 +88,14 @@ unfolding column_of strip
 column-space t r e = rw (eq-eqb t 32 e)
 
 -- a space and a digit
-pub one-digit : (t u : ℕ) → t ≡ 32 → 48 ≤ u → u ≤ 57 → column_of (t ∷ (u ∷ [])) ≡ Number (u - 48)
+pub one-digit : (t u : ℕ) → t ≡ 32 → 48 ≤ u → u ≤ 57 → column_of (t ∷ (u ∷ [])) ≡ Some (u - 48)
 unfolding column_of numeral strip digits
 one-digit t u e h g =
     let m : 0 * 10 + (u - 48) ≡ u - 48 = omega arith in
     rw (eq-eqb t 32 e, ne_eqb u 32 (λ e. omega arith), le-leb 48 u h, le-leb u 57 g, m)
 
 -- two digits with no leading zero
-pub two_digits : (t u : ℕ) → 49 ≤ t → t ≤ 57 → 48 ≤ u → u ≤ 57 → column_of (t ∷ (u ∷ [])) ≡ Number (t * 10 + u - 528)
+pub two_digits : (t u : ℕ) → 49 ≤ t → t ≤ 57 → 48 ≤ u → u ≤ 57 → column_of (t ∷ (u ∷ [])) ≡ Some (t * 10 + u - 528)
 unfolding column_of numeral strip digits
 two_digits t u h g e f =
     let m : (0 * 10 + (t - 48)) * 10 + (u - 48) ≡ t * 10 + u - 528 = omega arith in
@@ -144,10 +143,10 @@ brief-column l i w h g k e f =
 
 -- ---- a column as one number
 
-pub coded_none : {x : Column} → x ≡ Malformed → Coded x 18446744073709551615
+pub coded_none : {x : Column} → x ≡ None → Coded x 18446744073709551615
 coded_none e = record { malformed = λ z. e; number = λ n. absurd (n refl) }
 
-pub coded-number : {x : Column} (v : ℕ) → v < 18446744073709551615 → x ≡ Number v → Coded x v
+pub coded-number : {x : Column} (v : ℕ) → v < 18446744073709551615 → x ≡ Some v → Coded x v
 coded-number v h e = record { malformed = λ z. absurd (omega (arith, h, z)); number = λ n. e }
 
 pub coded-same : {x y : Column} {r : ℕ} → x ≡ y → Coded x r → Coded y r
@@ -157,5 +156,5 @@ coded-same e k = record { malformed = λ z. sym e ∙ k.malformed z; number = λ
 pub coded_by : {x : Column} {r v : ℕ} → r ≡ v → Coded x v → Coded x r
 coded_by e k = rw e k
 
-pub coded-brief : {x : Column} (r v : ℕ) → r ≡ v → v < 100 → (v < 100 → x ≡ Number v) → Coded x r
+pub coded-brief : {x : Column} (r v : ℕ) → r ≡ v → v < 100 → (v < 100 → x ≡ Some v) → Coded x r
 coded-brief r v e h f = coded_by e (coded-number v (omega arith) (f h))

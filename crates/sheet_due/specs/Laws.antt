@@ -1,2 +1,3 @@
 pub mod Bounds
 pub mod Lines
+pub mod Outcomes

@@ -1,3 +1,4 @@
+pub mod Outcomes
 pub mod Grammars
 pub mod Lines
 pub mod Laws

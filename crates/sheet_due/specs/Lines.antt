@@ -8,12 +8,8 @@ use Rattle.sheet_form.specs.Columns.{columns_in}
 use Rattle.sheet_line.specs.Line.{taken_at, line_of}
 use Rattle.sheet_line.specs.declared.Line.{Line}
 use Rattle.sheet_line.specs.declared.Taken.{Taken}
-use Rattle.sheet_line.specs.declared.Taken.TheVariants as Taken
 use Rattle.sheet_due.specs.declared.Seen.{Seen}
-use Rattle.sheet_due.specs.declared.Seen.TheVariants as Seen
-use Rattle.sheet_due.specs.declared.Due.{Due}
-use Rattle.sheet_due.specs.declared.Reached.{Reached}
-use Rattle.sheet_due.specs.declared.Group.{Group}
+use Rattle.sheet_due.specs.Outcomes.{Due, Reached, Group}
 
 -- ---- what stands at a position
 

@@ -4,11 +4,12 @@ ghost use Rattle.std.specs.Prelude.{◌≡◌, ◌+◌, ◌≤◌};
 ghost use Rattle.std.proofs.Math.ListN as ListN;
 ghost use Rattle.rules.specs.Permission.{sound_item};
 ghost use Rattle.rules.specs.Places.{schema_of};
+ghost use Rattle.rules.specs.Refusals.{refusal_number};
 ghost use Rattle.sheet_form.specs.Columns.{columns_in};
 ghost use Rattle.sheet_line.specs.Line.{line_of};
-ghost use Rattle.sheet_due.specs.Grammars.{forms_of, sound_of, refusals_of};
+ghost use Rattle.sheet_due.specs.Grammars.{forms_of, sound_of, refusals_of, fault_number};
 
-use rules::refusal::{PERMISSIONS, REQUEST};
+use rules::refusals::Refusal;
 use rules::what;
 use sheet_kind::{Kind, is};
 use sheet_line::Line;
@@ -18,6 +19,14 @@ use sheet_line::Line;
 pub enum Grammar {
     Permissions,
     Request,
+}
+
+// What is wrong where a line is due.
+#[derive(Clone, Copy)]
+pub enum Fault {
+    NotAllowed,
+    OutOfOrder,
+    OutsideSchema,
 }
 
 // Is the line in a form of its sheet?
@@ -30,14 +39,21 @@ pub fn in_form(g: Grammar, line: Line, top: u64) -> bool
     }
 }
 
-// The refusal number of a fault: 2, 3 or 4 after the sheet's own number.
-pub fn refusal(g: Grammar, fault: u64) -> u64
-    requires { fault ≤ 4 }
-    ensures { result ≡ refusals_of g + fault }
+// The refusal of a fault: 2, 3 or 4 after the sheet's own number. No line of a request is held to the schema: there 4 is the number of a type without order.
+pub fn refusal(g: Grammar, fault: Fault) -> Refusal
+    ensures { refusal_number result ≡ refusals_of g + fault_number fault }
 {
     match g {
-        Grammar::Permissions => PERMISSIONS + fault,
-        Grammar::Request => REQUEST + fault,
+        Grammar::Permissions => match fault {
+            Fault::NotAllowed => Refusal::PermissionsNotAllowed,
+            Fault::OutOfOrder => Refusal::PermissionsOutOfOrder,
+            Fault::OutsideSchema => Refusal::PermissionsOutsideSchema,
+        },
+        Grammar::Request => match fault {
+            Fault::NotAllowed => Refusal::RequestNotAllowed,
+            Fault::OutOfOrder => Refusal::RequestOutOfOrder,
+            Fault::OutsideSchema => Refusal::TypeWithoutOrder,
+        },
     }
 }
 

@@ -1,5 +1,5 @@
 // The lines of a permission sheet or a request, taken where they are due: one line, some of one kind, and a line with the lines
-// that it counts. A refusal number is handed on: after a refusal no line is read. The lines of a request are judged without a schema.
+// that it counts. After a refusal no line is read. The lines of a request are judged without a schema.
 #![tactic(auto)]
 
 pub mod grammar;
@@ -8,21 +8,22 @@ ghost use Rattle.std.specs.Prelude.{◌≡◌, ◌≤◌};
 ghost use Rattle.rules.specs.Sheet.{Usable};
 ghost use Rattle.rules.specs.Columns.{request_forms};
 ghost use Rattle.rules.specs.Places.{schema_of};
+ghost use Rattle.rules.specs.Refusals.{refusal_number};
 ghost use Rattle.sheet_kind.specs.Kinds.{number_of};
 ghost use Rattle.sheet_line.specs.Line.{taken_at};
 ghost use Rattle.sheet_due.specs.Grammars.{grammar_of};
-ghost use Rattle.sheet_due.specs.Lines.{seen_at, misplaced_by, reached_at, after_due, after_group, no_line, not_due, due_at, lines_due, group_at};
+ghost use Rattle.sheet_due.specs.Outcomes.{Gives};
+ghost use Rattle.sheet_due.specs.Lines.{seen_at, misplaced_by, reached_at, no_line, due_at, lines_due, group_at};
 
-use grammar::{Grammar, in_form, refusal, sound};
+use grammar::{Fault, Grammar, in_form, refusal, sound};
 use rules::Format;
-use rules::refusal::{
-    NOT_ALLOWED, OUT_OF_ORDER, OUTSIDE_SCHEMA, REQUEST_NOT_ALLOWED, REQUEST_OUT_OF_ORDER,
-};
+use rules::refusals::Refusal;
 use sheet_form::columns::request_columns;
 use sheet_kind::{Kind, is};
 use sheet_line::{Line, Taken};
 
 // What stands at a position: a line that its sheet may have, a line not in form or not allowed, or nothing.
+// No `Result`: after the last line of a request, nothing is what has to stand there.
 #[derive(Drop)]
 pub enum Seen {
     Line(Line),
@@ -30,24 +31,9 @@ pub enum Seen {
     Missing,
 }
 
-// The position after some lines, or the refusal (0: none).
-#[derive(Clone, Copy)]
-pub struct Reached {
-    pub refusal: u64,
-    pub next: usize,
-}
-
-// A line that was due, or the refusal (0: none).
-#[derive(Clone, Copy)]
-pub struct Due {
-    pub refusal: u64,
-    pub line: Line,
-}
-
-// A line, and the position after the lines that it counts in column B, the first of which follows it; or the refusal (0: none).
+// A line, and the position after the lines that it counts in column B, the first of which follows it.
 #[derive(Clone, Copy)]
 pub struct Group {
-    pub refusal: u64,
     pub line: Line,
     pub next: usize,
 }
@@ -84,43 +70,13 @@ pub fn seen_at(q: &[u8], f: Format, at: usize) -> Seen
 }
 
 // The refusal of what stands in a request where no line is due.
-pub fn misplaced_by(seen: Seen) -> u64
-    ensures { result ≡ misplaced_by 20 seen }
+pub fn misplaced_by(seen: Seen) -> Refusal
+    ensures { refusal_number result ≡ misplaced_by 20 seen }
 {
     match seen {
-        Seen::Line(_) => REQUEST_OUT_OF_ORDER,
-        Seen::NotAllowed => REQUEST_NOT_ALLOWED,
-        Seen::Missing => REQUEST_OUT_OF_ORDER,
-    }
-}
-
-// A position, without a refusal.
-pub fn reached_at(at: usize) -> Reached
-    ensures { result ≡ reached_at at }
-{
-    Reached {
-        refusal: 0,
-        next: at,
-    }
-}
-
-// The position after a line that was due, or its refusal.
-pub fn after_due(due: Due) -> Reached
-    ensures { result ≡ after_due due }
-{
-    Reached {
-        refusal: due.refusal,
-        next: due.line.next,
-    }
-}
-
-// The position after a group, or its refusal.
-pub fn after_group(group: Group) -> Reached
-    ensures { result ≡ after_group group }
-{
-    Reached {
-        refusal: group.refusal,
-        next: group.next,
+        Seen::Line(_) => Refusal::RequestOutOfOrder,
+        Seen::NotAllowed => Refusal::RequestNotAllowed,
+        Seen::Missing => Refusal::RequestOutOfOrder,
     }
 }
 
@@ -139,60 +95,54 @@ pub fn no_line() -> Line
     }
 }
 
-// No line: the refusal.
-fn not_due(refusal: u64) -> Due
-    ensures { result ≡ not_due refusal }
-{
-    let line = no_line();
-    Due { refusal, line }
-}
-
-// The line of a kind that is due, unless there is a refusal already.
-pub fn due_at(s: &[u8], f: Format, g: Grammar, schema: &[u64], from: Reached, kind: Kind) -> Due
+// The line of a kind that is due at a position.
+pub fn due_at(
+    s: &[u8],
+    f: Format,
+    g: Grammar,
+    schema: &[u64],
+    at: usize,
+    kind: Kind,
+) -> Result<Line, Refusal>
     requires { Usable f }
-    ensures { result ≡ due_at (grammar_of f.top (schema_of schema.now) g) f.width s.now from (number_of kind) }
+    ensures { let d = due_at (grammar_of f.top (schema_of schema.now) g) f.width s.now (reached_at at) (number_of kind) in Gives result d.refusal d.line }
 {
-    if from.refusal != 0 {
-        return not_due(from.refusal);
-    }
-    match taken_at(s, from.next, f.width) {
+    match taken_at(s, at, f.width) {
         Taken::Line(line) => {
             if !in_form(g, line, f.top) {
-                return not_due(refusal(g, NOT_ALLOWED));
+                return Err(refusal(g, Fault::NotAllowed));
             }
             if !is(line.kind, kind) {
-                return not_due(refusal(g, OUT_OF_ORDER));
+                return Err(refusal(g, Fault::OutOfOrder));
             }
             if sound(s, schema, g, line) {
-                return Due { refusal: 0, line };
+                return Ok(line);
             }
-            not_due(refusal(g, OUTSIDE_SCHEMA))
+            Err(refusal(g, Fault::OutsideSchema))
         }
-        Taken::NotInForm => not_due(refusal(g, NOT_ALLOWED)),
-        Taken::End => not_due(refusal(g, OUT_OF_ORDER)),
+        Taken::NotInForm => Err(refusal(g, Fault::NotAllowed)),
+        Taken::End => Err(refusal(g, Fault::OutOfOrder)),
     }
 }
 
-// `count` lines of a kind that are due one after the other.
+// `count` lines of a kind that are due one after the other: the position after them.
 pub fn lines_due(
     s: &[u8],
     f: Format,
     g: Grammar,
     schema: &[u64],
-    from: Reached,
+    at: usize,
     kind: Kind,
     count: u64,
-) -> Reached
+) -> Result<usize, Refusal>
     requires { Usable f }
-    ensures { result ≡ lines_due (grammar_of f.top (schema_of schema.now) g) f.width s.now (number_of kind) count from }
+    ensures { let r = lines_due (grammar_of f.top (schema_of schema.now) g) f.width s.now (number_of kind) count (reached_at at) in Gives result r.refusal r.next }
 {
-    let mut reached = from;
-    let mut n = count;
-    while 0 < n {
-        reached = after_due(due_at(s, f, g, schema, reached, kind));
-        n -= 1;
+    let mut pos = at;
+    for _ in 0..count {
+        pos = due_at(s, f, g, schema, pos, kind)?.next;
     }
-    reached
+    Ok(pos)
 }
 
 // A line of a kind that is due, and after it as many of the kind `part` as its column B says.
@@ -201,19 +151,14 @@ pub fn group_at(
     f: Format,
     g: Grammar,
     schema: &[u64],
-    from: Reached,
+    at: usize,
     kind: Kind,
     part: Kind,
-) -> Group
+) -> Result<Group, Refusal>
     requires { Usable f }
-    ensures { result ≡ group_at (grammar_of f.top (schema_of schema.now) g) f.width s.now from (number_of kind) (number_of part) }
+    ensures { let x = group_at (grammar_of f.top (schema_of schema.now) g) f.width s.now (reached_at at) (number_of kind) (number_of part) in Gives result x.refusal (record { line = x.line; next = x.next }) }
 {
-    let due = due_at(s, f, g, schema, from, kind);
-    let line = due.line;
-    let end = lines_due(s, f, g, schema, after_due(due), part, line.b);
-    Group {
-        refusal: end.refusal,
-        line,
-        next: end.next,
-    }
+    let line = due_at(s, f, g, schema, at, kind)?;
+    let next = lines_due(s, f, g, schema, line.next, part, line.b)?;
+    Ok(Group { line, next })
 }

@@ -1,11 +1,12 @@
-// The columns of a line within their bounds, and one case or the other, as calls that leave no branch in the caller.
-ghost use Rattle.std.specs.Prelude.{◌≡◌, ◌||◌};
+// The columns of a line within their bounds, as a call that leaves no branch in the caller.
+ghost use Rattle.std.specs.Prelude.{◌≡◌};
 ghost use Rattle.rules.specs.Columns.{form, between};
 ghost use Rattle.sheet_form.specs.Columns.{fits_form};
 
 use sheet_line::Line;
 
 // Columns A, B, C and the length of a line, each from its lowest to its highest number.
+#[tactic(auto, unfolding(crate::specs::Columns::fits_form))]
 pub fn row(
     line: Line,
     a0: u64,
@@ -41,11 +42,4 @@ pub fn row(
         return false;
     }
     line.length <= len1
-}
-
-// One or the other.
-pub fn or(x: bool, y: bool) -> bool
-    ensures { result ≡ (x || y) }
-{
-    if x { true } else { y }
 }

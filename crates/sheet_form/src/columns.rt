@@ -5,7 +5,7 @@ ghost use Rattle.sheet_kind.specs.Kinds.{number_of};
 ghost use Rattle.sheet_kind.specs.declared.Kind.TheVariants.{Value, UserClass, ProtectedItem, Operation, Selection};
 ghost use Rattle.sheet_form.specs.Columns.{in_form_of, columns_in};
 
-use super::bounds::{or, row};
+use super::bounds::row;
 use rules::{operation, subset, what, who};
 use sheet_kind::{Kind, is, kind_of};
 use sheet_line::Line;
@@ -21,98 +21,82 @@ const ANY: u64 = 18446744073709551615;
 fn user_class_columns(line: Line) -> bool
     ensures { (top : ℕ) → result ≡ in_form_of (permission_forms top) (number_of UserClass) line.a line.b line.c line.length }
 {
-    or(
-        row(line, who::ALL_USERS, who::ALL_USERS, 0, 0, 0, 0, 0, 0),
-        or(
-            row(
-                line,
-                who::AT_OR_BELOW,
-                who::AT_OR_BELOW,
-                0,
-                PARTS,
-                0,
-                0,
-                0,
-                0,
-            ),
-            or(
-                row(line, who::ENTRY_ITSELF, who::ENTRY_ITSELF, 0, 0, 0, 0, 0, 0),
-                row(line, who::NAMED_USER, who::NAMED_USER, 0, PARTS, 0, 0, 0, 0),
-            ),
-        ),
-    )
+    row(line, who::ALL_USERS, who::ALL_USERS, 0, 0, 0, 0, 0, 0)
+        | (row(
+            line,
+            who::AT_OR_BELOW,
+            who::AT_OR_BELOW,
+            0,
+            PARTS,
+            0,
+            0,
+            0,
+            0,
+        ) | (row(line, who::ENTRY_ITSELF, who::ENTRY_ITSELF, 0, 0, 0, 0, 0, 0)
+            | row(line, who::NAMED_USER, who::NAMED_USER, 0, PARTS, 0, 0, 0, 0)))
 }
 
 // What: a type where one is named, and a value for one value.
 fn protected_item_columns(line: Line, top: u64) -> bool
     ensures { result ≡ in_form_of (permission_forms top) (number_of ProtectedItem) line.a line.b line.c line.length }
 {
-    or(
-        row(
-            line,
-            what::ENTRY,
-            what::ALL_TYPES_AND_VALUES,
-            0,
-            0,
-            0,
-            0,
-            0,
-            0,
-        ),
-        or(
-            row(
-                line,
-                what::ONE_TYPE,
-                what::VALUES_OF_TYPE,
-                1,
-                top,
-                0,
-                0,
-                0,
-                0,
-            ),
-            row(
-                line,
-                what::ONE_VALUE,
-                what::ONE_VALUE,
-                1,
-                top,
-                0,
-                0,
-                0,
-                BYTES,
-            ),
-        ),
-    )
+    row(
+        line,
+        what::ENTRY,
+        what::ALL_TYPES_AND_VALUES,
+        0,
+        0,
+        0,
+        0,
+        0,
+        0,
+    ) | (row(
+        line,
+        what::ONE_TYPE,
+        what::VALUES_OF_TYPE,
+        1,
+        top,
+        0,
+        0,
+        0,
+        0,
+    ) | row(
+        line,
+        what::ONE_VALUE,
+        what::ONE_VALUE,
+        1,
+        top,
+        0,
+        0,
+        0,
+        BYTES,
+    ))
 }
 
 // The operation: a size limit for list and search only.
 fn operation_columns(line: Line) -> bool
     ensures { (top : ℕ) → result ≡ in_form_of (request_forms top) (number_of Operation) line.a line.b line.c line.length }
 {
-    or(
-        row(
-            line,
-            operation::READ,
-            operation::COMPARE,
-            0,
-            PARTS,
-            0,
-            0,
-            0,
-            0,
-        ),
-        row(
-            line,
-            operation::LIST,
-            operation::SEARCH,
-            0,
-            PARTS,
-            0,
-            ANY,
-            0,
-            0,
-        ),
+    row(
+        line,
+        operation::READ,
+        operation::COMPARE,
+        0,
+        PARTS,
+        0,
+        0,
+        0,
+        0,
+    ) | row(
+        line,
+        operation::LIST,
+        operation::SEARCH,
+        0,
+        PARTS,
+        0,
+        ANY,
+        0,
+        0,
     )
 }
 
@@ -120,10 +104,7 @@ fn operation_columns(line: Line) -> bool
 fn selection_columns(line: Line) -> bool
     ensures { (top : ℕ) → result ≡ in_form_of (request_forms top) (number_of Selection) line.a line.b line.c line.length }
 {
-    or(
-        row(line, 0, 0, 0, 0, 0, 1, 0, 0),
-        row(line, 1, 1, 0, 16, 0, 1, 0, 0),
-    )
+    row(line, 0, 0, 0, 0, 0, 1, 0, 0) | row(line, 1, 1, 0, 16, 0, 1, 0, 0)
 }
 
 // A value line of the directory.

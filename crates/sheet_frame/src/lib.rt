@@ -2,17 +2,18 @@
 // The line at the front of a sheet's rest is told by it. The width of a column is a parameter of every function.
 #![tactic(auto)]
 
-ghost use Rattle.std.specs.Prelude.{◌≡◌, ◌+◌, ◌≤◌, length, take, drop};
+ghost use Rattle.std.specs.Prelude.{◌≡◌, ◌+◌, ◌*◌, ◌≤◌, length, take, drop};
 ghost use Rattle.rules.specs.Sheet.{column_of, whole, front_of};
 ghost use Rattle.sheet_column.specs.Coded.{Coded};
 
-use rules::{Column, Front};
-use sheet_column::{brief, column_at, number_at};
+use rules::Front;
+use sheet_column::{NONE, brief, column_at, number_at};
 
 // What stands after five columns with these numbers: `n` bytes, at most 64, then byte 10.
+#[tactic(auto, unfolding(rules::specs::Sheet::whole))]
 fn framed(s: &[u8], w: usize, kind: u64, a: u64, b: u64, c: u64, n: u64) -> Front
     requires { w ≤ 18 }
-    ensures { result ≡ whole w s.now (Column.Number kind) (Column.Number a) (Column.Number b) (Column.Number c) (Column.Number n) }
+    ensures { result ≡ whole w s.now (Some kind) (Some a) (Some b) (Some c) (Some n) }
 {
     if 64 < n {
         return Front::NotInForm;
@@ -45,26 +46,23 @@ fn by_columns(s: &[u8], w: usize) -> Front
     if s.len() < 5 * w {
         return Front::NotInForm;
     }
-    let Column::Number(kind) = column_at(s, 0, w) else {
+    let Some(kind) = column_at(s, 0, w) else {
         return Front::NotInForm;
     };
-    let Column::Number(a) = column_at(s, w, w) else {
+    let Some(a) = column_at(s, w, w) else {
         return Front::NotInForm;
     };
-    let Column::Number(b) = column_at(s, 2 * w, w) else {
+    let Some(b) = column_at(s, 2 * w, w) else {
         return Front::NotInForm;
     };
-    let Column::Number(c) = column_at(s, 3 * w, w) else {
+    let Some(c) = column_at(s, 3 * w, w) else {
         return Front::NotInForm;
     };
-    let Column::Number(n) = column_at(s, 4 * w, w) else {
+    let Some(n) = column_at(s, 4 * w, w) else {
         return Front::NotInForm;
     };
     framed(s, w, kind, a, b, c, n)
 }
-
-// No number, as `sheet_column` has it.
-const NONE: u64 = 18446744073709551615;
 
 // The number of the column of width `w` that begins at `from`, or `NONE`: nearly all have one digit or two.
 fn column(s: &[u8], from: usize, w: usize) -> u64
@@ -78,60 +76,32 @@ fn column(s: &[u8], from: usize, w: usize) -> u64
     number_at(s, from, w)
 }
 
-// The line at the front, in six columns.
-fn narrow_front(s: &[u8]) -> Front
-    requires { 30 ≤ length s.now }
-    ensures { result ≡ front_of 6 s.now }
+// The line at the front, in columns of `W` bytes: a constant to the compiler.
+fn front_in<const W: usize>(s: &[u8]) -> Front
+    requires { (6 ≤ W) × (W ≤ 10) × (5 * W ≤ length s.now) }
+    ensures { result ≡ front_of W s.now }
 {
-    let kind = column(s, 0, 6);
+    let kind = column(s, 0, W);
     if kind == NONE {
         return Front::NotInForm;
     }
-    let a = column(s, 6, 6);
+    let a = column(s, W, W);
     if a == NONE {
         return Front::NotInForm;
     }
-    let b = column(s, 12, 6);
+    let b = column(s, 2 * W, W);
     if b == NONE {
         return Front::NotInForm;
     }
-    let c = column(s, 18, 6);
+    let c = column(s, 3 * W, W);
     if c == NONE {
         return Front::NotInForm;
     }
-    let n = column(s, 24, 6);
+    let n = column(s, 4 * W, W);
     if n == NONE {
         return Front::NotInForm;
     }
-    framed(s, 6, kind, a, b, c, n)
-}
-
-// The line at the front, in nine columns.
-fn wide_front(s: &[u8]) -> Front
-    requires { 45 ≤ length s.now }
-    ensures { result ≡ front_of 9 s.now }
-{
-    let kind = column(s, 0, 9);
-    if kind == NONE {
-        return Front::NotInForm;
-    }
-    let a = column(s, 9, 9);
-    if a == NONE {
-        return Front::NotInForm;
-    }
-    let b = column(s, 18, 9);
-    if b == NONE {
-        return Front::NotInForm;
-    }
-    let c = column(s, 27, 9);
-    if c == NONE {
-        return Front::NotInForm;
-    }
-    let n = column(s, 36, 9);
-    if n == NONE {
-        return Front::NotInForm;
-    }
-    framed(s, 9, kind, a, b, c, n)
+    framed(s, W, kind, a, b, c, n)
 }
 
 // The line at the front of a sheet's rest. The width of either form is a constant where its lines are read.
@@ -141,12 +111,12 @@ pub fn front(s: &[u8], w: usize) -> Front
 {
     if w == 6 {
         if 30 <= s.len() {
-            return narrow_front(s);
+            return front_in::<6>(s);
         }
     }
     if w == 9 {
         if 45 <= s.len() {
-            return wide_front(s);
+            return front_in::<9>(s);
         }
     }
     by_columns(s, w)

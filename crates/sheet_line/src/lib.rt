@@ -21,7 +21,7 @@ pub struct Line {
     pub next: usize,
 }
 
-// What stands at a position: a line, no line in form, or nothing.
+// What stands at a position: a line, no line in form, or nothing. Three cases of one rank, as in `Front`.
 #[derive(Clone, Copy)]
 pub enum Taken {
     Line(Line),

@@ -7,11 +7,12 @@ ghost use Rattle.rules.specs.Sheet.{Usable};
 ghost use Rattle.rules.specs.Places.{schema_of};
 ghost use Rattle.sheet_kind.specs.Kinds.{number_of};
 ghost use Rattle.sheet_due.specs.Grammars.{grammar_of};
-ghost use Rattle.sheet_reader.specs.Advances.{reader_at, due_advance, group_advance};
+ghost use Rattle.sheet_reader.specs.Advances.{Reads, reader_at, due_advance, group_advance};
 
 use rules::Format;
+use rules::refusals::Refusal;
 use sheet_due::grammar::Grammar;
-use sheet_due::{Reached, due_at, group_at};
+use sheet_due::{due_at, group_at};
 use sheet_kind::Kind;
 use sheet_line::Line;
 
@@ -22,10 +23,9 @@ pub struct Reader<'a> {
     pub at: usize,
 }
 
-// A line that was due, or the refusal (0: none), and the reader moved past the line and the lines that it counts.
+// A line that was due, and the reader moved past the line and the lines that it counts.
 #[derive(Drop)]
 pub struct Advance<'a> {
-    pub refusal: u64,
     pub line: Line,
     pub rest: Reader<'a>,
 }
@@ -38,26 +38,25 @@ impl<'a> Reader<'a> {
         Reader { sheet, at }
     }
 
-    // The line of a kind that is due at the reader's position, unless there is a refusal already.
-    pub fn due(self, f: Format, g: Grammar, schema: &[u64], refusal: u64, kind: Kind) -> Advance<'a>
+    // The line of a kind that is due at the reader's position.
+    pub fn due(
+        self,
+        f: Format,
+        g: Grammar,
+        schema: &[u64],
+        kind: Kind,
+    ) -> Result<Advance<'a>, Refusal>
         requires { Usable f }
-        ensures { result ≡ due_advance (grammar_of f.top (schema_of schema.now) g) f.width self.entry refusal (number_of kind) }
+        ensures { Reads result (due_advance (grammar_of f.top (schema_of schema.now) g) f.width self.entry 0 (number_of kind)) }
     {
-        let from = Reached {
-            refusal,
-            next: self.at,
-        };
-        let due = due_at(self.sheet, f, g, schema, from, kind);
-        let line = due.line;
-        let at = line.next;
-        Advance {
-            refusal: due.refusal,
+        let line = due_at(self.sheet, f, g, schema, self.at, kind)?;
+        Ok(Advance {
             line,
             rest: Reader {
                 sheet: self.sheet,
-                at,
+                at: line.next,
             },
-        }
+        })
     }
 
     // The same, and after the line as many of the kind `part` as its column B says.
@@ -66,27 +65,19 @@ impl<'a> Reader<'a> {
         f: Format,
         g: Grammar,
         schema: &[u64],
-        refusal: u64,
         kind: Kind,
         part: Kind,
-    ) -> Advance<'a>
+    ) -> Result<Advance<'a>, Refusal>
         requires { Usable f }
-        ensures { result ≡ group_advance (grammar_of f.top (schema_of schema.now) g) f.width self.entry refusal (number_of kind) (number_of part) }
+        ensures { Reads result (group_advance (grammar_of f.top (schema_of schema.now) g) f.width self.entry 0 (number_of kind) (number_of part)) }
     {
-        let from = Reached {
-            refusal,
-            next: self.at,
-        };
-        let group = group_at(self.sheet, f, g, schema, from, kind, part);
-        let line = group.line;
-        let at = group.next;
-        Advance {
-            refusal: group.refusal,
-            line,
+        let group = group_at(self.sheet, f, g, schema, self.at, kind, part)?;
+        Ok(Advance {
+            line: group.line,
             rest: Reader {
                 sheet: self.sheet,
-                at,
+                at: group.next,
             },
-        }
+        })
     }
 }

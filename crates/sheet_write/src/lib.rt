@@ -19,16 +19,13 @@ fn four_spaces(out: &mut [u8], at: usize)
     out[at] = 32;
 }
 
-// Spaces in the `w` bytes from `at` on, one by one.
+// Spaces in the `w` bytes from `at` on.
 fn single_spaces(out: &mut [u8], at: usize, w: usize)
     requires { at + w ≤ length out.old }
     ensures { out.new ≡ put_at out.old at (leading w 0) }
 {
-    let mut i = w;
-    while 0 < i {
-        i -= 1;
-        out[at + i] = 32;
-    }
+    let end = at + w;
+    out[at..end].fill(32);
 }
 
 // Spaces in the `w` bytes from `at` on. In columns of six bytes most often five or four are due.
@@ -53,14 +50,12 @@ fn put_leading(out: &mut [u8], at: usize, w: usize, n: u64)
     requires { at + w ≤ length out.old }
     ensures { out.new ≡ put_at out.old at (leading w n) }
 {
-    let mut i = w;
     let mut v = n;
-    while 0 < i {
+    for i in (0..w).rev() {
         if v == 0 {
-            put_spaces(out, at, i);
+            put_spaces(out, at, i + 1);
             return;
         }
-        i -= 1;
         out[at + i] = 48 + ((v % 10) as u8);
         v = v / 10;
     }
@@ -81,11 +76,8 @@ fn put(out: &mut [u8], at: usize, src: &[u8])
     requires { at + length src.now ≤ length out.old }
     ensures { out.new ≡ put_at out.old at src.now }
 {
-    let mut i: usize = 0;
-    while i < src.len() {
-        out[at + i] = src[i];
-        i += 1;
-    }
+    let end = at + src.len();
+    out[at..end].copy_from_slice(src);
 }
 
 // The five columns of a line; the position after them is returned.

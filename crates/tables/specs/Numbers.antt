@@ -1,40 +1,39 @@
 -- What the rules say of names, by entry numbers: entries count from 1, and 0 is the root. For the contracts of a program that looks names up once
 -- and then goes by numbers; the laws `Resolve`, `ByNumber`, `Hits`, `Reach` and `Targets` say that it comes to the same. `serve` does not rest on these.
-use Rattle.std.specs.Prelude.{ℕ, zero, suc, ◌+◌, ◌-◌, ◌*◌, ◌/◌, ◌%◌, Bool, true, false, ◌&&◌, ◌||◌, cond, List, [], ◌∷◌, eqb, get_or}
+use Rattle.std.specs.Prelude.{ℕ, zero, suc, ◌+◌, ◌-◌, ◌*◌, ◌/◌, ◌%◌, Bool, true, false, ◌&&◌, ◌||◌, cond, List, [], ◌∷◌, eqb, get_or, Some, None}
 use Rattle.std.proofs.Math.Option.{Option, none, some}
 use Rattle.rules.specs.Name.{Schema, Part, Name, same_part, same_name, covers}
 use Rattle.rules.specs.Directory.{Stored, blank, under_alias, Alias, alias_of}
 use Rattle.rules.specs.Permission.{Item}
 use Rattle.rules.specs.Decision.{Setting, level_fits}
-use Rattle.rules.specs.declared.Found.{Found}
-use Rattle.rules.specs.declared.Found.TheVariants.{At, Nothing}
+use Rattle.rules.specs.Value.{Found}
 
 -- ---- a name looked up from the root down
 
 abbrev pub on_found : Found → (ℕ → Found) → Found
-on_found (At i) next = next i
-on_found Nothing next = Nothing
+on_found (Some i) next = next i
+on_found None next = None
 
 -- the number of the child of entry `parent` with the naming part `p`, among entries that count from `suc i`
 unfoldable pub child_from : Schema → ℕ → Part → List Stored → ℕ → Found
-child_from S parent p [] i = Nothing
-child_from S parent p (e ∷ es) i = cond (eqb e.parent parent && same_part S p e.naming) (At (suc i)) (child_from S parent p es (suc i))
+child_from S parent p [] i = None
+child_from S parent p (e ∷ es) i = cond (eqb e.parent parent && same_part S p e.naming) (Some (suc i)) (child_from S parent p es (suc i))
 
 -- the number of the entry reached from number `k` by the parts `ps`
 unfoldable pub walk : Schema → List Stored → ℕ → Name → Found
-walk S es k [] = At k
+walk S es k [] = Some k
 walk S es k (p ∷ ps) = on_found (child_from S k p es 0) (λ j. walk S es j ps)
 
 -- #105: the number of the alias with whose name a name begins, from number `k` on by the parts `ps`
 unfoldable pub lead : Schema → List Stored → ℕ → Name → Found
-lead S es k [] = cond (under_alias es k) (At k) Nothing
-lead S es k (p ∷ ps) = cond (under_alias es k) (At k) (on_found (child_from S k p es 0) (λ j. lead S es j ps))
+lead S es k [] = cond (under_alias es k) (Some k) None
+lead S es k (p ∷ ps) = cond (under_alias es k) (Some k) (on_found (child_from S k p es 0) (λ j. lead S es j ps))
 
 -- the alias that has a number
 abbrev pub alias_by : List Stored → Found → Option Alias
-alias_by es Nothing = none
-alias_by es (At zero) = none
-alias_by es (At (suc k)) = some (alias_of (get_or es k blank))
+alias_by es None = none
+alias_by es (Some zero) = none
+alias_by es (Some (suc k)) = some (alias_of (get_or es k blank))
 
 -- ---- entries below a base
 
@@ -60,8 +59,8 @@ reaches es r e = cond (eqb r 0) false (cond (eqb (r % 2) 1) (eqb e (r / 2)) (cli
 
 -- the number of the entry that has a name, 0 where there is none
 abbrev pub number_or0 : Found → ℕ
-number_or0 (At b) = b
-number_or0 Nothing = 0
+number_or0 (Some b) = b
+number_or0 None = 0
 
 -- base number `b`, alone or with all below
 unfoldable pub base_reach : Bool → ℕ → ℕ
@@ -81,8 +80,8 @@ fits_always σ i = cond (eqb i.who 0) true (cond (eqb i.who 1) (covers σ.schema
 
 module _ (σ : Setting) (es : List Stored) where
   abbrev pub reach_from : Item → ℕ → Found → ℕ
-  reach_from i o Nothing = 0
-  reach_from i o (At b) = cond (eqb i.who 2) (own_reach es i.below b o) (cond (fits_always σ i) (base_reach i.below b) 0)
+  reach_from i o None = 0
+  reach_from i o (Some b) = cond (eqb i.who 2) (own_reach es i.below b o) (cond (fits_always σ i) (base_reach i.below b) 0)
 
   unfoldable pub reach_of : Item → ℕ
   reach_of i = cond (level_fits σ i) (reach_from i (number_or0 (walk σ.schema es 0 σ.requester.name)) (walk σ.schema es 0 i.base)) 0

@@ -6,7 +6,7 @@ use Rattle.rules.specs.Directory.{Stored, name_at, entry_of}
 use Rattle.rules.specs.Decision.{Setting}
 use Rattle.rules.specs.Answer.{matched_name}
 use Rattle.tables.specs.Numbers.{walk}
-use Rattle.rules.specs.declared.Found.{Found}
+use Rattle.rules.specs.Value.{Found}
 use Rattle.tables.specs.World.{World}
 use Rattle.tables.specs.declared.plan.Plan.{Plan}
 

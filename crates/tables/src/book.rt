@@ -41,6 +41,7 @@ pub fn schema(book: &[u64]) -> &[u64]
     &book[SCHEMA..SCHEMA + n]
 }
 
+// Not one function with `schema`: with the two places as arguments each call would say what the name says.
 pub fn parents(book: &[u64]) -> &[u64]
     requires { BookFits book.now }
     ensures { result.now ≡ Book.parents book.now }

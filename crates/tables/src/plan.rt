@@ -67,14 +67,7 @@ pub fn refused(operation: u64, outcome: Outcome) -> Plan
 pub fn is_result(outcome: Outcome) -> bool
     ensures { result ≡ is_result outcome }
 {
-    match outcome {
-        Outcome::Result => true,
-        Outcome::NoSuchObject => false,
-        Outcome::InsufficientAccessRights => false,
-        Outcome::NoSuchAttributeOrValue => false,
-        Outcome::InvalidAttributeSyntax => false,
-        Outcome::AliasProblem => false,
-    }
+    matches!(outcome, Outcome::Result)
 }
 
 // Is the type of this rank selected?

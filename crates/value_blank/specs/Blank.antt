@@ -1,9 +1,7 @@
 -- Blanks in text, byte 32 (#102): stray ones, what is left without them, and a text of at most 64 bytes.
-use Rattle.std.specs.Prelude.{ℕ, suc, ◌+◌, ◌-◌, Bool, false, ◌&&◌, ◌||◌, not, cond, [], ◌∷◌, ◌++◌, eqb, ltb, length, get_or, drop, set, replicate}
+use Rattle.std.specs.Prelude.{ℕ, suc, ◌+◌, ◌-◌, Bool, false, ◌&&◌, ◌||◌, not, cond, [], ◌∷◌, ◌++◌, eqb, ltb, length, get_or, drop, set, replicate, Option, Some, None}
 use Rattle.rules.specs.Sheet.{Bytes}
 use Rattle.rules.specs.Value.{blank_first}
-use Rattle.value_blank.specs.declared.Next.{Next}
-use Rattle.value_blank.specs.declared.Next.TheVariants.{Byte, End}
 use Rattle.value_blank.specs.declared.Text.{Text}
 
 -- two blanks together
@@ -35,12 +33,16 @@ blanks (b ∷ bs) = cond (eqb b 32) (suc (blanks bs)) 0
 abbrev pub skipped : Bytes → ℕ → ℕ
 skipped v i = i + blanks (drop i v)
 
+-- the byte of a tidied text that comes next, with the place from which to go on; none at the text's end
+abbrev pub Next : Type 0
+Next = Option (ℕ × ℕ)
+
 -- what comes next of a tidied text from `i` on, where something comes before it: blanks at the end are dropped, others are one
 unfoldable pub next_at : Bytes → ℕ → Next
 next_at v i =
-    cond (eqb (skipped v i) (length v)) End
-    (cond (ltb i (skipped v i)) (Byte 32 (skipped v i))
-    (Byte (get_or v (skipped v i) 0) (skipped v i + 1)))
+    cond (eqb (skipped v i) (length v)) None
+    (cond (ltb i (skipped v i)) (Some (32, skipped v i))
+    (Some (get_or v (skipped v i) 0, skipped v i + 1)))
 
 -- ---- a text of at most 64 bytes
 

@@ -14,13 +14,6 @@ pub struct Text {
     pub length: usize,
 }
 
-// The byte of a tidied text that comes next, with the place from which to go on; or the text's end.
-#[derive(Drop)]
-pub enum Next {
-    Byte(u8, usize),
-    End,
-}
-
 // Are there two blanks at `i`?
 fn pair(v: &[u8], i: usize) -> bool
     requires { i + 1 < length v.now }
@@ -44,20 +37,20 @@ fn beside(v: &[u8], i: usize) -> bool
 pub fn run(v: &[u8]) -> bool
     ensures { result ≡ Blank.has_run v.now }
 {
-    let mut i: usize = 0;
-    while 2 < v.len() - i {
-        if beside(v, i) {
+    let n = v.len().saturating_sub(1) / 2;
+    for q in 0..n {
+        if beside(v, 2 * q) {
             return true;
         }
-        i += 2;
     }
-    if 1 < v.len() - i {
-        return pair(v, i);
+    if 1 < v.len() - 2 * n {
+        return pair(v, 2 * n);
     }
     false
 }
 
 // Is the text tidied as it stands: no blank at its ends, and no run?
+#[tactic(auto, unfolding(crate::specs::Blank::is_tidy))]
 pub fn tidy(v: &[u8]) -> bool
     ensures { result ≡ Blank.is_tidy v.now }
 {
@@ -78,32 +71,32 @@ pub fn skip(v: &[u8], i: usize) -> usize
     requires { i ≤ length v.now }
     ensures { result ≡ Blank.skipped v.now i }
 {
-    let mut k = i;
-    while k < v.len() {
+    for k in i..v.len() {
         if v[k] != BLANK {
             return k;
         }
-        k += 1;
     }
-    k
+    v.len()
 }
 
-// What comes next from `i` on, after a byte that is no blank.
-pub fn next_at(v: &[u8], i: usize) -> Next
+// What comes next from `i` on, after a byte that is no blank: the byte of the tidied text, and the place from which to go on; none at the end.
+#[tactic(auto, unfolding(crate::specs::Blank::next_at))]
+pub fn next_at(v: &[u8], i: usize) -> Option<(u8, usize)>
     requires { i ≤ length v.now }
     ensures { result ≡ Blank.next_at v.now i }
 {
     let k = skip(v, i);
     if k == v.len() {
-        return Next::End;
+        return None;
     }
     if i < k {
-        return Next::Byte(BLANK, k);
+        return Some((BLANK, k));
     }
-    Next::Byte(v[k], k + 1)
+    Some((v[k], k + 1))
 }
 
 // The text with one byte more, where there is room.
+#[tactic(auto, unfolding(crate::specs::Blank::put))]
 fn put(t: Text, b: u8) -> Text
     ensures { result ≡ Blank.put t b }
 {
@@ -128,6 +121,7 @@ fn doubled(v: &[u8], i: usize) -> bool
 }
 
 // The text with byte `i` of `v`, unless that is such a blank.
+#[tactic(auto, unfolding(crate::specs::Blank::kept))]
 fn kept(t: Text, v: &[u8], i: usize) -> Text
     requires { i < length v.now }
     ensures { result ≡ Blank.kept t v.now i }
@@ -146,10 +140,8 @@ pub fn shortened(v: &[u8]) -> Text
         bytes: [0; 64],
         length: 0,
     };
-    let mut i: usize = 0;
-    while i < v.len() {
+    for i in 0..v.len() {
         t = kept(t, v, i);
-        i += 1;
     }
     t
 }
@@ -167,7 +159,7 @@ pub fn tidied(v: &[u8]) -> Text
         return put(t, BLANK);
     }
     loop {
-        let Next::Byte(b, k) = next_at(v, i) else {
+        let Some((b, k)) = next_at(v, i) else {
             return t;
         };
         t = put(t, b);

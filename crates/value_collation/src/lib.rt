@@ -7,7 +7,7 @@ ghost use Rattle.rules.specs.Value as Value;
 ghost use Rattle.value_collation.specs.Compare as Compare;
 ghost use Rattle.value_collation.specs.Fold as Fold;
 
-use rules::Order;
+use std::cmp::Ordering;
 
 // The syntaxes, by their numbers in K 1.
 pub const OCTETS: u64 = 0;
@@ -17,6 +17,7 @@ pub const TEXT: u64 = 1;
 pub const INTEGER: u64 = 2;
 
 // A capital letter's small letter; any other byte itself.
+#[tactic(auto, unfolding(rules::specs::Value::small))]
 pub fn small(b: u8) -> u8
     ensures { result ≡ Value.small b }
 {
@@ -29,6 +30,7 @@ pub fn small(b: u8) -> u8
 }
 
 // A byte as the syntax compares it.
+#[tactic(auto, unfolding(crate::specs::Fold::fold))]
 fn folded(syntax: u64, b: u8) -> u8
     ensures { result ≡ Fold.fold syntax b }
 {
@@ -56,68 +58,54 @@ fn four(v: &[u8], w: &[u8], i: usize) -> bool
     ((v[i] == w[i]) & (v[i + 1] == w[i + 1])) & ((v[i + 2] == w[i + 2]) & (v[i + 3] == w[i + 3]))
 }
 
-// The lesser number.
-fn least(a: usize, b: usize) -> usize
-    ensures { result ≡ min a b }
-{
-    if a < b {
-        return a;
-    }
-    b
-}
-
 // A part of the beginning that two values share, by four bytes at a time; `n` is the shorter one's length.
 fn leap(syntax: u64, v: &[u8], w: &[u8], n: usize) -> usize
     requires { n ≡ min (length v.now) (length w.now) }
     ensures { Compare.Shared (folded syntax v.now) (folded syntax w.now) n result }
 {
-    let mut i: usize = 0;
-    while 4 <= n - i {
-        if !four(v, w, i) {
-            return i;
+    for q in 0..n / 4 {
+        if !four(v, w, 4 * q) {
+            return 4 * q;
         }
-        i += 4;
     }
-    i
+    n / 4 * 4
 }
 
 // How many bytes two values share at their beginning.
 pub fn common(syntax: u64, v: &[u8], w: &[u8]) -> usize
     ensures { result ≡ Compare.common (folded syntax v.now) (folded syntax w.now) }
 {
-    let n = least(v.len(), w.len());
-    let mut i = leap(syntax, v, w, n);
-    while i < n {
+    let n = v.len().min(w.len());
+    for i in leap(syntax, v, w, n)..n {
         if !alike(syntax, v[i], w[i]) {
             return i;
         }
-        i += 1;
     }
-    i
+    n
 }
 
 // The order by bytes, by what stands after the beginning that the values share.
-pub fn order_after(syntax: u64, v: &[u8], w: &[u8]) -> Order
+pub fn order_after(syntax: u64, v: &[u8], w: &[u8]) -> Ordering
     ensures { result ≡ order_bytes (folded syntax v.now) (folded syntax w.now) }
 {
     let i = common(syntax, v, w);
     if i == v.len() {
         if i == w.len() {
-            return Order::Equal;
+            return Ordering::Equal;
         }
-        return Order::Less;
+        return Ordering::Less;
     }
     if i == w.len() {
-        return Order::Greater;
+        return Ordering::Greater;
     }
     if folded(syntax, v[i]) < folded(syntax, w[i]) {
-        return Order::Less;
+        return Ordering::Less;
     }
-    Order::Greater
+    Ordering::Greater
 }
 
 // The order by bytes, a prefix first; mostly the first bytes tell it.
-pub fn order_bytes(syntax: u64, v: &[u8], w: &[u8]) -> Order
+pub fn order_bytes(syntax: u64, v: &[u8], w: &[u8]) -> Ordering
     ensures { result ≡ order_bytes (folded syntax v.now) (folded syntax w.now) }
 {
     if 0 < v.len() {
@@ -125,10 +113,10 @@ pub fn order_bytes(syntax: u64, v: &[u8], w: &[u8]) -> Order
             let a = folded(syntax, v[0]);
             let b = folded(syntax, w[0]);
             if a < b {
-                return Order::Less;
+                return Ordering::Less;
             }
             if b < a {
-                return Order::Greater;
+                return Ordering::Greater;
             }
         }
     }

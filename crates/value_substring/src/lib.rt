@@ -7,7 +7,6 @@ ghost use Rattle.rules.specs.Value as Value;
 ghost use Rattle.value_collation.specs.Fold as Fold;
 ghost use Rattle.value_substring.specs.Pieces as Pieces;
 
-use rules::Found;
 use value_collation::{TEXT, common, small};
 
 // Whether `p` stands at `at`.
@@ -32,14 +31,13 @@ fn leap(v: &[u8], from: usize, b: u8) -> usize
     requires { from ≤ length v.now }
     ensures { Pieces.Sought b (folded text v.now) from result }
 {
-    let mut i = from;
-    while 4 <= v.len() - i {
-        if !absent(v, i, b) {
-            return i;
+    let n = (v.len() - from) / 4;
+    for q in 0..n {
+        if !absent(v, from + 4 * q, b) {
+            return from + 4 * q;
         }
-        i += 4;
     }
-    i
+    from + 4 * n
 }
 
 // The first `b` from `from` on, or the end.
@@ -47,35 +45,34 @@ fn seek(v: &[u8], from: usize, b: u8) -> usize
     requires { from ≤ length v.now }
     ensures { result ≡ from + Pieces.seek b (drop from (folded text v.now)) }
 {
-    let mut i = leap(v, from, b);
-    while i < v.len() {
+    for i in leap(v, from, b)..v.len() {
         if small(v[i]) == b {
             return i;
         }
-        i += 1;
     }
-    i
+    v.len()
 }
 
 // A piece anywhere: its first place.
-pub fn any(v: &[u8], from: usize, p: &[u8]) -> Found
+pub fn any(v: &[u8], from: usize, p: &[u8]) -> Option<usize>
     requires { from ≤ length v.now }
     ensures { result ≡ find (folded text p.now) (drop from (folded text v.now)) 0 }
 {
     if p.len() == 0 {
-        return Found::At(0);
+        return Some(0);
     }
     if v.len() - from < p.len() {
-        return Found::Nothing;
+        return None;
     }
     let b = small(p[0]);
     let mut i = seek(v, from, b);
+    // A 'while': it goes from one place of `b` to the next, so a range would not be plainer.
     while p.len() <= v.len() - i {
         if stands(v, i, p) {
             let used = i - from + p.len();
-            return Found::At(used);
+            return Some(used);
         }
         i = seek(v, i + 1, b);
     }
-    Found::Nothing
+    None
 }

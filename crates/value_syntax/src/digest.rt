@@ -34,14 +34,13 @@ fn mixed(seed: u64, v: &[u8]) -> u64
     ensures { result ≡ Digest.mixed seed v.now }
 {
     let mut h = seed;
-    let mut i: usize = 0;
-    while 4 <= v.len() - i {
+    let n = v.len() / 4;
+    for q in 0..n {
+        let i = 4 * q;
         h = stirred(h, word(v[i], v[i + 1], v[i + 2], v[i + 3]));
-        i += 4;
     }
-    while i < v.len() {
+    for i in 4 * n..v.len() {
         h = stirred(h, caseless(v[i]));
-        i += 1;
     }
     h % 4294967296
 }

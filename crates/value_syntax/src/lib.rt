@@ -8,7 +8,7 @@ ghost use Rattle.std.specs.Prelude.{◌≡◌, ◌≤◌, length, drop};
 ghost use Rattle.rules.specs.Value as Value;
 ghost use Rattle.rules.specs.Value.{text, folded, normal_piece};
 
-use rules::{Found, Integer, Order};
+use std::cmp::Ordering;
 use value_collation::{INTEGER, OCTETS, TEXT};
 
 // Whether the syntax allows the value.
@@ -22,7 +22,7 @@ pub fn fits(syntax: u64, v: &[u8]) -> bool
     if syntax == TEXT {
         return sized & text::printable(v);
     }
-    let Integer::Value(_) = value_integer::integer(v) else {
+    let Some(_) = value_integer::integer(v) else {
         return false;
     };
     true
@@ -42,6 +42,7 @@ pub fn same(syntax: u64, v: &[u8], w: &[u8]) -> bool
 }
 
 // Whether the syntax has an ordering rule.
+#[tactic(auto, unfolding(rules::specs::Value::ordered))]
 pub fn ordered(syntax: u64) -> bool
     ensures { result ≡ Value.ordered syntax }
 {
@@ -49,7 +50,7 @@ pub fn ordered(syntax: u64) -> bool
 }
 
 // The ordering rule: how two values that the syntax allows compare.
-pub fn order(syntax: u64, v: &[u8], w: &[u8]) -> Order
+pub fn order(syntax: u64, v: &[u8], w: &[u8]) -> Ordering
     ensures { result ≡ Value.order syntax v.now w.now }
 {
     if syntax == INTEGER {
@@ -62,6 +63,7 @@ pub fn order(syntax: u64, v: &[u8], w: &[u8]) -> Order
 }
 
 // Whether the syntax has a substrings rule.
+#[tactic(auto, unfolding(rules::specs::Value::searchable))]
 pub fn searchable(syntax: u64) -> bool
     ensures { result ≡ Value.searchable syntax }
 {
@@ -69,31 +71,31 @@ pub fn searchable(syntax: u64) -> bool
 }
 
 // How many bytes of a text are used, from `from` on, up to the end of a piece that has no runs.
-fn end_of(v: &[u8], from: usize, place: u64, p: &[u8]) -> Found
+fn end_of(v: &[u8], from: usize, place: u64, p: &[u8]) -> Option<usize>
     requires { from ≤ length v.now }
     ensures { result ≡ Value.used place (folded text p.now) (drop from (folded text v.now)) }
 {
     if place == 0 {
         if value_substring::stands(v, from, p) {
-            return Found::At(p.len());
+            return Some(p.len());
         }
-        return Found::Nothing;
+        return None;
     }
     if place == 1 {
         return value_substring::any(v, from, p);
     }
     if v.len() - from < p.len() {
-        return Found::Nothing;
+        return None;
     }
     if value_substring::stands(v, v.len() - p.len(), p) {
-        return Found::At(v.len() - from);
+        return Some(v.len() - from);
     }
-    Found::Nothing
+    None
 }
 
 // The substrings rule, a piece at a time: how many bytes of a text without stray blanks are used, from `from` on, up to the piece's end.
 // Its place is 0 initial, 1 any, 2 final. Of the piece only the runs are shortened.
-pub fn piece_end(v: &[u8], from: usize, place: u64, p: &[u8]) -> Found
+pub fn piece_end(v: &[u8], from: usize, place: u64, p: &[u8]) -> Option<usize>
     requires { (from ≤ length v.now) × (length p.now ≤ 64) }
     ensures { result ≡ Value.used place (normal_piece text p.now) (drop from (folded text v.now)) }
 {

@@ -1,5 +1,4 @@
 use Rattle.access_covers.specs.Laws.Covers.{rights-whole}
-use borrow.Author.Rules.{rules}
 use Rattle.access_covers.proofs.note_rights.Goals as goal
 
 pub returns : goal.returns

@@ -11,7 +11,6 @@ use Rattle.std.proofs.lemmas.Bool.{eqb-false}
 use Rattle.rules.specs.Sheet.{Bytes, bit}
 use Rattle.rules.specs.Permission.{Item}
 use Rattle.rules.specs.Derived.{item_at}
-use Rattle.value_syntax.specs.Digest.{digest}
 use Rattle.value_syntax.specs.Laws.Digest.{digest-bound}
 use Rattle.name.specs.Schema.{Rising, rank_in}
 use Rattle.permission_sheet.specs.Noted.{ItemRow, DIGEST, TYPE, VALUE, LENGTH, RIGHTS, SCOPES}

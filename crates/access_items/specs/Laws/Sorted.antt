@@ -8,8 +8,7 @@ use Rattle.rules.specs.Name.{Schema}
 use Rattle.rules.specs.Permission.{Item, items, permissions_of}
 use Rattle.rules.proofs.Laws.Judge.{not-refused}
 use Rattle.rules.specs.Derived.{Ranked}
-use Rattle.permission_sheet.specs.declared.NotedItems.{NotedItems}
-use Rattle.permission_sheet.specs.Noted.{PermissionsNoted}
+use Rattle.permission_sheet.specs.Noted.{NotedItems, PermissionsNoted}
 use Rattle.access_items.specs.Sorted.{Sorted}
 
 -- an accepted sheet is not long

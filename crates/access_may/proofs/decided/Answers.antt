@@ -8,4 +8,4 @@ pub returns-in_default : goal.returns-in_default
 returns-in_default c = decided-none c.args.sets.now (member c.args.asked) c.first.result c.in_default.is c.first.ensures
 
 pub returns : goal.returns
-returns c = decided-at c.args.sets.now (member c.args.asked) c.in-At.i c.first.result c.in-At.is c.first.ensures c.has.result (c.has.ensures ∙ row-member _ _ _ c.row.ensures c.in-At.i)
+returns c = decided-at c.args.sets.now (member c.args.asked) c.in-Some.i c.first.result c.in-Some.is c.first.ensures c.has.result (c.has.ensures ∙ row-member _ _ _ c.row.ensures c.in-Some.i)

@@ -1,12 +1,11 @@
 -- Laws of `Decided` and `First`: what is asked, by other words; and what is left of the candidates when those about other values are passed over.
-use Rattle.std.specs.Prelude.{ℕ, ◌≤◌, ◌<◌, ◌≡◌, Bool, true, not, ◌&&◌, ◌||◌, List, eqb, ltb}
+use Rattle.std.specs.Prelude.{ℕ, ◌≤◌, ◌<◌, ◌≡◌, Bool, true, not, ◌&&◌, ◌||◌, List, eqb, ltb, Some, None}
 use Rattle.std.proofs.Math.Path.{refl}
 use Rattle.std.proofs.Common.{sym, ap, ◌∙◌, subst, true≢false, arith, ne_eqb, ltb-true, ltb-false}
 use Rattle.std.proofs.Math.Bool.{false}
 use Rattle.std.proofs.lemmas.Bool.{eqb-false}
 use Rattle.rules.proofs.Laws.Tests.{and_left, or_right}
-use Rattle.rules.specs.declared.Found.{Found}
-use Rattle.rules.specs.declared.Found.TheVariants.{At, Nothing}
+use Rattle.rules.specs.Value.{Found}
 use Rattle.access_set.specs.declared.Bits.{Bits}
 use Rattle.access_set.specs.Member.{member, Least}
 use Rattle.access_set.specs.Laws.Sets.{member-beyond}
@@ -28,11 +27,11 @@ row-member sets r x e j = ap (λ (s : Bits). member s j) e
 
 module _ (sets : List ℕ) where
   module _ (asked : ℕ → Bool) where
-    pub decided-none : (f : Found) → f ≡ Nothing → Least asked f → Decided sets asked false
-    decided-none f e l = record { first = Nothing; least = subst (Least asked) e l; verdict = refl }
+    pub decided-none : (f : Found) → f ≡ None → Least asked f → Decided sets asked false
+    decided-none f e l = record { first = None; least = subst (Least asked) e l; verdict = refl }
 
-    pub decided-at : (i : ℕ) (f : Found) → f ≡ At i → Least asked f → (r : Bool) → r ≡ in_row sets grants_row i → Decided sets asked r
-    decided-at i f e l r g = record { first = At i; least = subst (Least asked) e l; verdict = g }
+    pub decided-at : (i : ℕ) (f : Found) → f ≡ Some i → Least asked f → (r : Bool) → r ≡ in_row sets grants_row i → Decided sets asked r
+    decided-at i f e l r g = record { first = Some i; least = subst (Least asked) e l; verdict = g }
 
 -- ---- the first as a place
 
@@ -43,11 +42,11 @@ first-same p q h end i f = record {
   below = λ j b. sym (h j) ∙ f.below j b;
 }
 
-pub first-none : (p : ℕ → Bool) (f : Found) → f ≡ Nothing → Least p f → First p 256 256
-first-none p f e l = let g : Least p Nothing = subst (Least p) e l in record { within = omega arith; passes = λ b. absurd (omega arith); below = λ j b. g j }
+pub first-none : (p : ℕ → Bool) (f : Found) → f ≡ None → Least p f → First p 256 256
+first-none p f e l = let g : Least p None = subst (Least p) e l in record { within = omega arith; passes = λ b. absurd (omega arith); below = λ j b. g j }
 
-pub first-at : (p : ℕ → Bool) (i : ℕ) (f : Found) → f ≡ At i → Least p f → First p 256 i
-first-at p i f e l = let g : Least p (At i) = subst (Least p) e l in let b : i < 256 = g.0 in record { within = omega arith; passes = λ b. g.1; below = g.2 }
+pub first-at : (p : ℕ → Bool) (i : ℕ) (f : Found) → f ≡ Some i → Least p f → First p 256 i
+first-at p i f e l = let g : Least p (Some i) = subst (Least p) e l in let b : i < 256 = g.0 in record { within = omega arith; passes = λ b. g.1; below = g.2 }
 
 -- ---- what is left of the candidates
 
@@ -151,8 +150,8 @@ module _ (sets : List ℕ) (all single : Bits) (ok : ℕ → Bool) where
           at false q = let l : i ≤ j = ltb-false j i q in beyond j (omega arith)
 
       go : (t : Bool) → ltb i 256 ≡ t → Decided sets asked r
-      go true q = let l : i < 256 = ltb-true i 256 q in record { first = At i; least = (l, f.passes l, f.below); verdict = e }
-      go false q = let l : 256 ≤ i = ltb-false i 256 q in record { first = Nothing; least = none l; verdict = e ∙ member-beyond (row_of sets grants_row) i l }
+      go true q = let l : i < 256 = ltb-true i 256 q in record { first = Some i; least = (l, f.passes l, f.below); verdict = e }
+      go false q = let l : 256 ≤ i = ltb-false i 256 q in record { first = None; least = none l; verdict = e ∙ member-beyond (row_of sets grants_row) i l }
 
   module _ (end : ℕ) (a : First (member all) 256 end) where
     -- the first about all values stands before those about one

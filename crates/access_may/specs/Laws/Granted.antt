@@ -1,6 +1,6 @@
 -- What is decided by sets of items is what the rules grant.
 use Prim.Native.Nat.{ℕ, zero, suc, ◌+◌, ◌%◌, ◌^◌, ◌≤◌, ◌<◌}
-use Rattle.std.specs.Prelude.{◌≡◌, refl, Bool, true, false, List, ltb, length, get_or}
+use Rattle.std.specs.Prelude.{◌≡◌, refl, Bool, true, false, List, ltb, length, get_or, Some, None}
 use Rattle.std.proofs.Math.Path.{sym, ap, ap₂}
 use Rattle.std.proofs.Common.{◌∙◌, true≢false, arith, lt-ltb, ltb-true}
 use Rattle.std.proofs.Math.Bool.{◌&&◌, ◌||◌}
@@ -14,8 +14,7 @@ use Rattle.rules.specs.Permission.{Item}
 use Rattle.rules.specs.Decision.{Setting, Thing, entry, of_type, of_value, base_covers, who_fits, what_covers, names, level_fits, applies, granted}
 use Rattle.rules.specs.Derived.{concerns, item_at}
 use Rattle.rules.proofs.Laws.First.{decided-first, decided-none}
-use Rattle.rules.specs.declared.Found.{Found}
-use Rattle.rules.specs.declared.Found.TheVariants.{At, Nothing}
+use Rattle.rules.specs.Value.{Found}
 use Rattle.value_syntax.specs.Digest.{digest}
 use Rattle.name.specs.Schema.{equal_by}
 use Rattle.name.specs.Laws.Schema.{equal-at}
@@ -71,11 +70,11 @@ module _ (σ : Setting) (es : List Stored) (schema : List ℕ) (p : Bytes) (sets
           by false g = absurd (true≢false (sym e ∙ all j ∙ ap (λ (t : Bool). (t && in_row sets (permission_row + q) j) && about j) (rights.covers.entry k j l ∙ ap (λ (t : Bool). t && concerns σ n (item j)) g)))
 
       first-grants : (f : Found) → Least asked f → by_found f (in_row sets grants_row) ≡ granted σ n x (2 ^ q)
-      first-grants (At i) g =
+      first-grants (Some i) g =
           let b : i < length σ.items = only i g.1 in
           rights.items.grants i b
           ∙ sym (decided-first σ n x (2 ^ q) rights.order rights.items.ranked i b (sym (asked-applies i b) ∙ g.1) (λ j c. sym (asked-applies j (omega arith)) ∙ g.2 j c))
-      first-grants Nothing g = sym (decided-none σ n x (2 ^ q) rights.order rights.items.ranked (λ j b. sym (asked-applies j b) ∙ g j))
+      first-grants None g = sym (decided-none σ n x (2 ^ q) rights.order rights.items.ranked (λ j b. sym (asked-applies j b) ∙ g j))
 
     -- the root has no items
     module _ (asked : ℕ → Bool) (all : (j : ℕ) → asked j ≡ ((in_row sets 0 j && in_row sets (permission_row + q) j) && about j)) where
@@ -83,8 +82,8 @@ module _ (σ : Setting) (es : List Stored) (schema : List ℕ) (p : Bytes) (sets
       unasked j = all j ∙ ap (λ (t : Bool). (t && in_row sets (permission_row + q) j) && about j) (rights.covers.root j)
 
       first-none : (f : Found) → Least asked f → by_found f (in_row sets grants_row) ≡ false
-      first-none (At i) g = absurd (true≢false (sym g.1 ∙ unasked i))
-      first-none Nothing g = refl
+      first-none (Some i) g = absurd (true≢false (sym g.1 ∙ unasked i))
+      first-none None g = refl
 
     -- those asked are the items of the entry that name the permission and are about the thing
     pub decided-granted : (e : ℕ) → e ≤ length es → (asked : ℕ → Bool) → ((j : ℕ) → asked j ≡ ((in_row sets e j && in_row sets (permission_row + q) j) && about j)) → (r : Bool) → Decided sets asked r → r ≡ granted_at σ es e x (2 ^ q)

@@ -1,6 +1,5 @@
 use borrow.Author.Tests.{eq-eqb, ne_eqb}
 use Rattle.tables.specs.Numbers.{base_reach}
-use borrow.Author.Rules.{rules}
 use Rattle.access_scope.proofs.base_reach.Goals as goal
 
 pub returns-then-below-eq1 : goal.returns-then-below-eq1

@@ -2,7 +2,6 @@ use Prim.Native.Nat.{◌+◌, ◌*◌}
 use mathlib.Core.Bool.{Bool, cond}
 use mathlib.Core.Path.{sym, ap, ◌∙◌}
 use Rattle.access_scope.specs.Laws.Scopes.{own-none, own_below, own_alone, own-apart}
-use borrow.Author.Rules.{rules}
 use Rattle.access_scope.proofs.own_reach.Goals as goal
 
 pub returns-then-o-eq0 : goal.returns-then-o-eq0

@@ -3,7 +3,6 @@ use Rattle.rules.specs.Name.{Schema}
 use Rattle.tables.specs.Book.{width}
 use Rattle.access_scope.specs.Scopes.{asked_by}
 use Rattle.access_scope.specs.Laws.Scopes.{item-asked, item-unasked}
-use borrow.Author.Rules.{rules}
 use Rattle.access_scope.proofs.reach_item.Goals as goal
 
 pub returns-then-asked : goal.returns-then-asked

@@ -1,6 +1,5 @@
 use mathlib.Core.Path.{◌∙◌}
 use Rattle.access_scope.specs.Laws.Scopes.{spread-base, spread-own}
-use borrow.Author.Rules.{rules}
 use Rattle.access_scope.proofs.spread.Goals as goal
 
 pub returns-then-who-ne-ENTRY_ITSELF : goal.returns-then-who-ne-ENTRY_ITSELF

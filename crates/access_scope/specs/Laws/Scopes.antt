@@ -1,6 +1,6 @@
 -- Laws of `Scopes`: the ways through the code, and what the numbers stand for.
 use Prim.Native.Nat.{ℕ, suc, ◌+◌, ◌*◌}
-use Rattle.std.specs.Prelude.{◌≡◌, refl, Bool, true, false, ◌||◌, not, List, [], ◌∷◌, eqb, leb, length, get_or}
+use Rattle.std.specs.Prelude.{◌≡◌, refl, Bool, true, false, ◌||◌, not, List, [], ◌∷◌, eqb, leb, length, get_or, Some, None}
 use Rattle.std.proofs.Common.{sym, ◌∙◌, arith}
 use Rattle.std.proofs.Math.Path.{ap, ap₂}
 use Rattle.std.proofs.Math.Bool.{◌&&◌, cond}
@@ -17,8 +17,7 @@ use Rattle.permission_sheet.specs.Noted.{ItemRow}
 use Rattle.access_scope.specs.Scopes.{Asker, scope_at, level_by, who_by, asked_by, spread_by, spread_from, item_by}
 use Rattle.access_scope.specs.declared.Requester.{Requester}
 use Rattle.access_scope.specs.declared.Scope.{Scope}
-use Rattle.rules.specs.declared.Found.{Found}
-use Rattle.rules.specs.declared.Found.TheVariants.{At, Nothing}
+use Rattle.rules.specs.Value.{Found}
 
 -- ---- the ways through the code
 
@@ -188,7 +187,7 @@ module _ (σ : Setting) (es : List Stored) (w : ℕ) (p q : Bytes) (rights scope
         none false c z = refl
 
         go : (f : Found) → cond (level_fits σ i && (eqb i.who 2 || fits_always σ i)) (spread_from es i.who (bit i.below) O f) 0 ≡ cond (level_fits σ i) (reach_from σ es i O f) 0
-        go Nothing = none (level_fits σ i) (eqb i.who 2 || fits_always σ i) 0
-        go (At b) =
+        go None = none (level_fits σ i) (eqb i.who 2 || fits_always σ i) 0
+        go (Some b) =
             ap (λ (t : Bool). cond (level_fits σ i && (eqb i.who 2 || fits_always σ i)) (cond (eqb i.who 2) (own_reach es t b O) (base_reach t b)) 0) (bit-one i.below)
             ∙ by (level_fits σ i) (eqb i.who 2) (fits_always σ i) (own_reach es i.below b O) (base_reach i.below b)

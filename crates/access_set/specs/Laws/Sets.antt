@@ -1,6 +1,6 @@
 -- Laws of sets: of each operation on the four words.
 use Prim.Native.Nat.{ℕ, zero, suc, ◌+◌, ◌*◌, ◌/◌, ◌%◌, ◌^◌, ◌≤◌, ◌<◌}
-use Rattle.std.specs.Prelude.{◌≡◌, Bool, ◌&&◌, ◌||◌, not, eqb}
+use Rattle.std.specs.Prelude.{◌≡◌, Bool, ◌&&◌, ◌||◌, not, eqb, Some, None}
 use Rattle.std.proofs.Math.Path.{refl, sym, ap, subst}
 use Rattle.std.proofs.Common.{ap₂, ◌∙◌, true≢false, eq-eqb, ne_eqb, eqb-true}
 use Rattle.std.proofs.Math.Bool.{true, false, cond}
@@ -8,7 +8,6 @@ use native.Mathlib.Omega.{arith}
 use Rattle.std.specs.Int.Bits.{bit_and, bit_or, bit_xor}
 use Rattle.std.proofs.lemmas.Bool.{eqb-false}
 use Rattle.access_set.specs.declared.Bits.{Bits}
-use Rattle.rules.specs.declared.Found.TheVariants.{At, Nothing}
 use Rattle.access_set.specs.Member.{bit_of, Lowest, word_of, member, each, meet, join, Least}
 use Rattle.access_set.specs.Laws.Bit.{bit-and, bit-or, bit-xor, bit-none, bit-pow}
 
@@ -219,7 +218,7 @@ module _ (s : Bits) (i x : ℕ) (e : x ≡ 2 ^ (i % 64)) where
 -- ---- the least member
 
 -- the words before word `k` are 0, and `i` is the place of the lowest bit of word `k`
-pub least_at : (s : Bits) (k i : ℕ) → k < 4 → ((m : ℕ) → m < k → word_of s m ≡ 0) → Lowest (word_of s k) i → Least (member s) (At (k * 64 + i))
+pub least_at : (s : Bits) (k i : ℕ) → k < 4 → ((m : ℕ) → m < k → word_of s m ≡ 0) → Lowest (word_of s k) i → Least (member s) (Some (k * 64 + i))
 unfolding member
 least_at s k i h before low = (
   omega (arith, low.within),
@@ -245,7 +244,7 @@ least_at s k i h before low = (
             let f : j / 64 ≡ k → ⊥ = eqb-false (j / 64) k e in
             ap (λ (m : ℕ). bit_of m (j % 64)) (before (j / 64) (omega (arith, w))) ∙ bit-none (j % 64)
 
-pub least-none : (s : Bits) → s.a ≡ 0 → s.b ≡ 0 → s.c ≡ 0 → s.d ≡ 0 → Least (member s) Nothing
+pub least-none : (s : Bits) → s.a ≡ 0 → s.b ≡ 0 → s.c ≡ 0 → s.d ≡ 0 → Least (member s) None
 unfolding member word_of
 least-none s p q r t j = ap (λ (x : ℕ). bit_of x (j % 64)) (go (eqb (j / 64) 0) (eqb (j / 64) 1) (eqb (j / 64) 2) (eqb (j / 64) 3)) ∙ bit-none (j % 64)
   where
@@ -257,15 +256,15 @@ least-none s p q r t j = ap (λ (x : ℕ). bit_of x (j % 64)) (go (eqb (j / 64) 
     go false false false false = refl
 
 module _ (s : Bits) (i : ℕ) where
-  pub least-a : Lowest s.a i → Least (member s) (At i)
+  pub least-a : Lowest s.a i → Least (member s) (Some i)
   unfolding word_of
-  least-a l = let e : 0 * 64 + i ≡ i = omega arith in subst (λ (m : ℕ). Least (member s) (At m)) e (least_at s 0 i (omega arith) (λ m h. absurd (omega arith)) l)
+  least-a l = let e : 0 * 64 + i ≡ i = omega arith in subst (λ (m : ℕ). Least (member s) (Some m)) e (least_at s 0 i (omega arith) (λ m h. absurd (omega arith)) l)
 
-  pub least-b : s.a ≡ 0 → Lowest s.b i → Least (member s) (At (64 + i))
+  pub least-b : s.a ≡ 0 → Lowest s.b i → Least (member s) (Some (64 + i))
   unfolding word_of
   least-b p l = least_at s 1 i (omega arith) (λ m h. let e : m ≡ 0 = omega arith in ap (word_of s) e ∙ p) l
 
-  pub least-c : s.a ≡ 0 → s.b ≡ 0 → Lowest s.c i → Least (member s) (At (128 + i))
+  pub least-c : s.a ≡ 0 → s.b ≡ 0 → Lowest s.c i → Least (member s) (Some (128 + i))
   unfolding word_of
   least-c p q l = least_at s 2 i (omega arith) (λ m h. two m h) l
     where
@@ -274,7 +273,7 @@ module _ (s : Bits) (i : ℕ) where
       two (suc zero) h = q
       two (suc (suc m)) h = absurd (omega arith)
 
-  pub least-d : s.a ≡ 0 → s.b ≡ 0 → s.c ≡ 0 → Lowest s.d i → Least (member s) (At (192 + i))
+  pub least-d : s.a ≡ 0 → s.b ≡ 0 → s.c ≡ 0 → Lowest s.d i → Least (member s) (Some (192 + i))
   unfolding word_of
   least-d p q r l = least_at s 3 i (omega arith) (λ m h. three m h) l
     where

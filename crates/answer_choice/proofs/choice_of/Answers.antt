@@ -1,11 +1,9 @@
-use Prim.Native.Nat.{◌-◌}
 use mathlib.Core.Path.{◌≡◌, refl}
 use native.Mathlib.Omega.{arith}
 use lib.ListN.{length}
 use Rattle.tables.specs.Book.{width, type_count, schema}
 use Rattle.tables.specs.Laws.Book.{schema-length}
 use Rattle.answer_choice.specs.Laws.Selected.{chooses-listed, chooses-all}
-use borrow.Author.Rules.{rules}
 use Rattle.answer_choice.proofs.choice_of.Goals as goal
 
 pub returns-then-asked : goal.returns-then-asked

@@ -3,7 +3,6 @@ use native.Mathlib.Omega.{arith}
 use Rattle.name.specs.Laws.Schema.{rank-type}
 use Rattle.tables.specs.Held.{type_at}
 use Rattle.answer_choice.specs.Laws.Selected.{rank-in, rank-out}
-use borrow.Author.Rules.{rules}
 use Rattle.answer_choice.proofs.with_type.Goals as goal
 
 pub returns-then-i-types : goal.returns-then-i-types

@@ -19,7 +19,6 @@ use Rattle.sheet_line.specs.Line.{taken_at}
 use Rattle.sheet_line.specs.Laws.{lines_by, taken-lines}
 use Rattle.sheet_line.specs.declared.Line.{Line}
 use Rattle.sheet_line.specs.declared.Taken.{Taken}
-use Rattle.sheet_line.specs.declared.Taken.TheVariants as Taken
 use Rattle.name.specs.Schema.{rank_in}
 use Rattle.name.specs.Laws.Schema.{rank-first}
 use Rattle.request_sheet.specs.Noted as Requests

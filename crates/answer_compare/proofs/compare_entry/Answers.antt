@@ -1,4 +1,4 @@
-use Prim.Native.Nat.{◌-◌}
+use Rattle.std.specs.Prelude.{Some}
 use mathlib.Core.Path.{refl, sym, ap, ◌∙◌}
 use native.Mathlib.Omega.{arith}
 use mathlib.Core.Path.{subst}
@@ -9,13 +9,11 @@ use Rattle.tables.specs.declared.plan.Plan.{Plan}
 use Rattle.tables.specs.Outcome.{is_result}
 use Rattle.tables.specs.Plan.{planned}
 use Rattle.tables.specs.Sound.{SoundPlan}
-use Rattle.rules.specs.declared.Found.TheVariants.{At}
 use Rattle.tables.specs.Laws.World.{known-entry}
 use Rattle.tables.specs.Laws.Sound.{base-known, base-numbered}
 use Rattle.tables.specs.Laws.Outcome.{absent-sound}
 use Rattle.answer_entry.specs.Laws.Opening.{opens-entry, withheld-sound, opened-open, opened-withheld}
 use borrow.Author.Tests.{not-true, not-false}
-use borrow.Author.Rules.{rules}
 use Rattle.answer_compare.proofs.compare_entry.Goals as goal
 
 pub opening-opened-requires : goal.opening-opened-requires
@@ -23,7 +21,7 @@ opening-opened-requires c = (omega arith, known-entry (base-known c.requires) _ 
 
 pub returns-then-not-is_result : goal.returns-then-not-is_result
 unfolding answer
-returns-then-not-is_result c = let A = c.args in let E = entry_count A.book.now in (λ hits. subst (λ (r : Plan). SoundPlan E r hits) (sym c.withheld.ensures) (withheld-sound 2 c.opening-opened.result A.missing E hits (base-numbered c.requires).matched), λ σ es n s hits w q. ap (λ (r : Plan). planned σ es s r hits) c.withheld.ensures ∙ opened-withheld σ es w.entries.accepted n (At A.b) A.missing q 2 Read (compare_entry σ A.t A.v.now) A.b refl s hits _ (c.opening-opened.ensures σ es A.d.now A.p.now A.book.now A.held.now w (omega (arith, (base-numbered c.requires).found _ refl, w.entries.count))) (sym c.is_result.ensures ∙ not-true _ c.if-not-is_result.true-raw))
+returns-then-not-is_result c = let A = c.args in let E = entry_count A.book.now in (λ hits. subst (λ (r : Plan). SoundPlan E r hits) (sym c.withheld.ensures) (withheld-sound 2 c.opening-opened.result A.missing E hits (base-numbered c.requires).matched), λ σ es n s hits w q. ap (λ (r : Plan). planned σ es s r hits) c.withheld.ensures ∙ opened-withheld σ es w.entries.accepted n (Some A.b) A.missing q 2 Read (compare_entry σ A.t A.v.now) A.b refl s hits _ (c.opening-opened.ensures σ es A.d.now A.p.now A.book.now A.held.now w (omega (arith, (base-numbered c.requires).found _ refl, w.entries.count))) (sym c.is_result.ensures ∙ not-true _ c.if-not-is_result.true-raw))
 
 pub returns-then-b-eq0 : goal.returns-then-b-eq0
 returns-then-b-eq0 c = let A = c.args in let E = entry_count A.book.now in (λ hits. subst (λ (r : Plan). SoundPlan E r hits) (sym c.absent.ensures) (absent-sound E hits 2 A.missing (base-numbered c.requires).matched), λ σ es n s hits w q. absurd (opens-entry σ es A.b Read (ap is_result (sym (c.opening-opened.ensures σ es A.d.now A.p.now A.book.now A.held.now w (omega (arith, (base-numbered c.requires).found _ refl, w.entries.count)))) ∙ sym c.is_result.ensures ∙ not-false _ c.if-not-is_result.false-raw) c.if-b-eq0.true))
@@ -36,4 +34,4 @@ compare_open-requires c = (base-known c.requires, omega (arith, (base-numbered c
 
 pub returns : goal.returns
 unfolding answer
-returns c = let A = c.args in (c.compare_open.ensures.0, λ σ es n s hits w q. c.compare_open.ensures.1 σ es s hits w ∙ sym (opened-open σ es w.entries.accepted n (At A.b) A.missing q 2 Read (compare_entry σ A.t A.v.now) A.b refl (ap is_result (sym (c.opening-opened.ensures σ es A.d.now A.p.now A.book.now A.held.now w (omega (arith, (base-numbered c.requires).found _ refl, w.entries.count)))) ∙ sym c.is_result.ensures ∙ not-false _ c.if-not-is_result.false-raw)))
+returns c = let A = c.args in (c.compare_open.ensures.0, λ σ es n s hits w q. c.compare_open.ensures.1 σ es s hits w ∙ sym (opened-open σ es w.entries.accepted n (Some A.b) A.missing q 2 Read (compare_entry σ A.t A.v.now) A.b refl (ap is_result (sym (c.opening-opened.ensures σ es A.d.now A.p.now A.book.now A.held.now w (omega (arith, (base-numbered c.requires).found _ refl, w.entries.count)))) ∙ sym c.is_result.ensures ∙ not-false _ c.if-not-is_result.false-raw)))

@@ -1,4 +1,4 @@
-use Prim.Native.Nat.{ℕ, suc, ◌-◌, ◌<◌}
+use Prim.Native.Nat.{ℕ, suc, ◌<◌}
 use mathlib.Core.Path.{refl, sym, ap, ◌∙◌}
 use native.Mathlib.Omega.{arith}
 use lib.ListN.{get_or}
@@ -9,7 +9,7 @@ use Rattle.rules.specs.Name.{equal}
 use Rattle.rules.specs.Directory.{entry_of}
 use Rattle.rules.specs.Permission.{Compare}
 use Rattle.rules.specs.FilterItem.{holds, some_value}
-use Rattle.tables.specs.Book.{entry_count, schema, first_at}
+use Rattle.tables.specs.Book.{entry_count, first_at}
 use Rattle.tables.specs.Laws.Book.{end_is}
 use Rattle.tables.specs.Laws.World.{inside, rank-within}
 use Rattle.tables.specs.declared.plan.Plan.{Plan}
@@ -20,7 +20,6 @@ use Rattle.tables.specs.Sound.{SoundPlan}
 use Rattle.tables.specs.Laws.Outcome.{refused-sound}
 use Rattle.answer_compare.specs.Compare.{compare_outcome}
 use Rattle.answer_compare.specs.Laws.Compare.{outcome-unheld, outcome-held, compare-sound, compared-planned, refused-compare}
-use borrow.Author.Rules.{rules}
 use Rattle.answer_compare.proofs.compare_open.Goals as goal
 
 pub row_of-i-requires : goal.row_of-i-requires

@@ -1,4 +1,4 @@
-use Prim.Native.Nat.{ℕ, ◌+◌, ◌-◌, ◌≤◌}
+use Prim.Native.Nat.{ℕ, ◌+◌, ◌≤◌}
 use mathlib.Core.Path.{sym, ap, ◌∙◌}
 use native.Mathlib.Omega.{arith}
 use lib.ListN.{length, get_or}
@@ -13,7 +13,6 @@ use Rattle.tables.specs.Laws.Book.{schema-length}
 use Rattle.tables.specs.Laws.World.{granted-next, inside, rows-within, rank-within, bytes-within}
 use Rattle.answer_compare.specs.Compare.{counts}
 use Rattle.answer_compare.specs.Laws.Compare.{counts-other, counts-apart, counts-equal, equal-rank}
-use borrow.Author.Rules.{rules}
 use Rattle.answer_compare.proofs.equal_row.Goals as goal
 
 pub offset_bounds-held-i : goal.offset_bounds-held-i

@@ -1,4 +1,4 @@
-use Prim.Native.Nat.{◌+◌, ◌-◌, ◌≤◌, ◌<◌}
+use Prim.Native.Nat.{◌+◌, ◌≤◌, ◌<◌}
 use mathlib.Core.Path.{sym, ◌∙◌}
 use native.Mathlib.Omega.{arith}
 use lib.ListN.{length, get_or}
@@ -10,7 +10,6 @@ use Rattle.tables.specs.Held.{type_at}
 use Rattle.tables.specs.Laws.Book.{schema-length}
 use Rattle.tables.specs.Laws.World.{granted-next, known-types, inside}
 use Rattle.answer_compare.specs.Laws.Compare.{outcome-inside, outcome-outside, outcome-told, outcome-untold, allowed-rank}
-use borrow.Author.Rules.{rules}
 use Rattle.answer_compare.proofs.outcome_of.Goals as goal
 
 pub overflow_add-k : goal.overflow_add-k

@@ -1,5 +1,5 @@
 -- Laws of `Compare`: what each outcome makes of the answer, and the values one by one.
-use Rattle.std.specs.Prelude.{ℕ, ◌+◌, ◌/◌, ◌%◌, ◌<◌, ◌≡◌, Bool, ◌&&◌, List, [], ◌∷◌, ◌++◌, eqb, length, get_or}
+use Rattle.std.specs.Prelude.{ℕ, ◌+◌, ◌/◌, ◌%◌, ◌<◌, ◌≡◌, Bool, ◌&&◌, List, [], ◌∷◌, ◌++◌, eqb, length, get_or, Some}
 use Rattle.std.proofs.Common.{zero-le, sym, ◌∙◌, true≢false, arith}
 use Rattle.std.proofs.Math.Path.{refl, ap}
 use Rattle.std.proofs.Math.Bool.{true, false, cond}
@@ -22,7 +22,6 @@ use Rattle.tables.specs.Plan.{planned, success_lines}
 use Rattle.tables.specs.Sound.{SoundPlan}
 use Rattle.tables.specs.Outcome.{is_result, refused_plan}
 use Rattle.tables.specs.Laws.Outcome.{refused-planned}
-use Rattle.rules.specs.declared.Found.TheVariants.{At}
 use Rattle.name.specs.Schema.{syntax_in, equal_by}
 use Rattle.name.specs.Laws.Schema.{allowed_at_lem, equal-at}
 use Rattle.tables.specs.Book.{schema_column, type_count, schema}
@@ -104,8 +103,8 @@ module _ {σ : Setting} {es : List Stored} {d : Bytes} {book held : List ℕ} (h
   inside : r < length (schema book)
   inside = omega (arith, l, schema-length h.fits)
 
-  syntax : syntax_in (schema book) (type_at (schema book) r) ≡ At (get_or book (schema_column + r) 0 % 4)
-  syntax = syntax-ranked (schema book) h.distinct r inside ∙ ap (λ (k : ℕ). At (k % 4)) (type-at book r l)
+  syntax : syntax_in (schema book) (type_at (schema book) r) ≡ Some (get_or book (schema_column + r) 0 % 4)
+  syntax = syntax-ranked (schema book) h.distinct r inside ∙ ap (λ (k : ℕ). Some (k % 4)) (type-at book r l)
 
   pub type-is : get_or book (schema_column + r) 0 / 4 ≡ type_at (schema book) r
   type-is = ap (λ (k : ℕ). k / 4) (sym (type-at book r l))

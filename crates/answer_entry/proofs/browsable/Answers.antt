@@ -1,7 +1,5 @@
-use Prim.Native.Nat.{◌-◌}
 use mathlib.Core.Path.{sym, ◌∙◌}
 use Rattle.answer_entry.specs.Laws.Returned.{browse-granted, browse-base, browse-refused}
-use borrow.Author.Rules.{rules}
 use Rattle.answer_entry.proofs.browsable.Goals as goal
 
 pub returns-then-may_entry : goal.returns-then-may_entry

@@ -1,6 +1,5 @@
 use Rattle.answer_entry.specs.Returned.{limited_plan}
 use borrow.Author.Tests.{eq-eqb, ne_eqb, lt-ltb, le-ltb}
-use borrow.Author.Rules.{rules}
 use Rattle.answer_entry.proofs.limited.Goals as goal
 
 pub returns-then-limit-eq0 : goal.returns-then-limit-eq0

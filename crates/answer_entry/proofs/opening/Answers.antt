@@ -1,7 +1,6 @@
-use Prim.Native.Nat.{◌-◌, ◌^◌}
+use Prim.Native.Nat.{◌^◌}
 use mathlib.Core.Path.{sym, ◌∙◌}
 use Rattle.answer_entry.specs.Laws.Opening.{opens-granted, opens-disclosed, opens-hidden}
-use borrow.Author.Rules.{rules}
 use Rattle.answer_entry.proofs.opening.Goals as goal
 
 pub returns-then-may_entry : goal.returns-then-may_entry

@@ -1,7 +1,5 @@
-use Prim.Native.Nat.{◌-◌}
 use mathlib.Core.Path.{sym, ◌∙◌}
 use Rattle.answer_entry.specs.Laws.Returned.{return-asked, return_refused}
-use borrow.Author.Rules.{rules}
 use Rattle.answer_entry.proofs.returnable.Goals as goal
 
 pub returns-then-browsable : goal.returns-then-browsable

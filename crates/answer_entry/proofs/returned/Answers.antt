@@ -1,6 +1,5 @@
 use Rattle.answer_entry.specs.Returned.{returned_plan}
 use borrow.Author.Tests.{eq-eqb, ne_eqb}
-use borrow.Author.Rules.{rules}
 use Rattle.answer_entry.proofs.returned.Goals as goal
 
 pub returns-then-disclosed : goal.returns-then-disclosed

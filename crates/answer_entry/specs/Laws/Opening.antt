@@ -1,6 +1,6 @@
 -- Laws of `Opening`: the answer of an operation on one entry, by the outcome of opening it.
 use Prim.Native.Nat.{ℕ, zero, suc, ◌-◌, ◌≤◌}
-use Rattle.std.specs.Prelude.{◌≡◌, Bool, List, map, get_or}
+use Rattle.std.specs.Prelude.{◌≡◌, Bool, List, map, get_or, Some, None}
 use Rattle.std.proofs.Math.Path.{refl, sym, ap}
 use Rattle.std.proofs.Common.{◌∙◌, true≢false}
 use Rattle.std.proofs.Math.Bool.{true, false, cond, false≢true}
@@ -16,8 +16,7 @@ use Rattle.rules.specs.Derived.{Accepted}
 use Rattle.tables.specs.Laws.Resolve.{numbered, entry_by, named-walk}
 use Rattle.rules.specs.declared.Outcome.{Outcome}
 use Rattle.rules.specs.declared.Outcome.TheVariants.{Result, NoSuchObject, InsufficientAccessRights, NoSuchAttributeOrValue, InvalidAttributeSyntax, AliasProblem}
-use Rattle.rules.specs.declared.Found.{Found}
-use Rattle.rules.specs.declared.Found.TheVariants.{At, Nothing}
+use Rattle.rules.specs.Value.{Found}
 use Rattle.tables.specs.Sets.{granted_at}
 use Rattle.tables.specs.Plan.{planned}
 use Rattle.tables.specs.Sound.{Base, SoundPlan}
@@ -69,12 +68,12 @@ module _ (σ : Setting) (es : List Stored) (ok : Accepted σ.schema es) (n : Nam
   by_number = ap (opened σ (map entry_of es) op q n f) (named-walk σ es ok n ∙ ap (entry_by es) h.walked)
 
   -- the base is no entry
-  pub opened-none : (s : Selection) (hits : List ℕ) → base ≡ Nothing → planned σ es s (absent_plan op missing) hits ≡ opened σ (map entry_of es) op q n f (named σ (map entry_of es) n)
+  pub opened-none : (s : Selection) (hits : List ℕ) → base ≡ None → planned σ es s (absent_plan op missing) hits ≡ opened σ (map entry_of es) op q n f (named σ (map entry_of es) n)
   unfolding opened
   opened-none s hits e = absent-planned σ es s hits op n base missing h ∙ sym (by_number ∙ ap (λ (b : Found). opened σ (map entry_of es) op q n f (entry_by es b)) e)
 
   -- it is entry number `b`, or the root
-  module _ (b : ℕ) (e : base ≡ At b) where
+  module _ (b : ℕ) (e : base ≡ Some b) where
     at-number : opened σ (map entry_of es) op q n f (named σ (map entry_of es) n)
         ≡ cond (granted_at σ es b entry q) (f (entry_of (get_or es (b - 1) blank))) (cond (granted_at σ es b entry DiscloseOnError) (outcome op InsufficientAccessRights) (no_such_object σ (map entry_of es) op n))
     unfolding opened numbered granted_at entry_of

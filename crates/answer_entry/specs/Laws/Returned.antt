@@ -1,5 +1,5 @@
 -- Laws of `Returned`: the answer of list and search, from the entries found.
-use Rattle.std.specs.Prelude.{ℕ, zero, suc, ◌≤◌, ◌<◌, ◌≡◌, Bool, ◌&&◌, eqb, ltb, length, get_or, take}
+use Rattle.std.specs.Prelude.{ℕ, zero, suc, ◌≤◌, ◌<◌, ◌≡◌, Bool, ◌&&◌, eqb, ltb, length, get_or, take, Some}
 use Rattle.std.proofs.Common.{zero-le, arith, ◌∙◌, subst, take-take, take_all, length-take-le, ne_eqb, ltb-true, ltb-false}
 use Rattle.std.proofs.Math.Path.{refl, sym, ap}
 use Rattle.std.proofs.Math.Bool.{true, false, not, cond}
@@ -16,8 +16,7 @@ use Rattle.rules.specs.Answer as Answer
 use Rattle.rules.specs.Derived.{Accepted}
 use Rattle.tables.specs.Numbers.{walk}
 use Rattle.tables.specs.Laws.Resolve.{numbered, disclosed-walk, entry_by, test}
-use Rattle.rules.specs.declared.Found.{Found}
-use Rattle.rules.specs.declared.Found.TheVariants.{At}
+use Rattle.rules.specs.Value.{Found}
 use Rattle.tables.specs.Sets.{granted_at}
 use Rattle.tables.specs.Plan.{success_lines, planned}
 use Rattle.tables.specs.Sound.{Base, SoundPlan}
@@ -110,7 +109,7 @@ module _ (σ : Setting) (es : List Stored) (s : Selection) (hits : List ℕ) (co
 
 -- ---- the base
 
-pub disclosed-at : (σ : Setting) (es : List Stored) → Accepted σ.schema es → (n : Name) (b : ℕ) → walk σ.schema es 0 n ≡ At b
+pub disclosed-at : (σ : Setting) (es : List Stored) → Accepted σ.schema es → (n : Name) (b : ℕ) → walk σ.schema es 0 n ≡ Some b
     → any (Answer.disclosed σ n) (map entry_of es) ≡ granted_at σ es b entry DiscloseOnError
 disclosed-at σ es ok n b walked = disclosed-walk σ es ok n ∙ ap (λ (f : Found). test (λ e. granted σ e.name entry DiscloseOnError) (entry_by es f)) walked ∙ at b
   where

@@ -1,5 +1,5 @@
 -- List and search as a whole, as far as they are alike: an absent base, the base's disclosure, and the numbers of the plans.
-use Rattle.std.specs.Prelude.{ℕ, refl, Bool, true, false, ◌||◌, List, [], ◌∷◌, map}
+use Rattle.std.specs.Prelude.{ℕ, refl, Bool, true, false, ◌||◌, List, [], ◌∷◌, map, Some, None}
 use Rattle.std.proofs.Math.Path.{◌≡◌, ap}
 use Rattle.std.proofs.Common.{sym, ◌∙◌, subst}
 use Rattle.std.proofs.Math.Option.{none}
@@ -16,8 +16,7 @@ use Rattle.rules.proofs.Laws.Absent.{present'}
 use Rattle.rules.specs.Derived.{Accepted}
 use Rattle.tables.specs.Numbers.{walk}
 use Rattle.tables.specs.Laws.Resolve.{named-walk, entry_by}
-use Rattle.rules.specs.declared.Found.{Found}
-use Rattle.rules.specs.declared.Found.TheVariants.{At, Nothing}
+use Rattle.rules.specs.Value.{Found}
 use Rattle.tables.specs.declared.plan.Plan.{Plan}
 use Rattle.tables.specs.Plan.{planned}
 use Rattle.tables.specs.Sound.{Base, SoundPlan}
@@ -43,13 +42,13 @@ none_any {A} p (x ∷ xs) e = go (p x) e (none_any p xs)
 
 module _ (σ : Setting) (es : List Stored) (ok : Accepted σ.schema es) (n : Name) (base : Found) (missing : ℕ) (h : Base σ es n base missing) where
   -- the base is absent
-  module _ (e : base ≡ Nothing) where
-    gone : walk σ.schema es 0 n ≡ Nothing
+  module _ (e : base ≡ None) where
+    gone : walk σ.schema es 0 n ≡ None
     gone = h.walked ∙ e
 
     pub not_root : n ≡ [] → ⊥
     unfolding walk
-    not_root q = let p : At 0 ≡ Nothing = ap (walk σ.schema es 0) (sym q) ∙ gone in let z : ◌≡◌ {A = ℕ} 0 1 = cc in omega arith
+    not_root q = let p : Some 0 ≡ None = ap (walk σ.schema es 0) (sym q) ∙ gone in let z : ◌≡◌ {A = ℕ} 0 1 = cc in omega arith
 
     pub not-present : present' σ.schema es n ≡ false
     unfolding named
@@ -59,8 +58,8 @@ module _ (σ : Setting) (es : List Stored) (ok : Accepted σ.schema es) (n : Nam
   planned-absent plan hits s op q = ap (λ (r : Plan). planned σ es s r hits) q ∙ absent-planned σ es s hits op n base missing h
 
   -- the base has number `b`
-  module _ (b : ℕ) (e : base ≡ At b) where
-    pub there : walk σ.schema es 0 n ≡ At b
+  module _ (b : ℕ) (e : base ≡ Some b) where
+    pub there : walk σ.schema es 0 n ≡ Some b
     there = h.walked ∙ e
 
     pub told-disclosed : (d : Bool) → d ≡ granted_at σ es b entry DiscloseOnError → any (Answer.disclosed σ n) (map entry_of es) ≡ d

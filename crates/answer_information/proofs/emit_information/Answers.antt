@@ -1,7 +1,6 @@
 use native.Mathlib.Omega.{arith}
 use Rattle.tables.specs.Book.{width}
 use Rattle.answer_information.specs.Laws.Runs.{root-emits}
-use borrow.Author.Rules.{rules}
 use Rattle.answer_information.proofs.emit_information.Goals as goal
 
 pub returns-then-e-eq0 : goal.returns-then-e-eq0

@@ -7,7 +7,6 @@ use Rattle.answer_information.specs.Laws.Rows.{there, ranked, type-number}
 use Rattle.tables.specs.Laws.Choice.{known-choice}
 use Rattle.answer_line.specs.Laws.Emit.{emits_none, emits-same, emits-length}
 use Rattle.answer_information.specs.Information.{held_by}
-use borrow.Author.Rules.{rules}
 use Rattle.answer_information.proofs.emit_run.Goals as goal
 
 pub shown-requires : goal.shown-requires

@@ -1,17 +1,10 @@
 use native.Mathlib.Omega.{arith}
-use mathlib.Core.Path.{◌≡◌}
-use mathlib.Core.List.{List}
-use Prim.Native.Nat.{◌+◌, ◌-◌, ◌*◌, ◌≤◌}
-use lib.ListN.{length, get_or}
-use Rattle.rules.specs.Directory.{Stored, blank, name_at}
-use Rattle.rules.specs.Decision.{Setting}
-use Rattle.rules.specs.Request.{Selection}
-use Rattle.tables.specs.Book.{width, schema, first_at}
-use Rattle.tables.specs.World.{World}
-use Rattle.answer_information.specs.Laws.Runs.{Sofar, sofar-start, sofar-on, sofar-end}
+use Prim.Native.Nat.{◌-◌}
+use lib.ListN.{get_or}
+use Rattle.rules.specs.Directory.{blank, name_at}
+use Rattle.tables.specs.Book.{width, first_at}
+use Rattle.answer_information.specs.Laws.Runs.{sofar-start, sofar-on, sofar-end}
 use Rattle.answer_information.specs.Laws.Rows.{rows_of, row-rank}
-use Rattle.tables.specs.Choice.{Chooses}
-use Rattle.answer_line.specs.Room.{line_room}
 use borrow.Author.Rules.{rules}
 use Rattle.answer_information.proofs.emit_runs.Goals as goal
 

@@ -1,4 +1,3 @@
-use native.Mathlib.Omega.{arith}
 use mathlib.Core.Path.{◌≡◌}
 use mathlib.Core.List.{List}
 use Prim.Native.Nat.{◌+◌, ◌-◌, ◌*◌, ◌≤◌}
@@ -8,11 +7,9 @@ use Rattle.rules.specs.Decision.{Setting}
 use Rattle.rules.specs.Request.{Selection}
 use Rattle.tables.specs.Book.{width, schema, first_at}
 use Rattle.tables.specs.World.{World}
-use Rattle.answer_information.specs.Laws.Runs.{Sofar, sofar-start, sofar-on, sofar-end}
-use Rattle.answer_information.specs.Laws.Rows.{rows_of, row-rank}
+use Rattle.answer_information.specs.Laws.Runs.{Sofar}
 use Rattle.tables.specs.Choice.{Chooses}
 use Rattle.answer_line.specs.Room.{line_room}
-use borrow.Author.Rules.{rules}
 use Rattle.answer_information.proofs.emit_runs.Given as goal
 
 abbrev pub invariant-loop-i : goal.invariant-loop-i

@@ -1,30 +1,28 @@
-use native.Mathlib.Omega.{arith}
-use Prim.Native.Nat.{◌-◌}
-use Rattle.answer_information.specs.Information.{OneRank}
-use Rattle.answer_information.specs.Laws.Rows.{alike-start, alike-on}
-use borrow.Author.Rules.{rules}
+use Rattle.std.proofs.Common.{rules, arith, ◌≡◌, ℕ, ◌+◌, ◌≤◌, ◌<◌, List, Option, None, Some, sym, ap, subst}
+use Rattle.std.specs.Option.{MatchOption, unwrap_or}
+use Rattle.std.proofs.Math.Decide.{dec_lt}
+use Rattle.std.proofs.lemmas.Iterator.{first_from_Range}
+use borrow.Author.Tests.{tests}
+use Rattle.tables.specs.Held.{rank_at}
+use Rattle.answer_information.specs.Information.{EndsAt}
 use Rattle.answer_information.proofs.run_end.Goals as goal
 
-pub loop-j-init : goal.loop-j-init
-loop-j-init c = alike-start c.args.held.now c.args.i c.args.end c.requires.0
+module _ (held : List ℕ) (i end : ℕ) (l : i < end) where
+  same-rank : (n : ℕ) → ((k : ℕ) → i + 1 ≤ k → k < n → rank_at held k ≡ rank_at held i) → (j : ℕ) → i ≤ j → j < n → rank_at held j ≡ rank_at held i
+  same-rank n f j from to = go (dec_lt i j)
+    where
+      go : Dec (i < j) → rank_at held j ≡ rank_at held i
+      go (yes h) = f j (omega (arith, h)) to
+      go (no h) = let e : j ≡ i = omega (arith, h, from) in ap (rank_at held) e
 
-pub offset_bounds-held-j : goal.offset_bounds-held-j
-offset_bounds-held-j c = omega (arith, c.requires.1, c.loop-j-test.true)
-
-pub bounds-held-j : goal.bounds-held-j
-bounds-held-j c = omega (arith, c.requires.1, c.loop-j-test.true)
-
-pub offset_bounds-held-i : goal.offset_bounds-held-i
-offset_bounds-held-i c = omega (arith, c.requires.0, c.requires.1)
-
-pub bounds-held-i : goal.bounds-held-i
-bounds-held-i c = omega (arith, c.requires.0, c.requires.1)
-
-pub returns-then-held-j : goal.returns-then-held-j
-returns-then-held-j c = record { alike = c.loop-j.invariant; ends = λ l e. c.if-held-j.true e }
-
-pub loop-j-preserved : goal.loop-j-preserved
-loop-j-preserved c = alike-on c.args.held.now c.args.i c.args.end c.loop-j.j c.loop-j.invariant c.loop-j-test.true c.if-held-j.false
+  -- the first row with another rank ends the run, or the last row does
+  run-ends : (o : Option ℕ) → MatchOption o ((k : ℕ) → i + 1 ≤ k → k < end → rank_at held k ≡ rank_at held i)
+      (λ r. (i + 1 ≤ r) × (r < end) × (rank_at held r ≡ rank_at held i → ⊥) × ((k : ℕ) → i + 1 ≤ k → k < r → rank_at held k ≡ rank_at held i))
+      → EndsAt held i end (unwrap_or o end)
+  run-ends None f = record { alike = record { after = l; within = omega arith; same = same-rank end f }; ends = λ h e. absurd (omega arith) }
+  run-ends (Some r) f = record { alike = record { after = omega (arith, f.0); within = omega (arith, f.1); same = same-rank r f.3 }; ends = λ h e. f.2 e }
 
 pub returns : goal.returns
-returns c = record { alike = c.loop-j.invariant; ends = λ l e. absurd (omega (arith, l, c.loop-j-test.false)) }
+returns c = let A = c.args in let h = A.held.now in
+    subst (EndsAt h A.i A.end) (sym c.unwrap_or.ensures) (run-ends h A.i A.end c.requires.0 c.find.result
+    (first_from_Range _ _ _ _ (λ k. rank_at h k ≡ rank_at h A.i → ⊥) (λ k. rank_at h k ≡ rank_at h A.i) c.find.ensures.ran (λ k q m. search (rules, tests)) (λ k q m. (search rules, search (rules, tests)))))

@@ -1,4 +1,4 @@
-use Prim.Native.Nat.{ℕ, ◌+◌, ◌-◌, ◌≤◌}
+use Prim.Native.Nat.{ℕ, ◌+◌, ◌≤◌}
 use mathlib.Core.Path.{sym, ap, ◌∙◌}
 use mathlib.Core.Bool.{false}
 use native.Mathlib.Omega.{arith}
@@ -7,7 +7,6 @@ use native.Mathlib.Numerals.{add-one}
 use Rattle.tables.specs.Laws.World.{known-entry, inside, parent_is}
 use Rattle.answer_entry.specs.Returned.{returnable_at}
 use Rattle.answer_list.specs.Laws.Hits.{listed-other, listed-child}
-use borrow.Author.Rules.{rules}
 use Rattle.answer_list.proofs.child.Goals as goal
 
 pub returns-then-book-k : goal.returns-then-book-k

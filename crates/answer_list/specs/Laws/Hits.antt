@@ -1,5 +1,5 @@
 -- Laws of `Hits`: the tests of the rules at an index, and the hits as indices that pass.
-use Rattle.std.specs.Prelude.{ℕ, suc, ◌<◌, ◌≡◌, Bool, true, false, ◌&&◌, List, [], ◌∷◌, map, length, get_or}
+use Rattle.std.specs.Prelude.{ℕ, suc, ◌<◌, ◌≡◌, Bool, true, false, ◌&&◌, List, [], ◌∷◌, map, length, get_or, Some}
 use Rattle.std.proofs.Common.{sym, ◌∙◌, eq-eqb, ne_eqb}
 use Rattle.std.proofs.Math.Path.{ap}
 use Rattle.std.proofs.Math.Bool.{or-false}
@@ -15,7 +15,6 @@ use Rattle.rules.proofs.Laws.Tests.{and_left}
 use Rattle.tables.specs.Laws.Hits.{listed-number, child-hit}
 use Rattle.tables.specs.Laws.Targets.{aliased-number}
 use Rattle.tables.specs.Numbers.{walk}
-use Rattle.rules.specs.declared.Found.TheVariants.{At}
 use Rattle.tables.specs.Sets.{granted_at}
 use Rattle.tables.specs.Plan.{aliases_of, child_lines}
 use Rattle.answer_entry.specs.Returned.{browsable_at, returnable_at}
@@ -36,7 +35,7 @@ module _ (σ : Setting) (es : List Stored) (b k : ℕ) where
 
 -- ---- it is the test of the rules
 
-module _ (σ : Setting) (es : List Stored) (ok : Accepted σ.schema es) (n : Name) (b : ℕ) (walked : walk σ.schema es 0 n ≡ At b) where
+module _ (σ : Setting) (es : List Stored) (ok : Accepted σ.schema es) (n : Name) (b : ℕ) (walked : walk σ.schema es 0 n ≡ Some b) where
   listed-at : (k : ℕ) → k < length es → Answer.listed σ n (entry_of (get_or es k blank)) ≡ listed_at σ es b k
   unfolding listed_at returnable_at browsable_at granted_at
   listed-at k l =

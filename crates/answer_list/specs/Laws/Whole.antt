@@ -1,5 +1,5 @@
 -- List as a whole: the plan of the children found stands for the answer of the rules, and so does that of an absent base.
-use Rattle.std.specs.Prelude.{ℕ, ◌≤◌, ◌≡◌, Bool, List, map, length, take}
+use Rattle.std.specs.Prelude.{ℕ, ◌≤◌, ◌≡◌, Bool, List, map, length, take, Some, None}
 use Rattle.std.proofs.Math.Path.{refl, sym, ap}
 use Rattle.std.proofs.Common.{◌∙◌}
 use Rattle.rules.specs.Lists.{gather}
@@ -11,8 +11,7 @@ use Rattle.rules.specs.Request.{Selection, list}
 use Rattle.rules.specs.Answer.{answer, list_hits}
 use Rattle.rules.proofs.Laws.Absent.{list-absent}
 use Rattle.rules.specs.Derived.{Accepted}
-use Rattle.rules.specs.declared.Found.{Found}
-use Rattle.rules.specs.declared.Found.TheVariants.{At, Nothing}
+use Rattle.rules.specs.Value.{Found}
 use Rattle.tables.specs.declared.plan.Plan.{Plan}
 use Rattle.tables.specs.Plan.{aliases_of, child_lines, success_lines, planned}
 use Rattle.tables.specs.Sound.{Base}
@@ -28,14 +27,14 @@ use Rattle.answer_list.specs.Laws.Hits.{list-hits}
 
 module _ (σ : Setting) (es : List Stored) (ok : Accepted σ.schema es) (n : Name) (base : Found) (missing : ℕ) (h : Base σ es n base missing) (plan : Plan) (hits : List ℕ) where
   -- the base is absent
-  pub list-none : base ≡ Nothing → (s : Selection) (limit : ℕ) → plan ≡ absent_plan 3 missing → planned σ es s plan hits ≡ answer σ (map entry_of es) (aliases_of σ es) n (list limit)
+  pub list-none : base ≡ None → (s : Selection) (limit : ℕ) → plan ≡ absent_plan 3 missing → planned σ es s plan hits ≡ answer σ (map entry_of es) (aliases_of σ es) n (list limit)
   unfolding entries_in directory_of
   list-none e s limit q =
       planned-absent σ es ok n base missing h plan hits s 3 q
       ∙ sym (list-absent σ (directory_of σ es) refl ok n (not_root σ es ok n base missing h e) (not-present σ es ok n base missing h e) (aliases_of σ es) limit)
 
   -- the base has number `b`
-  module _ (b : ℕ) (e : base ≡ At b) (d : Bool) (told : d ≡ granted_at σ es b entry DiscloseOnError) (count : ℕ) (room : count ≤ length hits) where
+  module _ (b : ℕ) (e : base ≡ Some b) (d : Bool) (told : d ≡ granted_at σ es b entry DiscloseOnError) (count : ℕ) (room : count ≤ length hits) where
     child-success : (s : Selection) (more shown : ℕ) → success_lines σ es s (success_plan 3 more shown) hits ≡ gather (child_lines es) (take shown hits)
     unfolding success_lines
     child-success s more shown = refl
@@ -50,11 +49,11 @@ module _ (σ : Setting) (es : List Stored) (ok : Accepted σ.schema es) (n : Nam
 
 -- ---- what the list of hits holds
 
-pub list-unfound : (σ : Setting) (es : List Stored) (base : Found) (hits : List ℕ) → base ≡ Nothing → hits ≡ over (list_found σ es base) hits
+pub list-unfound : (σ : Setting) (es : List Stored) (base : Found) (hits : List ℕ) → base ≡ None → hits ≡ over (list_found σ es base) hits
 unfolding list_found
 list-unfound σ es base hits e = rw e
 
-pub list-found : (σ : Setting) (es : List Stored) (base : Found) (b k n : ℕ) (before hits : List ℕ) → base ≡ At b → Indices k n before hits → take n hits ≡ passing (listed_at σ es b) (length es)
+pub list-found : (σ : Setting) (es : List Stored) (base : Found) (b k n : ℕ) (before hits : List ℕ) → base ≡ Some b → Indices k n before hits → take n hits ≡ passing (listed_at σ es b) (length es)
     → hits ≡ over (list_found σ es base) before
 unfolding list_found
 list-found σ es base b k n before hits e found t = over-found k n before hits (passing (listed_at σ es b) (length es)) found t ∙ ap (λ (x : Found). over (list_found σ es x) before) (sym e)

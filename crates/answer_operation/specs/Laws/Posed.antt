@@ -1,5 +1,5 @@
 -- Laws of `Posed`: the parts of what is known, and the name asked for, replaced.
-use Rattle.std.specs.Prelude.{ℕ, ◌≡◌, refl, List, map, length}
+use Rattle.std.specs.Prelude.{ℕ, ◌≡◌, refl, List, map, length, Some, None}
 use Rattle.std.proofs.Common.{sym, ap, ◌∙◌, subst}
 use Rattle.std.proofs.Math.Option.{Option, none, some}
 use Rattle.rules.specs.Sheet.{Bytes}
@@ -11,7 +11,7 @@ use Rattle.rules.specs.Request.{Operation, read, compare, list, search, Request}
 use Rattle.rules.specs.Aliases.{resolved}
 use Rattle.rules.specs.Answer.{operation_number, outcome, answer, answer_to}
 use Rattle.rules.specs.Places.{lines_at, parts_of}
-use Rattle.rules.specs.declared.Found.{Found}
+use Rattle.rules.specs.Value.{Found}
 use Rattle.rules.specs.declared.Outcome.TheVariants.{AliasProblem}
 use Rattle.request_sheet.specs.Noted.{NotedOperation}
 use Rattle.request_sheet.specs.declared.Asked.{Asked}
@@ -23,8 +23,7 @@ use Rattle.tables.specs.Sound.{Base, KnownBase}
 use Rattle.answer_choice.specs.Selected.{selection_of}
 use Rattle.answer_entry.specs.declared.Sought.{Sought}
 use Rattle.answer_resolution.specs.Resolution.{Full, Resolves}
-use Rattle.answer_resolution.specs.declared.Resolved.{Resolved}
-use Rattle.answer_resolution.specs.declared.Resolved.TheVariants as Resolved
+use Rattle.answer_resolution.specs.Resolved.{Resolved}
 use Rattle.answer_entry.specs.Passing.{over}
 use Rattle.answer_operation.specs.Hits.{found_by, found_for}
 use Rattle.answer_operation.specs.Posed.{Posed, KnownRequest, KnownSought}
@@ -51,18 +50,18 @@ module _ {σ : Setting} {es : List Stored} {G : Grammar} {x : Request} {d p q : 
     by_name = subst (λ (n : Name). Resolves σ es (resolved σ.schema (aliases_of σ es) n) r) Q.noted.base.parts is
 
     -- the name that is asked for in the end, and its sought
-    pub to-sought : {t : Sought} → r ≡ Resolved.Sought t → (n : Name) × Base σ es n t.base t.missing × (resolved σ.schema (aliases_of σ es) x.base ≡ some n)
+    pub to-sought : {t : Sought} → r ≡ Some t → (n : Name) × Base σ es n t.base t.missing × (resolved σ.schema (aliases_of σ es) x.base ≡ some n)
     to-sought {t} e = go (resolved σ.schema (aliases_of σ es) x.base) (subst (Resolves σ es (resolved σ.schema (aliases_of σ es) x.base)) e by_name)
       where
-        go : (v : Option Name) → Resolves σ es v (Resolved.Sought t) → (n : Name) × Base σ es n t.base t.missing × (v ≡ some n)
+        go : (v : Option Name) → Resolves σ es v (Some t) → (n : Name) × Base σ es n t.base t.missing × (v ≡ some n)
         go none b = absurd b
         go (some n) b = (n, b, refl)
 
     -- a ninth replacement is due
-    pub to-problem : r ≡ Resolved.AliasProblem → resolved σ.schema (aliases_of σ es) x.base ≡ none
+    pub to-problem : r ≡ None → resolved σ.schema (aliases_of σ es) x.base ≡ none
     to-problem e = go (resolved σ.schema (aliases_of σ es) x.base) (subst (Resolves σ es (resolved σ.schema (aliases_of σ es) x.base)) e by_name)
       where
-        go : (v : Option Name) → Resolves σ es v Resolved.AliasProblem → v ≡ none
+        go : (v : Option Name) → Resolves σ es v None → v ≡ none
         go none b = refl
         go (some n) b = absurd b
 

@@ -3,7 +3,6 @@ use native.Mathlib.Omega.{arith}
 use Rattle.rules.specs.declared.Outcome.TheVariants.{Result, NoSuchObject, InsufficientAccessRights, NoSuchAttributeOrValue, InvalidAttributeSyntax, AliasProblem}
 use Rattle.tables.specs.Book.{width}
 use Rattle.answer_print.specs.Laws.Lines.{whole}
-use borrow.Author.Rules.{rules}
 use Rattle.answer_print.proofs.print.Goals as goal
 
 pub emit-next-requires : goal.emit-next-requires

@@ -1,7 +1,7 @@
+use Rattle.std.proofs.Common.{ℕ, ap, ◌∙◌}
 use Rattle.tables.specs.Book.{width}
 use Rattle.tables.specs.Plan.{planned}
 use Rattle.answer_print.specs.Laws.Written.{run-refused, run-answered}
-use borrow.Author.Rules.{rules}
 use Rattle.answer_print.proofs.write.Goals as goal
 
 pub print-n-requires : goal.print-n-requires
@@ -10,7 +10,7 @@ print-n-requires c = c.requires
 pub returns-then-out-n : goal.returns-then-out-n
 returns-then-out-n c = let a = c.args in
     let r = c.print-n in
-    λ σ es s W C. run-refused (width a.book.now) (planned σ es s a.plan a.hits.now) a.out.now r.new.out r.auto.out _ _ r.result (r.ensures σ es s W C) c.refused.result c.if-out-n.true c.refused.ensures
+    λ σ es s W C. run-refused (width a.book.now) (planned σ es s a.plan a.hits.now) a.out.now r.new.out r.auto.out _ _ r.result (r.ensures σ es s W C) c.refused.result c.if-out-n.true (c.refused.ensures ∙ ap (λ (n : ℕ). record { refusal = n; length = 0 }) c.refusal_number.ensures)
 
 pub print-m-requires : goal.print-m-requires
 print-m-requires c = c.requires

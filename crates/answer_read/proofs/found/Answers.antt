@@ -1,4 +1,3 @@
-use borrow.Author.Rules.{rules}
 use Rattle.answer_read.proofs.found.Goals as goal
 
 pub returns : goal.returns

@@ -1,4 +1,3 @@
-use borrow.Author.Rules.{rules}
 use Rattle.answer_read.proofs.number.Goals as goal
 
 pub returns-then-named : goal.returns-then-named

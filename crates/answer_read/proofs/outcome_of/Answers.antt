@@ -1,9 +1,7 @@
-use Prim.Native.Nat.{◌-◌}
 use mathlib.Core.Path.{sym, ◌∙◌}
 use lib.ListN.{get_or}
 use Rattle.rules.specs.Directory.{blank}
 use Rattle.answer_read.specs.Laws.Read.{outcome-nothing, outcome-some, outcome-disclosed, outcome-hidden}
-use borrow.Author.Rules.{rules}
 use Rattle.answer_read.proofs.outcome_of.Goals as goal
 
 pub returns-then-choice : goal.returns-then-choice

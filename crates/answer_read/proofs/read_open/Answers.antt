@@ -1,4 +1,4 @@
-use Prim.Native.Nat.{◌+◌, ◌-◌, ◌≤◌}
+use Prim.Native.Nat.{◌+◌, ◌≤◌}
 use mathlib.Core.Path.{sym, ap, ◌∙◌}
 use native.Mathlib.Omega.{arith}
 use lib.ListN.{length}
@@ -14,7 +14,6 @@ use Rattle.tables.specs.Book.{entry_count}
 use Rattle.tables.specs.Laws.World.{known-entry, inside}
 use Rattle.answer_read.specs.Laws.Read.{granted-next, read_found, read-refused, read-sound}
 use borrow.Author.Tests.{not-true, not-false}
-use borrow.Author.Rules.{rules}
 use Rattle.answer_read.proofs.read_open.Goals as goal
 
 pub returns-then-not-is_result : goal.returns-then-not-is_result

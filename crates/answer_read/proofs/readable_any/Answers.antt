@@ -1,58 +1,22 @@
-use Prim.Native.Nat.{suc, ◌-◌, ◌≤◌, ◌<◌}
-use mathlib.Core.Path.{◌≡◌, sym, ◌∙◌}
-use native.Mathlib.Omega.{arith}
-use lib.ListN.{get_or, drop}
-use Rattle.rules.specs.Directory.{blank}
-use mathlib.Core.List.{List}
+use Rattle.std.proofs.Common.{rules, ◌≡◌, ℕ, Bool, true, false, List, get_or, sym}
+use Rattle.rules.specs.Name.{part}
+use Rattle.rules.specs.Directory.{Stored, blank}
 use Rattle.rules.specs.Decision.{Setting}
-use Rattle.tables.specs.Book.{schema, first_at}
-use Rattle.tables.specs.World.{World}
-use Rattle.tables.specs.Laws.World.{rows_of, rows-within}
-use Rattle.tables.specs.Laws.Held.{any_here, any-on, any-end}
-use Rattle.tables.specs.Choice.{Chooses}
-use Rattle.answer_read.specs.Read.{readable}
-use Rattle.rules.specs.Lists.{any}
-use Rattle.rules.specs.Directory.{Stored}
 use Rattle.rules.specs.Request.{Selection}
+use Rattle.tables.specs.Book.{schema}
+use Rattle.tables.specs.Held.{rank_at, bytes_at, type_at}
+use Rattle.tables.specs.World.{World}
+use Rattle.tables.specs.Choice.{Chooses}
 use Rattle.tables.specs.Laws.Book.{end_is}
-use borrow.Author.Rules.{rules}
+use Rattle.tables.specs.Laws.World.{rows_of}
+use Rattle.answer_entry.specs.Laws.Rows.{any-from_Range, any_of_rows}
+use Rattle.answer_read.specs.Read.{readable}
 use Rattle.answer_read.proofs.readable_any.Goals as goal
 
-pub overflow_add-end-2 : goal.overflow_add-end-2
-overflow_add-end-2 c = let E = c.requires.0.2.entries in omega (arith, E.fits.few-entries, c.requires.1)
-
-pub offset_bounds-book-k : goal.offset_bounds-book-k
-offset_bounds-book-k c = let E = c.requires.0.2.entries in omega (arith, E.fits.few-entries, c.requires.1)
-
-pub bounds-book-k : goal.bounds-book-k
-bounds-book-k c = let E = c.requires.0.2.entries in omega (arith, E.fits.size, E.fits.few-entries, c.requires.1)
-
-pub overflow_add-i : goal.overflow_add-i
-overflow_add-i c = let E = c.requires.0.2.entries in omega (arith, E.fits.few-entries, c.requires.1)
-
-pub offset_bounds-book-k-2 : goal.offset_bounds-book-k-2
-offset_bounds-book-k-2 c = let E = c.requires.0.2.entries in omega (arith, E.fits.few-entries, c.requires.1)
-
-pub bounds-book-k-2 : goal.bounds-book-k-2
-bounds-book-k-2 c = let E = c.requires.0.2.entries in omega (arith, E.fits.size, E.fits.few-entries, c.requires.1)
-
-pub loop-i-init : goal.loop-i-init
-loop-i-init c = let A = c.args in let b = A.book.now in let k = A.k in let E = c.requires.0.2.entries in let r = rows-within E k c.requires.1 in (omega arith, r.0, λ σ es s w ch. let z : first_at b k - first_at b k ≡ 0 = omega arith in rw z)
-
-pub readable_row-requires : goal.readable_row-requires
-readable_row-requires c = let A = c.args in let b = A.book.now in let k = A.k in let L = c.loop-i in let T : L.i < first_at b (suc k) = omega (arith, c.loop-i-test.true, end_is b k) in (c.requires.0, c.requires.1, L.invariant.0, T, c.requires.2)
-
-pub returns-then-readable_row : goal.returns-then-readable_row
-returns-then-readable_row c = let A = c.args in let b = A.book.now in let k = A.k in let L = c.loop-i in let T : L.i < first_at b (suc k) = omega (arith, c.loop-i-test.true, end_is b k) in λ σ es s w ch. sym (any_here (rows_of w.entries k c.requires.1) L.i L.invariant.0 T (readable σ s (get_or es k blank).name) (sym (c.readable_row.ensures σ es s w ch) ∙ c.if-readable_row.true)) ∙ L.invariant.2 σ es s w ch
-
-pub overflow_add-i-in-loop-i : goal.overflow_add-i-in-loop-i
-overflow_add-i-in-loop-i c = let A = c.args in let b = A.book.now in let k = A.k in let E = c.requires.0.2.entries in let r = rows-within E k c.requires.1 in let L = c.loop-i in let T : L.i < first_at b (suc k) = omega (arith, c.loop-i-test.true, end_is b k) in omega (arith, r.1, T)
-
-pub loop-i-smaller : goal.loop-i-smaller
-loop-i-smaller c = let A = c.args in let b = A.book.now in let k = A.k in let L = c.loop-i in let T : L.i < first_at b (suc k) = omega (arith, c.loop-i-test.true, end_is b k) in omega (arith, T)
-
-pub loop-i-preserved : goal.loop-i-preserved
-loop-i-preserved c = let A = c.args in let b = A.book.now in let k = A.k in let L = c.loop-i in let T : L.i < first_at b (suc k) = omega (arith, c.loop-i-test.true, end_is b k) in (omega (arith, L.invariant.0), omega (arith, T), λ σ es s w ch. sym (any-on (rows_of w.entries k c.requires.1) L.i L.invariant.0 T (readable σ s (get_or es k blank).name) (sym (c.readable_row.ensures σ es s w ch) ∙ c.if-readable_row.false)) ∙ L.invariant.2 σ es s w ch)
-
 pub returns : goal.returns
-returns c = let A = c.args in let b = A.book.now in let k = A.k in let L = c.loop-i in let T : first_at b (suc k) ≤ L.i = omega (arith, c.loop-i-test.false, end_is b k) in λ σ es s w ch. sym (any-end (rows_of w.entries k c.requires.1) L.i L.invariant.0 T (readable σ s (get_or es k blank).name)) ∙ L.invariant.2 σ es s w ch
+returns c = let A = c.args in let b = A.book.now in λ σ es s w ch.
+    let test = readable σ s (get_or es A.k blank).name in
+    let row = λ (i : ℕ). part (type_at (schema b) (rank_at A.held.now i)) (bytes_at A.d.now A.held.now i) in
+    let told : (i : ℕ) (x : Bool) → ((σ : Setting) (es : List Stored) (s : Selection) → World σ es A.d.now A.p.now b A.held.now A.sets.now → Chooses (schema b) s A.choice → x ≡ readable σ s (get_or es A.k blank).name (part (type_at (schema b) (rank_at A.held.now i)) (bytes_at A.d.now A.held.now i))) → test (row i) ≡ x = λ i x h. sym (h σ es s w ch) in
+    any_of_rows (rows_of w.entries A.k c.requires.1) (end_is b A.k) test _
+    (any-from_Range _ _ _ _ (λ i. test (row i) ≡ true) (λ i. test (row i) ≡ false) c.any.ensures.ran (λ i q m. search (rules, told i)) (λ i q m. (search rules, search (rules, told i))))

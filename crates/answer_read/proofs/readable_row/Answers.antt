@@ -1,5 +1,5 @@
 use Rattle.tables.specs.Sets.{granted_at}
-use Prim.Native.Nat.{ℕ, ◌+◌, ◌-◌, ◌≤◌, ◌<◌}
+use Prim.Native.Nat.{ℕ, ◌+◌, ◌≤◌, ◌<◌}
 use mathlib.Core.Path.{sym, ap, ◌∙◌}
 use native.Mathlib.Omega.{arith}
 use lib.ListN.{length, get_or}
@@ -12,7 +12,6 @@ use Rattle.tables.specs.Held.{rank_at, bytes_at, type_at}
 use Rattle.tables.specs.Laws.Book.{schema-length}
 use Rattle.tables.specs.Laws.World.{known-types, inside, rows-within, rank-within, bytes-within}
 use Rattle.answer_read.specs.Laws.Read.{granted-next, unselected, type-hidden, type-enough, value-asked}
-use borrow.Author.Rules.{rules}
 use Rattle.answer_read.proofs.readable_row.Goals as goal
 
 pub offset_bounds-held-i : goal.offset_bounds-held-i

@@ -4,7 +4,6 @@ use Rattle.rules.specs.Name.{Name}
 use Rattle.tables.specs.Book.{entry_count, width}
 use Rattle.answer_resolution.specs.Resolution.{EndsWithin, Resolves}
 use Rattle.answer_resolution.specs.Laws.Resolved.{told-few, told-end, told-on}
-use borrow.Author.Rules.{rules}
 use Rattle.answer_resolution.proofs.resolve_name.Goals as goal
 
 pub follow-requires : goal.follow-requires

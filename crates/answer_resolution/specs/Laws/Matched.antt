@@ -1,6 +1,6 @@
 -- Down from the root, part by part, with the last entry on the way that is disclosed: it has the matched name.
 use Prim.Native.Nat.{ℕ, zero, suc, ◌+◌, ◌-◌, ◌≤◌, ◌<◌}
-use Rattle.std.specs.Prelude.{◌≡◌, Bool, cond, List, [], ◌∷◌, map, get_or, take, drop}
+use Rattle.std.specs.Prelude.{◌≡◌, Bool, cond, List, [], ◌∷◌, map, get_or, take, drop, Some, None}
 use Rattle.std.proofs.Math.Path.{refl, ap}
 use Rattle.std.proofs.Common.{sym, ◌∙◌, add-zero, drop-cons}
 use Rattle.std.proofs.Math.Bool.{true, false}
@@ -17,8 +17,7 @@ use Rattle.tables.specs.Laws.Resolve.{walk_more, entry_by, numbered, filtered, m
 use Rattle.tables.specs.Sets.{granted_at}
 use Rattle.directory_lookup.specs.Find.{by_child}
 use Rattle.answer_resolution.specs.Resolution.{last_of}
-use Rattle.rules.specs.declared.Found.{Found}
-use Rattle.rules.specs.declared.Found.TheVariants.{At, Nothing}
+use Rattle.rules.specs.Value.{Found}
 
 -- the last number disclosed on the way from number `from` by the parts, `last` where there is none
 unfoldable pub descend : Setting → List Stored → ℕ → ℕ → Name → ℕ
@@ -31,12 +30,12 @@ module _ (σ : Setting) (es : List Stored) (ok : Accepted σ.schema es) (n : Nam
   shown m f = or_name m (filtered (λ e. granted σ e.name entry DiscloseOnError) (entry_by es f))
 
   -- what is not there has nothing below it
-  lost : (c i : ℕ) → i + c ≤ length n → walk σ.schema es 0 (take i n) ≡ Nothing → matched_name σ (map entry_of es) n (i + c) ≡ matched_name σ (map entry_of es) n i
+  lost : (c i : ℕ) → i + c ≤ length n → walk σ.schema es 0 (take i n) ≡ None → matched_name σ (map entry_of es) n (i + c) ≡ matched_name σ (map entry_of es) n i
   unfolding shown
   lost zero i h q = ap (matched_name σ (map entry_of es) n) (add-zero i)
   lost (suc c) i h q =
       let z : i + suc c ≡ suc i + c = omega arith in
-      let q' : walk σ.schema es 0 (take (suc i) n) ≡ Nothing
+      let q' : walk σ.schema es 0 (take (suc i) n) ≡ None
       = walk_more σ.schema es n i (part 0 []) (omega arith) ∙ ap (λ (f : Found). on_found f (λ j. child_from σ.schema j (get_or n i (part 0 [])) es 0)) q in
       ap (matched_name σ (map entry_of es) n) z
       ∙ lost c (suc i) (omega arith) q'
@@ -44,17 +43,17 @@ module _ (σ : Setting) (es : List Stored) (ok : Accepted σ.schema es) (n : Nam
       ∙ ap (shown (matched_name σ (map entry_of es) n i)) q'
 
   -- one part more, found
-  remembered : (k last : ℕ) (m : Name) → name_at es last ≡ m → name_at es (last_of σ es k last) ≡ shown m (At k)
+  remembered : (k last : ℕ) (m : Name) → name_at es last ≡ m → name_at es (last_of σ es k last) ≡ shown m (Some k)
   unfolding name_at numbered entry_of granted_at shown
   remembered zero last m h = h
   remembered (suc k) last m h = go (granted σ (get_or es k blank).name entry DiscloseOnError) refl
     where
-      go : (b : Bool) → granted σ (get_or es k blank).name entry DiscloseOnError ≡ b → name_at es (cond b (suc k) last) ≡ shown m (At (suc k))
+      go : (b : Bool) → granted σ (get_or es k blank).name entry DiscloseOnError ≡ b → name_at es (cond b (suc k) last) ≡ shown m (Some (suc k))
       go true e = rw e
       go false e = rw e h
 
   -- the parts from index `i` on
-  descends : (c i from last : ℕ) → i + c ≤ length n → walk σ.schema es 0 (take i n) ≡ At from → name_at es last ≡ matched_name σ (map entry_of es) n i
+  descends : (c i from last : ℕ) → i + c ≤ length n → walk σ.schema es 0 (take i n) ≡ Some from → name_at es last ≡ matched_name σ (map entry_of es) n i
       → name_at es (descend σ es from last (take c (drop i n))) ≡ matched_name σ (map entry_of es) n (i + c)
   unfolding descend shown
   descends zero i from last h q e = e ∙ ap (matched_name σ (map entry_of es) n) (sym (add-zero i))
@@ -72,16 +71,16 @@ module _ (σ : Setting) (es : List Stored) (ok : Accepted σ.schema es) (n : Nam
       onward = walk_more σ.schema es n i (part 0 []) l ∙ ap (λ (f : Found). on_found f (λ j. child_from σ.schema j (get_or n i (part 0 [])) es 0)) q
 
       go : (f : Found) → child_from σ.schema from (get_or n i (part 0 [])) es 0 ≡ f
-          → ((x m : ℕ) → walk σ.schema es 0 (take (suc i) n) ≡ At x → name_at es m ≡ matched_name σ (map entry_of es) n (suc i)
+          → ((x m : ℕ) → walk σ.schema es 0 (take (suc i) n) ≡ Some x → name_at es m ≡ matched_name σ (map entry_of es) n (suc i)
           → name_at es (descend σ es x m (take c (drop (suc i) n))) ≡ matched_name σ (map entry_of es) n (suc i + c))
           → name_at es (by_child last (λ x. descend σ es x (last_of σ es x last) (take c (drop (suc i) n))) f) ≡ matched_name σ (map entry_of es) n (i + suc c)
-      go (At k) f ih =
+      go (Some k) f ih =
           ih k (last_of σ es k last) (onward ∙ f)
           (remembered k last (matched_name σ (map entry_of es) n i) e
           ∙ ap (shown (matched_name σ (map entry_of es) n i)) (sym (onward ∙ f))
           ∙ sym (matched-step σ es ok n i))
           ∙ ap (matched_name σ (map entry_of es) n) (sym z)
-      go Nothing f ih =
+      go None f ih =
           e
           ∙ ap (shown (matched_name σ (map entry_of es) n i)) (sym (onward ∙ f))
           ∙ sym (matched-step σ es ok n i)

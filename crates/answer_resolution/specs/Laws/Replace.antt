@@ -1,6 +1,6 @@
 -- Laws of a name written as K 9 lines: what a buffer holds once they are written, and that the name is read back from it.
 use Prim.Native.Nat.{ℕ, zero, suc, ◌+◌, ◌-◌, ◌*◌, ◌^◌, ◌/◌, ◌%◌, ◌≤◌, ◌<◌}
-use Rattle.std.specs.Prelude.{◌≡◌, Bool, true, false, cond, List, [], ◌∷◌, ◌++◌, leb, eqb}
+use Rattle.std.specs.Prelude.{◌≡◌, Bool, true, false, cond, List, [], ◌∷◌, ◌++◌, leb, eqb, Some, None}
 use Rattle.std.proofs.Math.Path.{refl, ap, ap₂, subst}
 use Rattle.std.proofs.Common.{sym, ◌∙◌, arith, add-zero, lt_of_lt_of_le, pow-suc, length-drop, length-take-le, leb-true}
 use Rattle.std.proofs.Math.Nat.{pow-le-pow_right}
@@ -14,15 +14,12 @@ use Rattle.rules.specs.Places.{lines_at, parts_of}
 use Rattle.rules.proofs.Laws.Each.{each_append}
 use Rattle.rules.proofs.Laws.Loops.{gather_append}
 use Rattle.rules.proofs.Laws.Sheet.{FitsColumns, AllFit, front-tells, taken-length, lines_step, line-length, printed-then}
-use Rattle.rules.specs.declared.Column.TheVariants.{Number, Malformed}
 use Rattle.rules.specs.declared.Front.{Front}
-use Rattle.rules.specs.declared.Front.TheVariants as Front
 use Rattle.rules.specs.Derived.{put_at}
 use Rattle.sheet_line.specs.Line.{taken_at, bytes_of}
 use Rattle.sheet_line.specs.Laws.{taken-fits-line, bytes-length}
 use Rattle.sheet_line.specs.declared.Line.{Line}
 use Rattle.sheet_line.specs.declared.Taken.{Taken}
-use Rattle.sheet_line.specs.declared.Taken.TheVariants as Taken
 use Rattle.sheet_write.specs.Laws.Put.{put-length, put-append}
 use Rattle.tables.specs.Book.{width, entry_count, target_at}
 use Rattle.tables.specs.World.{Entries}
@@ -35,16 +32,16 @@ use Rattle.answer_resolution.specs.Resolution.{Full, part_bytes, target_of, Hold
 below_more : (v i n : ℕ) → v < 10 ^ i → i ≤ n → v < 10 ^ n
 below_more v i n h e = lt_of_lt_of_le h (pow-le-pow_right (omega arith) e)
 
-column-not : {A : Type 0} (n : ℕ) → Malformed ≡ Number n → A
+column-not : {A : Type 0} (n : ℕ) → None ≡ Some n → A
 column-not n e = absurd (let z : ◌≡◌ {A = ℕ} 0 1 = cc in omega arith)
 
-digits-below : (bs : Bytes) (v i n : ℕ) → v < 10 ^ i → digits v bs ≡ Number n → n < 10 ^ (i + length bs)
+digits-below : (bs : Bytes) (v i n : ℕ) → v < 10 ^ i → digits v bs ≡ Some n → n < 10 ^ (i + length bs)
 unfolding digits
 digits-below [] v i n h e = let z : v ≡ n = cc in let y : i + 0 ≡ i = add-zero i in rw (y, ← z) h
 digits-below (b ∷ bs) v i n h e = go (leb 48 b) (leb b 57) refl refl e (digits-below bs)
   where
-    go : (p q : Bool) → leb 48 b ≡ p → leb b 57 ≡ q → cond p (cond q (digits (v * 10 + (b - 48)) bs) Malformed) Malformed ≡ Number n
-        → ((v i n : ℕ) → v < 10 ^ i → digits v bs ≡ Number n → n < 10 ^ (i + length bs)) → n < 10 ^ (i + suc (length bs))
+    go : (p q : Bool) → leb 48 b ≡ p → leb b 57 ≡ q → cond p (cond q (digits (v * 10 + (b - 48)) bs) None) None ≡ Some n
+        → ((v i n : ℕ) → v < 10 ^ i → digits v bs ≡ Some n → n < 10 ^ (i + length bs)) → n < 10 ^ (i + suc (length bs))
     go true true p q r ih =
         let y : b ≤ 57 = leb-true b 57 q in
         let z : i + suc (length bs) ≡ suc i + length bs = omega arith in
@@ -52,16 +49,16 @@ digits-below (b ∷ bs) v i n h e = go (leb 48 b) (leb b 57) refl refl e (digits
     go true false p q r ih = column-not n r
     go false q p q' r ih = column-not n r
 
-digits-first : (bs : Bytes) (n : ℕ) → digits 0 bs ≡ Number n → n < 10 ^ length bs
+digits-first : (bs : Bytes) (n : ℕ) → digits 0 bs ≡ Some n → n < 10 ^ length bs
 digits-first bs n e = let z : 0 + length bs ≡ length bs = omega arith in subst (λ (i : ℕ). n < 10 ^ i) z (digits-below bs 0 0 n (omega arith) e)
 
-numeral-below : (bs : Bytes) (n : ℕ) → numeral bs ≡ Number n → n < 10 ^ length bs
+numeral-below : (bs : Bytes) (n : ℕ) → numeral bs ≡ Some n → n < 10 ^ length bs
 unfolding numeral
 numeral-below [] n e = column-not n e
 numeral-below (b ∷ []) n e = digits-first (b ∷ []) n e
 numeral-below (b ∷ (c ∷ bs)) n e = go (eqb b 48) e
   where
-    go : (p : Bool) → cond p Malformed (digits 0 (b ∷ (c ∷ bs))) ≡ Number n → n < 10 ^ length (b ∷ (c ∷ bs))
+    go : (p : Bool) → cond p None (digits 0 (b ∷ (c ∷ bs))) ≡ Some n → n < 10 ^ length (b ∷ (c ∷ bs))
     go true r = column-not n r
     go false r = digits-first (b ∷ (c ∷ bs)) n r
 
@@ -74,7 +71,7 @@ strip-shorter (b ∷ bs) = go (eqb b 32) (strip-shorter bs)
     go true h = omega arith
     go false h = omega arith
 
-column-below : (w : ℕ) (bs : Bytes) (n : ℕ) → length bs ≤ w → column_of bs ≡ Number n → n < 10 ^ w
+column-below : (w : ℕ) (bs : Bytes) (n : ℕ) → length bs ≤ w → column_of bs ≡ Some n → n < 10 ^ w
 unfolding column_of
 column-below w bs n l e = below_more n (length (strip bs)) w (numeral-below (strip bs) n e) (omega (arith, l, strip-shorter bs))
 

@@ -1,6 +1,6 @@
 -- Laws of names replaced, by what the way down each of them tells: the target in the end, one replacement more, or a ninth.
 use Prim.Native.Nat.{ℕ, zero, suc, ◌-◌, ◌≤◌, ◌<◌}
-use Rattle.std.specs.Prelude.{◌≡◌, Bool, true, false, List, ◌++◌, ltb, get_or, take}
+use Rattle.std.specs.Prelude.{◌≡◌, Bool, true, false, List, ◌++◌, ltb, get_or, take, Some, None}
 use Rattle.std.proofs.Math.Path.{refl, ap, subst}
 use Rattle.std.proofs.Common.{sym, ap₂, ◌∙◌, lt-ltb, le-ltb, ltb-true, ltb-false}
 use Rattle.std.proofs.Math.Option.{Option, none, some}
@@ -16,7 +16,7 @@ use Rattle.rules.specs.Places.{lines_at, parts_of}
 use Rattle.tables.specs.Numbers.{alias_by}
 use Rattle.rules.specs.Derived.{Accepted}
 use Rattle.tables.specs.Laws.Targets.{leading-walk, walk-depth}
-use Rattle.rules.specs.declared.Found.{Found}
+use Rattle.rules.specs.Value.{Found}
 use Rattle.tables.specs.Book.{entry_count, width}
 use Rattle.tables.specs.World.{Entries, World, Known}
 use Rattle.tables.specs.Plan.{aliases_of}
@@ -24,9 +24,7 @@ use Rattle.answer_entry.specs.declared.Sought.{Sought}
 use Rattle.answer_resolution.specs.Resolution.{alias, whole, way_down, ending_of, Full, target_of, HoldsName, Resolves}
 use Rattle.answer_resolution.specs.Laws.Way.{way-unled, way-led, way-unstopped, way-base}
 use Rattle.answer_resolution.specs.declared.way.Way.{Way}
-use Rattle.answer_resolution.specs.declared.way.Way.TheVariants as Way
-use Rattle.answer_resolution.specs.declared.Resolved.{Resolved}
-use Rattle.answer_resolution.specs.declared.Resolved.TheVariants as Resolved
+use Rattle.answer_resolution.specs.Resolved.{Resolved}
 
 module _ (σ : Setting) (es : List Stored) (ok : Accepted σ.schema es) where
   directory : Directory
@@ -66,8 +64,8 @@ module _ (σ : Setting) (es : List Stored) (ok : Accepted σ.schema es) where
 
     -- it ends with the name
     pub resolves-end : (t : Sought) → t.missing ≤ length es → way_down σ es (ltb parts 9) 0 0 n ≡ whole t.base t.missing
-        → Resolves σ es (followed σ.schema (aliases_of σ es) (suc k) n) (Resolved.Sought t)
-    resolves-end t l e = subst (λ (o : Option Name). Resolves σ es o (Resolved.Sought t)) (sym (go (ltb parts 9) refl e)) (way-base σ es ok (ltb parts 9) n l e)
+        → Resolves σ es (followed σ.schema (aliases_of σ es) (suc k) n) (Some t)
+    resolves-end t l e = subst (λ (o : Option Name). Resolves σ es o (Some t)) (sym (go (ltb parts 9) refl e)) (way-base σ es ok (ltb parts 9) n l e)
       where
         go : (b : Bool) → ltb parts 9 ≡ b → way_down σ es b 0 0 n ≡ whole t.base t.missing → followed σ.schema (aliases_of σ es) (suc k) n ≡ some n
         go true h q = followed-whole k n t.base t.missing (few true h refl) q
@@ -91,9 +89,9 @@ module _ (σ : Setting) (es : List Stored) (ok : Accepted σ.schema es) where
         go false h q = absurd (way-unstopped σ es n 0 0 j rest q)
 
   -- a ninth replacement is due
-  pub resolves-none : (n m : Name) → followed σ.schema (aliases_of σ es) 1 n ≡ followed σ.schema (aliases_of σ es) 0 m → Resolves σ es (followed σ.schema (aliases_of σ es) 1 n) Resolved.AliasProblem
+  pub resolves-none : (n m : Name) → followed σ.schema (aliases_of σ es) 1 n ≡ followed σ.schema (aliases_of σ es) 0 m → Resolves σ es (followed σ.schema (aliases_of σ es) 1 n) None
   unfolding followed
-  resolves-none n m e = subst (λ (o : Option Name). Resolves σ es o Resolved.AliasProblem) (sym e) tt
+  resolves-none n m e = subst (λ (o : Option Name). Resolves σ es o None) (sym e) tt
 
 -- ---- the loop
 
@@ -104,11 +102,11 @@ module _ (book sets : List ℕ) (d : Bytes) where
       → ending_of (width book) s r ≡ way_down σ es (ltb parts 9) 0 0 (parts_of parts (lines_at (width book) s i))
 
   -- some world is known
-  abbrev pub Some : Type 0
-  Some = (p : Bytes) × (held : List ℕ) × Known d p book held sets
+  abbrev pub SomeWorld : Type 0
+  SomeWorld = (p : Bytes) × (held : List ℕ) × Known d p book held sets
 
   -- an alias at the beginning of a name of `parts` parts: at most 7 are behind it
-  pub told-few : Some → (s : Bytes) (i parts : ℕ) {r : Way} → WayTold s i parts r → Full (width book) s i parts → {number left next : ℕ} → r ≡ Way.Alias number left next → left < parts → left ≤ 7
+  pub told-few : SomeWorld → (s : Bytes) (i parts : ℕ) {r : Way} → WayTold s i parts r → Full (width book) s i parts → {number left next : ℕ} → r ≡ Way.Alias number left next → left < parts → left ≤ 7
   told-few (p, held, (σ, es, W)) s i parts t f {number} {left} {next} e l =
       let q = ap (ending_of (width book) s) (sym e) ∙ t σ es p held W in
       omega (arith, l, met-few σ es W.entries.accepted 0 (parts_of parts (lines_at (width book) s i)) parts f number (parts_of left (lines_at (width book) s next)) (sym q))
@@ -116,7 +114,7 @@ module _ (book sets : List ℕ) (d : Bytes) where
   -- the target of a name whose way down ends with it, `k` more replacements being allowed
   pub told-end : (s : Bytes) (i parts : ℕ) {r : Way} → WayTold s i parts r → Full (width book) s i parts → {t : Sought} → r ≡ Way.End t → t.missing ≤ entry_count book → (k : ℕ)
       → (σ : Setting) (es : List Stored) (p : Bytes) (held : List ℕ) → World σ es d p book held sets
-      → Resolves σ es (followed σ.schema (aliases_of σ es) (suc k) (parts_of parts (lines_at (width book) s i))) (Resolved.Sought t)
+      → Resolves σ es (followed σ.schema (aliases_of σ es) (suc k) (parts_of parts (lines_at (width book) s i))) (Some t)
   told-end s i parts told f {t} e l k σ es p held W =
       resolves-end σ es W.entries.accepted k (parts_of parts (lines_at (width book) s i)) parts f t (omega (arith, l, W.entries.count))
       (sym (ap (ending_of (width book) s) (sym e) ∙ told σ es p held W))
@@ -142,10 +140,10 @@ module _ (book sets : List ℕ) (d : Bytes) where
   Replaced s number left next name parts = (σ : Setting) (es : List Stored) (held : List ℕ) → Entries σ es d book held
       → HoldsName (width book) name parts (target_of es number ++ parts_of left (lines_at (width book) s next))
 
-  replaced-full : Some → (s : Bytes) (number left next : ℕ) (name : Bytes) (parts : ℕ) → Replaced s number left next name parts → Full (width book) name 0 parts
+  replaced-full : SomeWorld → (s : Bytes) (number left next : ℕ) (name : Bytes) (parts : ℕ) → Replaced s number left next name parts → Full (width book) name 0 parts
   replaced-full (p, held, (σ, es, W)) s number left next name parts h = let g = h σ es held W.entries in ap length g.parts ∙ g.count
 
-  pub following-start : Some → (s : Bytes) (number left next : ℕ) (name : Bytes) (parts : ℕ) → Replaced s number left next name parts → Following s number left next name parts 7
+  pub following-start : SomeWorld → (s : Bytes) (number left next : ℕ) (name : Bytes) (parts : ℕ) → Replaced s number left next name parts → Following s number left next name parts 7
   following-start w s number left next name parts h = record {
     full = replaced-full w s number left next name parts h;
     leads = λ σ es p held W. ap (followed σ.schema (aliases_of σ es) 8) (h σ es held W.entries).parts;
@@ -153,17 +151,17 @@ module _ (book sets : List ℕ) (d : Bytes) where
 
   module _ {s : Bytes} {number left next : ℕ} {name : Bytes} {parts more : ℕ} (g : Following s number left next name parts more) {r : Way} (told : WayTold name 0 parts r) where
     pub following-end : {t : Sought} → r ≡ Way.End t → t.missing ≤ entry_count book → (σ : Setting) (es : List Stored) (p : Bytes) (held : List ℕ) → World σ es d p book held sets
-        → Resolves σ es (followed σ.schema (aliases_of σ es) 8 (target_of es number ++ parts_of left (lines_at (width book) s next))) (Resolved.Sought t)
-    following-end {t} e l σ es p held W = subst (λ (o : Option Name). Resolves σ es o (Resolved.Sought t)) (g.leads σ es p held W) (told-end name 0 parts told g.full e l more σ es p held W)
+        → Resolves σ es (followed σ.schema (aliases_of σ es) 8 (target_of es number ++ parts_of left (lines_at (width book) s next))) (Some t)
+    following-end {t} e l σ es p held W = subst (λ (o : Option Name). Resolves σ es o (Some t)) (g.leads σ es p held W) (told-end name 0 parts told g.full e l more σ es p held W)
 
     module _ {k rest behind : ℕ} (e : r ≡ Way.Alias k rest behind) (o : 1 ≤ k) where
       pub following-none : more ≡ 0 → (σ : Setting) (es : List Stored) (p : Bytes) (held : List ℕ) → World σ es d p book held sets
-          → Resolves σ es (followed σ.schema (aliases_of σ es) 8 (target_of es number ++ parts_of left (lines_at (width book) s next))) Resolved.AliasProblem
+          → Resolves σ es (followed σ.schema (aliases_of σ es) 8 (target_of es number ++ parts_of left (lines_at (width book) s next))) None
       following-none z σ es p held W =
-          subst (λ (o : Option Name). Resolves σ es o Resolved.AliasProblem) (ap (λ (m : ℕ). followed σ.schema (aliases_of σ es) (suc m) (parts_of parts (lines_at (width book) name 0))) (sym z) ∙ g.leads σ es p held W)
+          subst (λ (o : Option Name). Resolves σ es o None) (ap (λ (m : ℕ). followed σ.schema (aliases_of σ es) (suc m) (parts_of parts (lines_at (width book) name 0))) (sym z) ∙ g.leads σ es p held W)
           (resolves-none σ es W.entries.accepted _ _ (told-on name 0 parts told g.full e o 0 σ es p held W))
 
-      pub following-on : Some → (more ≡ 0 → ⊥) → (name₁ : Bytes) (parts₁ : ℕ) → Replaced name k rest behind name₁ parts₁ → Following s number left next name₁ parts₁ (more - 1)
+      pub following-on : SomeWorld → (more ≡ 0 → ⊥) → (name₁ : Bytes) (parts₁ : ℕ) → Replaced name k rest behind name₁ parts₁ → Following s number left next name₁ parts₁ (more - 1)
       following-on w z name₁ parts₁ h = record {
         full = replaced-full w name k rest behind name₁ parts₁ h;
         leads = λ σ es p held W.

@@ -1,9 +1,8 @@
 -- Laws of the way down a name: the ways through the loop, and what its ending tells of the name.
 use Prim.Native.Nat.{ℕ, zero, suc, ◌-◌, ◌≤◌, ◌<◌}
-use Rattle.std.specs.Prelude.{◌≡◌, Bool, true, false, ◌&&◌, cond, not, eqb, length, take, drop}
+use Rattle.std.specs.Prelude.{◌≡◌, Bool, true, false, ◌&&◌, cond, not, eqb, length, take, drop, Some, None}
 use Rattle.std.proofs.Math.Path.{refl, sym}
 use Rattle.std.proofs.Common.{ap, ◌∙◌, subst, arith, eq-eqb, ne_eqb}
-use Rattle.std.proofs.lemmas.Bool.{false≢true}
 use mathlib.Core.List.{List, [], ◌∷◌, map}
 use Rattle.rules.specs.Sheet.{Bytes}
 use Rattle.rules.specs.Name.{Schema, Part, Name}
@@ -19,7 +18,6 @@ use Rattle.tables.specs.Laws.World.{entry_at}
 use Rattle.tables.specs.Sets.{granted_at}
 use Rattle.sheet_line.specs.Line.{taken_at}
 use Rattle.sheet_line.specs.declared.Taken.{Taken}
-use Rattle.sheet_line.specs.declared.Taken.TheVariants as Taken
 use Rattle.directory_lookup.specs.Find.{by_child, step_found, step_of}
 use Rattle.directory_lookup.specs.Laws.Names.{parts-by}
 use Rattle.directory_lookup.specs.Laws.Find.{by_step, name-step}
@@ -27,33 +25,31 @@ use Rattle.tables.specs.Sound.{Base}
 use Rattle.answer_resolution.specs.Resolution.{last_of, alias, whole, way_down, ending_of, Full}
 use Rattle.answer_resolution.specs.Laws.Matched.{descend, descend-matched}
 use Rattle.answer_resolution.specs.declared.way.Way.{Way}
-use Rattle.answer_resolution.specs.declared.way.Way.TheVariants as Way
 use Rattle.directory_lookup.specs.declared.find.Descent.{Descent}
 use Rattle.directory_lookup.specs.declared.find.Descent.TheVariants.{To, Lost, Ended}
-use Rattle.rules.specs.declared.Found.{Found}
-use Rattle.rules.specs.declared.Found.TheVariants.{At, Nothing}
+use Rattle.rules.specs.Value.{Found}
 
 -- ---- a child has a number from 1 on
 
-found-not : (k : ℕ) → Nothing ≡ At k → ⊥
+found-not : (k : ℕ) → None ≡ Some k → ⊥
 found-not k e = let z : ◌≡◌ {A = ℕ} 0 1 = cc in omega arith
 
-child-after : (S : Schema) (parent : ℕ) (p : Part) (es : List Stored) (i k : ℕ) → child_from S parent p es i ≡ At k → i < k
+child-after : (S : Schema) (parent : ℕ) (p : Part) (es : List Stored) (i k : ℕ) → child_from S parent p es i ≡ Some k → i < k
 unfolding child_from
 child-after S parent p [] i k e = absurd (found-not k e)
 child-after S parent p (x ∷ es) i k e = go (eqb x.parent parent && _) e (child-after S parent p es (suc i) k)
   where
-    go : (b : Bool) → cond b (At (suc i)) (child_from S parent p es (suc i)) ≡ At k → (child_from S parent p es (suc i) ≡ At k → suc i < k) → i < k
+    go : (b : Bool) → cond b (Some (suc i)) (child_from S parent p es (suc i)) ≡ Some k → (child_from S parent p es (suc i) ≡ Some k → suc i < k) → i < k
     go true q h = let z : suc i ≡ k = cc in omega arith
     go false q h = omega (arith, h q)
 
-step_after : (S : Schema) (es : List Stored) (f : Found) (n : ℕ) (k next : ℕ) → step_found f n ≡ To k next → f ≡ At k
-step_after S es (At j) n k next e = let z : j ≡ k = cc in ap At z
-step_after S es Nothing n k next e = absurd (let z : ◌≡◌ {A = ℕ} 0 1 = cc in omega arith)
+step_after : (S : Schema) (es : List Stored) (f : Found) (n : ℕ) (k next : ℕ) → step_found f n ≡ To k next → f ≡ Some k
+step_after S es (Some j) n k next e = let z : j ≡ k = cc in ap Some z
+step_after S es None n k next e = absurd (let z : ◌≡◌ {A = ℕ} 0 1 = cc in omega arith)
 
 step-next : (f : Found) (n k next : ℕ) → step_found f n ≡ To k next → n ≡ next
-step-next (At j) n k next e = cc
-step-next Nothing n k next e = absurd (let z : ◌≡◌ {A = ℕ} 0 1 = cc in omega arith)
+step-next (Some j) n k next e = cc
+step-next None n k next e = absurd (let z : ◌≡◌ {A = ℕ} 0 1 = cc in omega arith)
 
 pub step-positive : (S : Schema) (es : List Stored) (from w : ℕ) (s : Bytes) (j k next : ℕ) → To k next ≡ step_of S es from s (taken_at w s j) → 1 ≤ k
 unfolding step_of
@@ -81,12 +77,12 @@ step-full S es from w s j k next left e h f = go (taken_at w s j) refl e
 
 way_step : (σ : Setting) (es : List Stored) (stop : Bool) (from last w : ℕ) (s : Bytes) (j n : ℕ) → 0 < n
     → way_down σ es stop from last (parts_of n (lines_at w s j))
-    ≡ by_step (whole (At from) last) (whole Nothing (last_of σ es from last))
+    ≡ by_step (whole (Some from) last) (whole None (last_of σ es from last))
     (λ k next. cond (stop && under_alias es k) (alias k (parts_of (n - 1) (lines_at w s next))) (way_down σ es stop k (last_of σ es from last) (parts_of (n - 1) (lines_at w s next))))
     (step_of σ.schema es from s (taken_at w s j))
 unfolding way_down
 way_step σ es stop from last w s j n h =
-    name-step σ.schema es from w s j n h (way_down σ es stop from last) (whole (At from) last) (whole Nothing (last_of σ es from last))
+    name-step σ.schema es from w s j n h (way_down σ es stop from last) (whole (Some from) last) (whole None (last_of σ es from last))
     (λ k ps. cond (stop && under_alias es k) (alias k ps) (way_down σ es stop k (last_of σ es from last) ps)) refl (λ p ps. refl)
 
 -- an alias by its number in the book
@@ -115,11 +111,11 @@ module _ (book sets : List ℕ) (d s : Bytes) (place parts : ℕ) (stop : Bool) 
   going_start = record { leads = λ σ es p held h. refl }
 
   module _ {from last j left : ℕ} (going : Going from last j left) where
-    pub going_end : left ≤ 0 → Ends (Way.End (record { base = At from; missing = last }))
+    pub going_end : left ≤ 0 → Ends (Way.End (record { base = Some from; missing = last }))
     unfolding way_down parts_of
     going_end l σ es p held h = sym (done left l) ∙ going.leads σ es p held h
       where
-        done : (left : ℕ) → left ≤ 0 → way_down σ es stop from last (parts_of left (lines_at (width book) s j)) ≡ whole (At from) last
+        done : (left : ℕ) → left ≤ 0 → way_down σ es stop from last (parts_of left (lines_at (width book) s j)) ≡ whole (Some from) last
         done zero l = refl
         done (suc n) l = absurd (omega arith)
 
@@ -127,20 +123,20 @@ module _ (book sets : List ℕ) (d s : Bytes) (place parts : ℕ) (stop : Bool) 
         (is : (σ : Setting) (es : List Stored) (held : List ℕ) → Entries σ es d book held → x ≡ step_of σ.schema es from s (taken_at (width book) s j))
       where
         turn : (y : Descent) → x ≡ y → (σ : Setting) (es : List Stored) (p : Bytes) (held : List ℕ) → World σ es d p book held sets
-            → by_step (whole (At from) last) (whole Nothing (last_of σ es from last))
+            → by_step (whole (Some from) last) (whole None (last_of σ es from last))
             (λ k next. cond (stop && under_alias es k) (alias k (parts_of (left - 1) (lines_at (width book) s next))) (way_down σ es stop k (last_of σ es from last) (parts_of (left - 1) (lines_at (width book) s next)))) y
             ≡ way_down σ es stop 0 0 (parts_of parts (lines_at (width book) s place))
         turn y e σ es p held h =
-            ap (by_step (whole (At from) last) (whole Nothing (last_of σ es from last))
+            ap (by_step (whole (Some from) last) (whole None (last_of σ es from last))
             (λ k next. cond (stop && under_alias es k) (alias k (parts_of (left - 1) (lines_at (width book) s next))) (way_down σ es stop k (last_of σ es from last) (parts_of (left - 1) (lines_at (width book) s next)))))
             (sym e ∙ is σ es held h.entries)
             ∙ sym (way_step σ es stop from last (width book) s j left more)
             ∙ going.leads σ es p held h
 
-        pub going-lost : x ≡ Lost → {m : ℕ} → Seen from last m → Ends (Way.End (record { base = Nothing; missing = m }))
-        going-lost e m-is σ es p held h = ap (whole Nothing) (m-is σ es p held h) ∙ turn Lost e σ es p held h
+        pub going-lost : x ≡ Lost → {m : ℕ} → Seen from last m → Ends (Way.End (record { base = None; missing = m }))
+        going-lost e m-is σ es p held h = ap (whole None) (m-is σ es p held h) ∙ turn Lost e σ es p held h
 
-        pub going-ended : x ≡ Ended → Ends (Way.End (record { base = At from; missing = last }))
+        pub going-ended : x ≡ Ended → Ends (Way.End (record { base = Some from; missing = last }))
         going-ended e σ es p held h = turn Ended e σ es p held h
 
         module _ {k next : ℕ} (e : x ≡ To k next) where
@@ -177,7 +173,7 @@ ending-not : {A : Type 0} (k m : ℕ) (f : Found) (n : Name) → alias k n ≡ w
 ending-not k m f n e = absurd (let z : ◌≡◌ {A = ℕ} 0 1 = cc in omega arith)
 
 -- an alias leads whatever follows it
-lead-here : (σ : Setting) (es : List Stored) (k : ℕ) (n : Name) → under_alias es k ≡ true → lead σ.schema es k n ≡ At k
+lead-here : (σ : Setting) (es : List Stored) (k : ℕ) (n : Name) → under_alias es k ≡ true → lead σ.schema es k n ≡ Some k
 unfolding lead
 lead-here σ es k [] e = rw e
 lead-here σ es k (p ∷ ps) e = rw e
@@ -186,20 +182,20 @@ module _ (σ : Setting) (es : List Stored) where
   -- the entry found is the one that the whole name names
   way-walk : (stop : Bool) (n : Name) (from last : ℕ) (f : Found) (m : ℕ) → way_down σ es stop from last n ≡ whole f m → walk σ.schema es from n ≡ f
   unfolding way_down walk
-  way-walk stop [] from last f m e = let z : At from ≡ f = cc in z
+  way-walk stop [] from last f m e = let z : Some from ≡ f = cc in z
   way-walk stop (p ∷ ps) from last f m e = go (child_from σ.schema from p es 0) e (way-walk stop ps)
     where
       seen : ℕ
       seen = last_of σ es from last
 
-      go : (c : Found) → by_child (whole Nothing seen) (λ k. cond (stop && under_alias es k) (alias k ps) (way_down σ es stop k seen ps)) c ≡ whole f m
+      go : (c : Found) → by_child (whole None seen) (λ k. cond (stop && under_alias es k) (alias k ps) (way_down σ es stop k seen ps)) c ≡ whole f m
           → ((k last : ℕ) (f : Found) (m : ℕ) → way_down σ es stop k last ps ≡ whole f m → walk σ.schema es k ps ≡ f) → on_found c (λ k. walk σ.schema es k ps) ≡ f
-      go (At k) q ih = on (stop && under_alias es k) q
+      go (Some k) q ih = on (stop && under_alias es k) q
         where
           on : (b : Bool) → cond b (alias k ps) (way_down σ es stop k seen ps) ≡ whole f m → walk σ.schema es k ps ≡ f
           on true r = ending-not k m f ps r
           on false r = ih k seen f m r
-      go Nothing q ih = let z : Nothing ≡ f = cc in z
+      go None q ih = let z : None ≡ f = cc in z
 
   -- the last number disclosed above it
   way-last : (stop : Bool) (p : Part) (ps : Name) (from last : ℕ) (f : Found) (m : ℕ) → way_down σ es stop from last (p ∷ ps) ≡ whole f m
@@ -210,30 +206,30 @@ module _ (σ : Setting) (es : List Stored) where
       seen : ℕ
       seen = last_of σ es from last
 
-      go : (c : Found) → by_child (whole Nothing seen) (λ k. cond (stop && under_alias es k) (alias k []) (whole (At k) seen)) c ≡ whole f m → m ≡ seen
-      go (At k) q = on (stop && under_alias es k) q
+      go : (c : Found) → by_child (whole None seen) (λ k. cond (stop && under_alias es k) (alias k []) (whole (Some k) seen)) c ≡ whole f m → m ≡ seen
+      go (Some k) q = on (stop && under_alias es k) q
         where
-          on : (b : Bool) → cond b (alias k []) (whole (At k) seen) ≡ whole f m → m ≡ seen
+          on : (b : Bool) → cond b (alias k []) (whole (Some k) seen) ≡ whole f m → m ≡ seen
           on true r = ending-not k m f [] r
           on false r = let z : m ≡ seen = cc in z
-      go Nothing q = let z : m ≡ seen = cc in z
+      go None q = let z : m ≡ seen = cc in z
   way-last stop p (p' ∷ ps) from last f m e = go (child_from σ.schema from p es 0) e (way-last stop p' ps)
     where
       seen : ℕ
       seen = last_of σ es from last
 
-      go : (c : Found) → by_child (whole Nothing seen) (λ k. cond (stop && under_alias es k) (alias k (p' ∷ ps)) (way_down σ es stop k seen (p' ∷ ps))) c ≡ whole f m
+      go : (c : Found) → by_child (whole None seen) (λ k. cond (stop && under_alias es k) (alias k (p' ∷ ps)) (way_down σ es stop k seen (p' ∷ ps))) c ≡ whole f m
           → ((k last : ℕ) (f : Found) (m : ℕ) → way_down σ es stop k last (p' ∷ ps) ≡ whole f m → m ≡ descend σ es k (last_of σ es k last) (take (length ps) (p' ∷ ps)))
           → m ≡ by_child seen (λ k. descend σ es k (last_of σ es k seen) (take (length ps) (p' ∷ ps))) c
-      go (At k) q ih = on (stop && under_alias es k) q
+      go (Some k) q ih = on (stop && under_alias es k) q
         where
           on : (b : Bool) → cond b (alias k (p' ∷ ps)) (way_down σ es stop k seen (p' ∷ ps)) ≡ whole f m → m ≡ descend σ es k (last_of σ es k seen) (take (length ps) (p' ∷ ps))
           on true r = ending-not k m f (p' ∷ ps) r
           on false r = ih k seen f m r
-      go Nothing q ih = let z : m ≡ seen = cc in z
+      go None q ih = let z : m ≡ seen = cc in z
 
   -- no alias was met
-  pub way-unled : (n : Name) (from last : ℕ) (f : Found) (m : ℕ) → under_alias es from ≡ false → way_down σ es true from last n ≡ whole f m → lead σ.schema es from n ≡ Nothing
+  pub way-unled : (n : Name) (from last : ℕ) (f : Found) (m : ℕ) → under_alias es from ≡ false → way_down σ es true from last n ≡ whole f m → lead σ.schema es from n ≡ None
   unfolding way_down lead
   way-unled [] from last f m u e = rw u
   way-unled (p ∷ ps) from last f m u e = rw u (go (child_from σ.schema from p es 0) e (way-unled ps))
@@ -241,55 +237,55 @@ module _ (σ : Setting) (es : List Stored) where
       seen : ℕ
       seen = last_of σ es from last
 
-      go : (c : Found) → by_child (whole Nothing seen) (λ k. cond (under_alias es k) (alias k ps) (way_down σ es true k seen ps)) c ≡ whole f m
-          → ((k last : ℕ) (f : Found) (m : ℕ) → under_alias es k ≡ false → way_down σ es true k last ps ≡ whole f m → lead σ.schema es k ps ≡ Nothing)
-          → on_found c (λ k. lead σ.schema es k ps) ≡ Nothing
-      go (At k) q ih = on (under_alias es k) refl q
+      go : (c : Found) → by_child (whole None seen) (λ k. cond (under_alias es k) (alias k ps) (way_down σ es true k seen ps)) c ≡ whole f m
+          → ((k last : ℕ) (f : Found) (m : ℕ) → under_alias es k ≡ false → way_down σ es true k last ps ≡ whole f m → lead σ.schema es k ps ≡ None)
+          → on_found c (λ k. lead σ.schema es k ps) ≡ None
+      go (Some k) q ih = on (under_alias es k) refl q
         where
-          on : (b : Bool) → under_alias es k ≡ b → cond b (alias k ps) (way_down σ es true k seen ps) ≡ whole f m → lead σ.schema es k ps ≡ Nothing
+          on : (b : Bool) → under_alias es k ≡ b → cond b (alias k ps) (way_down σ es true k seen ps) ≡ whole f m → lead σ.schema es k ps ≡ None
           on true v r = ending-not k m f ps r
           on false v r = ih k seen f m v r
-      go Nothing q ih = refl
+      go None q ih = refl
 
   -- an alias was met: it leads the name, and has its beginning
   pub way-led : (n : Name) (from last : ℕ) (k : ℕ) (rest : Name) → under_alias es from ≡ false → way_down σ es true from last n ≡ alias k rest
-      → (lead σ.schema es from n ≡ At k) × ((i : ℕ) × (i ≤ length n) × (walk σ.schema es from (take i n) ≡ At k) × (drop i n ≡ rest))
+      → (lead σ.schema es from n ≡ Some k) × ((i : ℕ) × (i ≤ length n) × (walk σ.schema es from (take i n) ≡ Some k) × (drop i n ≡ rest))
   unfolding way_down lead walk
-  way-led [] from last k rest u e = ending-not k last (At from) rest (sym e)
+  way-led [] from last k rest u e = ending-not k last (Some from) rest (sym e)
   way-led (p ∷ ps) from last k rest u e = go (child_from σ.schema from p es 0) refl e (way-led ps)
     where
       seen : ℕ
       seen = last_of σ es from last
 
       Led : Type 0
-      Led = (lead σ.schema es from (p ∷ ps) ≡ At k) × ((i : ℕ) × (i ≤ length (p ∷ ps)) × (walk σ.schema es from (take i (p ∷ ps)) ≡ At k) × (drop i (p ∷ ps) ≡ rest))
+      Led = (lead σ.schema es from (p ∷ ps) ≡ Some k) × ((i : ℕ) × (i ≤ length (p ∷ ps)) × (walk σ.schema es from (take i (p ∷ ps)) ≡ Some k) × (drop i (p ∷ ps) ≡ rest))
 
-      go : (c : Found) → child_from σ.schema from p es 0 ≡ c → by_child (whole Nothing seen) (λ j. cond (under_alias es j) (alias j ps) (way_down σ es true j seen ps)) c ≡ alias k rest
+      go : (c : Found) → child_from σ.schema from p es 0 ≡ c → by_child (whole None seen) (λ j. cond (under_alias es j) (alias j ps) (way_down σ es true j seen ps)) c ≡ alias k rest
           → ((j last : ℕ) (k : ℕ) (rest : Name) → under_alias es j ≡ false → way_down σ es true j last ps ≡ alias k rest
-          → (lead σ.schema es j ps ≡ At k) × ((i : ℕ) × (i ≤ length ps) × (walk σ.schema es j (take i ps) ≡ At k) × (drop i ps ≡ rest))) → Led
-      go (At j) c q ih = on (under_alias es j) refl q
+          → (lead σ.schema es j ps ≡ Some k) × ((i : ℕ) × (i ≤ length ps) × (walk σ.schema es j (take i ps) ≡ Some k) × (drop i ps ≡ rest))) → Led
+      go (Some j) c q ih = on (under_alias es j) refl q
         where
           on : (b : Bool) → under_alias es j ≡ b → cond b (alias j ps) (way_down σ es true j seen ps) ≡ alias k rest → Led
           on true v r =
               let z : j ≡ k = cc in
               let y : ps ≡ rest = cc in
-              (rw (u, c) (lead-here σ es j ps v ∙ ap At z), (1, omega arith, rw c (ap At z), y))
+              (rw (u, c) (lead-here σ es j ps v ∙ ap Some z), (1, omega arith, rw c (ap Some z), y))
           on false v r = let (l, (i, h, w, y)) = ih j seen k rest v r in (rw (u, c) l, (suc i, omega (arith, h), rw c w, y))
-      go Nothing c q ih = ending-not k seen Nothing rest (sym q)
+      go None c q ih = ending-not k seen None rest (sym q)
 
   -- without a stop none is met
   pub way-unstopped : (n : Name) (from last : ℕ) (k : ℕ) (rest : Name) → way_down σ es false from last n ≡ alias k rest → ⊥
   unfolding way_down
-  way-unstopped [] from last k rest e = ending-not k last (At from) rest (sym e)
+  way-unstopped [] from last k rest e = ending-not k last (Some from) rest (sym e)
   way-unstopped (p ∷ ps) from last k rest e = go (child_from σ.schema from p es 0) e (way-unstopped ps)
     where
       seen : ℕ
       seen = last_of σ es from last
 
-      go : (c : Found) → by_child (whole Nothing seen) (λ j. way_down σ es false j seen ps) c ≡ alias k rest
+      go : (c : Found) → by_child (whole None seen) (λ j. way_down σ es false j seen ps) c ≡ alias k rest
           → ((j last : ℕ) (k : ℕ) (rest : Name) → way_down σ es false j last ps ≡ alias k rest → ⊥) → ⊥
-      go (At j) q ih = ih j seen k rest q
-      go Nothing q ih = ending-not k seen Nothing rest (sym q)
+      go (Some j) q ih = ih j seen k rest q
+      go None q ih = ending-not k seen None rest (sym q)
 
 -- ---- what a name asked for leads to
 

@@ -7,7 +7,6 @@ use Rattle.rules.specs.Places.{ordering_by}
 use Rattle.rules.specs.Derived.{Each}
 use Rattle.tables.specs.Book.{entry_count}
 use Rattle.answer_arrange.specs.Arrange.{arranged_at}
-use borrow.Author.Rules.{rules}
 use Rattle.answer_search.proofs.in_order.Goals as goal
 
 from_zero : (n : ℕ) → n - 0 ≡ n

@@ -1,8 +1,7 @@
-use Prim.Native.Nat.{ℕ, ◌-◌}
+use Prim.Native.Nat.{ℕ}
 use mathlib.Core.Path.{ap, ◌∙◌}
 use native.Mathlib.Omega.{arith}
 use lib.Dec.{eqb}
-use Rattle.rules.specs.Request as Request
 use Rattle.tables.specs.Laws.World.{parent_is}
 use Rattle.answer_search.specs.Laws.Hits.{within-base, within-children, within-below}
 use Rattle.answer_search.proofs.within.Goals as goal

@@ -1,5 +1,5 @@
 -- Laws of `Hits`: the tests of the rules at an index, and the hits as indices that pass.
-use Rattle.std.specs.Prelude.{ℕ, suc, ◌+◌, ◌<◌, ◌≡◌, Bool, true, false, ◌&&◌, eqb, length}
+use Rattle.std.specs.Prelude.{ℕ, suc, ◌+◌, ◌<◌, ◌≡◌, Bool, true, false, ◌&&◌, eqb, length, Some}
 use Rattle.std.proofs.Math.Path.{refl, ap}
 use Rattle.std.proofs.Common.{ap₂, ◌∙◌}
 use Rattle.std.proofs.Math.Bool.{and_assoc}
@@ -18,7 +18,6 @@ use Rattle.rules.specs.Derived.{Accepted}
 use Rattle.tables.specs.Numbers.{climbs, within_number, walk}
 use Rattle.tables.specs.Laws.Hits.{candidate-number}
 use Rattle.rules.specs.declared.Edition.{Edition}
-use Rattle.rules.specs.declared.Found.TheVariants.{At}
 use Rattle.tables.specs.Sets.{granted_at}
 use Rattle.tables.specs.Plan.{found_lines, information_at}
 use Rattle.answer_entry.specs.Returned.{browsable_at, returnable_at}
@@ -73,13 +72,13 @@ next-number : (σ : Setting) (es : List Stored) (b k : ℕ) → returnable_at σ
 next-number σ es b k h = rw (← add-one k) h
 
 -- #103: an entry within the subset that may be returned is a candidate
-pub candidate-asked : (σ : Setting) (es : List Stored) (ok : Accepted σ.schema es) (n : Name) (b : ℕ) (walked : walk σ.schema es 0 n ≡ At b) (k : ℕ) → k < length es → (subset : ℕ)
+pub candidate-asked : (σ : Setting) (es : List Stored) (ok : Accepted σ.schema es) (n : Name) (b : ℕ) (walked : walk σ.schema es 0 n ≡ Some b) (k : ℕ) → k < length es → (subset : ℕ)
     → within_number es subset b (suc k) ≡ true → returnable_at σ es (k + 1) (eqb (k + 1) b) ≡ true → Answer.candidate σ n subset (entry_of (get_or es k blank)) ≡ true
 unfolding returnable_at browsable_at granted_at
 candidate-asked σ es ok n b walked k l subset e h =
     candidate-number σ es ok n b walked k l subset ∙ ap₂ (λ (x y : Bool). x && y) e (next-number σ es b k h)
 
-module _ (σ : Setting) (es : List Stored) (ok : Accepted σ.schema es) (n : Name) (b : ℕ) (walked : walk σ.schema es 0 n ≡ At b) (r : Search) where
+module _ (σ : Setting) (es : List Stored) (ok : Accepted σ.schema es) (n : Name) (b : ℕ) (walked : walk σ.schema es 0 n ≡ Some b) (r : Search) where
   found-at : (k : ℕ) → k < length es → Answer.found σ n r (entry_of (get_or es k blank)) ≡ found_at σ es b r.subset r.edition r.filter k
   unfolding Answer.found found_at matches_at returnable_at browsable_at granted_at
   found-at k l =

@@ -1,5 +1,5 @@
 -- Search as a whole: the plan of the entries found stands for the answer of the rules, and so does that of an absent base.
-use Rattle.std.specs.Prelude.{ℕ, ◌+◌, ◌-◌, ◌≤◌, ◌<◌, ◌≡◌, Bool, List, ◌++◌, map, length, get_or, take, drop}
+use Rattle.std.specs.Prelude.{ℕ, ◌+◌, ◌-◌, ◌≤◌, ◌<◌, ◌≡◌, Bool, List, ◌++◌, map, length, get_or, take, drop, Some, None}
 use Rattle.std.proofs.Common.{arith, ◌∙◌, subst, length-append, length-drop, length-take-le, get_or-append-add, get_or-take, get_or-drop, take_at}
 use Rattle.std.proofs.Math.Path.{refl, sym, ap}
 use Rattle.std.proofs.Math.Option.{Option}
@@ -18,8 +18,7 @@ use Rattle.rules.specs.Places.{ordering_by}
 use Rattle.rules.specs.Derived.{Each, Accepted}
 use Rattle.rules.proofs.Laws.Each.{each_at, each-by-index}
 use Rattle.rules.proofs.Laws.Absent.{search-absent}
-use Rattle.rules.specs.declared.Found.{Found}
-use Rattle.rules.specs.declared.Found.TheVariants.{At, Nothing}
+use Rattle.rules.specs.Value.{Found}
 use Rattle.tables.specs.declared.plan.Plan.{Plan}
 use Rattle.tables.specs.Plan.{aliases_of, found_lines, success_lines, planned}
 use Rattle.tables.specs.Sound.{Base}
@@ -43,19 +42,19 @@ read_at_lem g w q f e h = subst (λ (k : ℕ). FilterAt g w q k f) (sym e) h
 
 module _ (σ : Setting) (es : List Stored) (ok : Accepted σ.schema es) (n : Name) (base : Found) (missing : ℕ) (h : Base σ es n base missing) (plan : Plan) (hits : List ℕ) where
   -- the base is absent
-  pub search-none : base ≡ Nothing → (r : Search) → plan ≡ absent_plan 4 missing → planned σ es r.selection plan hits ≡ answer σ (map entry_of es) (aliases_of σ es) n (search r)
+  pub search-none : base ≡ None → (r : Search) → plan ≡ absent_plan 4 missing → planned σ es r.selection plan hits ≡ answer σ (map entry_of es) (aliases_of σ es) n (search r)
   unfolding entries_in directory_of
   search-none e r q =
       planned-absent σ es ok n base missing h plan hits r.selection 4 q
       ∙ sym (search-absent σ (directory_of σ es) refl ok n (not_root σ es ok n base missing h e) (not-present σ es ok n base missing h e) (aliases_of σ es) r)
 
   -- the base has number `b`
-  module _ (b : ℕ) (e : base ≡ At b) (d : Bool) (told : d ≡ granted_at σ es b entry DiscloseOnError) (count : ℕ) (room : count ≤ length hits) where
+  module _ (b : ℕ) (e : base ≡ Some b) (d : Bool) (told : d ≡ granted_at σ es b entry DiscloseOnError) (count : ℕ) (room : count ≤ length hits) where
     found-success : (s : Selection) (more shown : ℕ) → success_lines σ es s (success_plan 4 more shown) hits ≡ gather (found_lines σ es s) (take shown hits)
     unfolding success_lines
     found-success s more shown = refl
 
-    pub search-some : (r : Search) (limit : ℕ) → r.limit ≡ limit → take count hits ≡ search_found σ es r (At b) → plan ≡ returned_plan 4 missing d limit count
+    pub search-some : (r : Search) (limit : ℕ) → r.limit ≡ limit → take count hits ≡ search_found σ es r (Some b) → plan ≡ returned_plan 4 missing d limit count
         → planned σ es r.selection plan hits ≡ answer σ (map entry_of es) (aliases_of σ es) n (search r)
     unfolding answer search_found
     search-some r limit l taken q =
@@ -65,13 +64,13 @@ module _ (σ : Setting) (es : List Stored) (ok : Accepted σ.schema es) (n : Nam
 
 -- ---- what the list of hits holds
 
-pub search-unfound : (σ : Setting) (es : List Stored) (s : Search) (base : Found) (hits : List ℕ) → base ≡ Nothing → hits ≡ over (search_found σ es s base) hits
+pub search-unfound : (σ : Setting) (es : List Stored) (s : Search) (base : Found) (hits : List ℕ) → base ≡ None → hits ≡ over (search_found σ es s base) hits
 unfolding search_found
 search-unfound σ es s base hits e = rw e
 
 -- the entries found, before they are arranged
 pub found-by : (σ : Setting) (es : List Stored) (s : Search) (b : ℕ) (a : Query) (ks : List ℕ) {g : Grammar} {w : ℕ} {q : Bytes} → Seeks g w q s a
-    → ks ≡ passing (found_at σ es b a.subset a.edition s.filter) (length es) → arranged_at σ es (ordering_by a.order_type a.falling) ks ≡ search_found σ es s (At b)
+    → ks ≡ passing (found_at σ es b a.subset a.edition s.filter) (length es) → arranged_at σ es (ordering_by a.order_type a.falling) ks ≡ search_found σ es s (Some b)
 unfolding search_found
 found-by σ es s b a ks h e = rw (e, h.ordering, h.subset, h.edition)
 

@@ -1,5 +1,4 @@
 use Rattle.caller.specs.Laws.Within.{noted-unlimited, noted-limited}
-use borrow.Author.Rules.{rules}
 use Rattle.caller.proofs.within.Goals as goal
 
 pub returns-then-asked-lt-LIST : goal.returns-then-asked-lt-LIST

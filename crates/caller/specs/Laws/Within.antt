@@ -13,7 +13,6 @@ use Rattle.request_sheet.specs.declared.Asked.{Asked}
 abbrev pub with_limit : Asked → ℕ → Asked
 with_limit a m =
     record {
-      refusal = a.refusal;
       level = a.level;
       requester = a.requester;
       requester_parts = a.requester_parts;

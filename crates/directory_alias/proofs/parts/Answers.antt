@@ -1,18 +1,20 @@
-use mathlib.Core.Path.{sym, ap, ◌∙◌}
-use mathlib.Core.List.{List, [], ◌∷◌, ◌++◌}
+use mathlib.Core.Path.{◌≡◌, refl, sym, ap, subst, ◌∙◌}
+use mathlib.Core.List.{[], ◌∷◌, ◌++◌}
+use Rattle.std.proofs.lemmas.Result.{err_from_is_err_and}
+use Rattle.rules.proofs.Laws.Refusals.{refusal-some}
+use Prim.Native.Nat.{ℕ, ◌+◌, ◌-◌}
 use native.Mathlib.Omega.{arith}
-use Rattle.rules.specs.Name.{Name, part}
-use Rattle.rules.specs.Directory.{Stored}
+use Rattle.rules.specs.Name.{part}
 use Rattle.sheet_line.specs.Line.{bytes_of}
 use Rattle.sheet_line.specs.Laws.{taken-fits-line}
-use Rattle.directory_schema.proofs.Lines.{not_line}
-use Rattle.directory_alias.specs.Target.{Owed, PartsRead, target_refused}
+use Rattle.directory_alias.specs.Target.{PartsRead, target_refused}
 use Rattle.directory_alias.specs.Laws.Target.{parts-start, parts-bounds, parts-ended, parts-absent, parts-refused, parts_more}
-use borrow.Author.Rules.{rules}
 use Rattle.directory_alias.proofs.parts.Goals as goal
 
-pub loop-left-init : goal.loop-left-init
-loop-left-init c complete d o = ([], parts-start c.requires o)
+pub loop-k-init : goal.loop-k-init
+loop-k-init c complete d o =
+    let z : c.args.line.b ≡ c.args.line.b - 0 = omega arith in
+    ([], subst (λ (k : ℕ). PartsRead c.args.f c.args.s.now c.args.schema.now c.args.e c.args.line k c.args.line.next complete d []) z (parts-start c.requires o))
 
 pub take-taken-requires : goal.take-taken-requires
 take-taken-requires c = c.requires.asked.owed.usable.most
@@ -23,23 +25,33 @@ overflow_mul-result c = omega (arith, parts-bounds c.requires)
 pub overflow_add-result : goal.overflow_add-result
 overflow_add-result c = omega (arith, parts-bounds c.requires)
 
-pub returns-then-left-eq0 : goal.returns-then-left-eq0
-returns-then-left-eq0 c complete d o = parts-ended c.requires o (c.loop-left.invariant complete d o).1 c.if-left-eq0.true c.take-taken.ensures
+pub take-requires : goal.take-requires
+take-requires c = c.requires.asked.owed.usable.most
+
+pub returns : goal.returns
+returns c complete d o = parts-ended c.requires o (c.loop-k.invariant complete d o).1 (omega (arith, c.loop-k-test.false)) c.take.ensures
 
 pub returns-in_default : goal.returns-in_default
-returns-in_default c complete d o = parts-absent c.requires o (c.loop-left.invariant complete d o).1 c.if-left-eq0.false c.take-taken.ensures (c.refused.ensures ∙ ap target_refused c.absent.ensures) (c.in_default.not-Line)
+returns-in_default c complete d o = parts-absent c.requires o (c.loop-k.invariant complete d o).1 (λ z. omega (arith, c.loop-k-test.true, z)) c.take-taken.ensures (ap target_refused c.absent.ensures) (c.in_default.not-Line)
 
-pub part_line-refusal-requires : goal.part_line-refusal-requires
-part_line-refusal-requires c =
+pub part_line-requires : goal.part_line-requires
+part_line-requires c =
     let A = c.args in
-    let h = taken-fits-line _ A.s.now c.loop-left.at (sym c.take-taken.ensures ∙ c.in-Line.is) in
+    let h = taken-fits-line _ A.s.now c.loop-k.at (sym c.take-taken.ensures ∙ c.in-Line.is) in
     omega (arith, h.next, h.within)
 
-pub returns-then-refusal-ne0 : goal.returns-then-refusal-ne0
-returns-then-refusal-ne0 c complete d o = parts-refused c.requires o (c.loop-left.invariant complete d o).1 c.if-left-eq0.false (sym c.take-taken.ensures ∙ c.in-Line.is) c.part_line-refusal.ensures c.if-refusal-ne0.true c.refused-then-refusal-ne0.ensures
+pub returns-in_err-part_line : goal.returns-in_err-part_line
+returns-in_err-part_line c complete d o =
+    let p = err_from_is_err_and c.from_residual.result c.from_residual.ensures.1 in
+    rw (p.1, p.2) (parts-refused c.requires o (c.loop-k.invariant complete d o).1 (λ z. omega (arith, c.loop-k-test.true, z)) (sym c.take-taken.ensures ∙ c.in-Line.is) c.in_err-part_line.ensures (refusal-some _) refl)
 
-pub loop-left-preserved : goal.loop-left-preserved
-loop-left-preserved c complete d o =
+pub loop-k-preserved : goal.loop-k-preserved
+loop-k-preserved c complete d o =
+    let A = c.args in
     let y = c.in-Line.part in
-    let g = c.loop-left.invariant complete d o in
-    (g.0 ++ (part c.in-Line.part.a (bytes_of c.args.s.now y) ∷ []), parts_more c.requires o g.1 c.if-left-eq0.false (sym c.take-taken.ensures ∙ c.in-Line.is) c.part_line-refusal.ensures c.if-refusal-ne0.false)
+    let g = c.loop-k.invariant complete d o in
+    let z : A.line.b - c.loop-k._k - 1 ≡ A.line.b - (c.loop-k._k + 1) = omega arith in (
+      _,
+      subst (λ (k : ℕ). PartsRead A.f A.s.now A.schema.now A.e A.line k y.next complete d (g.0 ++ (part y.a (bytes_of A.s.now y) ∷ []))) z
+          (parts_more c.requires o g.1 (λ z. omega (arith, c.loop-k-test.true, z)) (sym c.take-taken.ensures ∙ c.in-Line.is) c.in_ok-part_line.ensures refl),
+    )

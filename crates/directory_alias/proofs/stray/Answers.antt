@@ -2,7 +2,6 @@
 use borrow.Author.Tests.{lt-ltb, le-ltb, not-true, not-false}
 use mathlib.Core.Path.{sym, ◌∙◌}
 use Rattle.directory_alias.specs.Target.{stray_number}
-use borrow.Author.Rules.{rules}
 use Rattle.directory_alias.proofs.stray.Goals as goal
 
 pub returns-then-not-directory_columns : goal.returns-then-not-directory_columns

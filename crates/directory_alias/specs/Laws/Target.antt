@@ -19,14 +19,12 @@ use Rattle.rules.specs.Places.{lines_at, parts_of, schema_of}
 use Rattle.rules.proofs.Laws.Columns.{DirectoryLine, is_type, is_entry, is_value, is_target, is_part, directory-line}
 use Rattle.sheet_line.specs.declared.Line.{Line}
 use Rattle.sheet_line.specs.declared.Taken.{Taken}
-use Rattle.sheet_line.specs.declared.Taken.TheVariants as Taken
 use Rattle.sheet_line.specs.Line.{taken_at, bytes_of, line_of}
 use Rattle.sheet_line.specs.Laws.{LineFits, taken-lines, taken-fits-line}
 use Rattle.directory_schema.specs.Lines.{judged_from, Passes, none, one, columns_fit}
 use Rattle.directory_schema.specs.Laws.Lines.{formed, judged-broken, judged-end, judged-refused, passes-judged, step-form, step-type, step-entry, step_value, step-target, step_part}
 use Rattle.directory_alias.specs.declared.Last.{Last}
-use Rattle.directory_alias.specs.declared.TargetLines.{TargetLines}
-use Rattle.directory_alias.specs.Target.{rest_number, stray_number, absent_number, part_number, reading_to, Owed, PartsAsked, PartsRead, target_refused, TargetJudged, TargetAnswered}
+use Rattle.directory_alias.specs.Target.{TargetNoted, rest_number, stray_number, absent_number, part_number, reading_to, Owed, PartsAsked, PartsRead, target_refused, TargetJudged, TargetAnswered}
 
 -- a line of this kind is due
 abbrev Due : Target → ℕ → Type 0
@@ -205,7 +203,7 @@ absent-refused f s i ks complete d lacks lacking u kind due Taken.End e h = judg
 
 -- ---- the answer
 
-pub answer-refused : {f : Format} {s : Bytes} {ks : List ℕ} {e : Last} {complete : List Stored} {d : Stored} {r : TargetLines} (n : ℕ) → (n ≡ 0 → ⊥) → r ≡ target_refused n
+pub answer-refused : {f : Format} {s : Bytes} {ks : List ℕ} {e : Last} {complete : List Stored} {d : Stored} {r : TargetNoted} (n : ℕ) → (n ≡ 0 → ⊥) → r ≡ target_refused n
     → judged_from f s (reading_to ks complete d (alias_mark e.alias)) e.at ≡ refuse n → TargetJudged f s ks e complete d r
 answer-refused {r = r} n z only h = record {
   ended = λ q. absurd (z (sym number ∙ q));
@@ -213,7 +211,7 @@ answer-refused {r = r} n z only h = record {
 }
   where
     number : r.refusal ≡ n
-    number = ap (λ (y : TargetLines). y.refusal) only
+    number = ap (λ (y : TargetNoted). y.refusal) only
 
 -- no alias
 pub answer-none : (f : Format) (s : Bytes) (ks : List ℕ) (e : Last) → e.alias ≡ false → TargetAnswered f s ks e (record { refusal = 0; target = 0; at = e.at; taken = e.taken })
@@ -239,13 +237,13 @@ module _ (f : Format) (s : Bytes) (ks : List ℕ) (e : Last) (alias : e.alias �
       → judged_from f s (reading_to ks complete d (alias_mark e.alias)) e.at ≡ refuse n
   to-missing complete d n h = rw alias h
 
-  pub answer-absent : {r : TargetLines} → r ≡ target_refused (absent_number e.lacks e.taken) → ((x : Line) → e.taken ≡ Taken.Line x → ⊥) → TargetAnswered f s ks e r
+  pub answer-absent : {r : TargetNoted} → r ≡ target_refused (absent_number e.lacks e.taken) → ((x : Line) → e.taken ≡ Taken.Line x → ⊥) → TargetAnswered f s ks e r
   answer-absent only h complete d o =
       answer-refused (absent_number e.lacks e.taken) (absent-not e.lacks e.taken) only
       (to-missing complete d _ (absent-refused f s e.at ks complete d e.lacks o.lacking missing 36 refl e.taken o.stands h))
 
   -- or another line
-  pub answer-stray : {r : TargetLines} {x : Line} → e.taken ≡ Taken.Line x → (n : ℕ) → n ≡ stray_number f.top 36 e.number e.lacks x → (n ≡ 0 → ⊥) → r ≡ target_refused n → TargetAnswered f s ks e r
+  pub answer-stray : {r : TargetNoted} {x : Line} → e.taken ≡ Taken.Line x → (n : ℕ) → n ≡ stray_number f.top 36 e.number e.lacks x → (n ≡ 0 → ⊥) → r ≡ target_refused n → TargetAnswered f s ks e r
   answer-stray {x = x} is n number z only complete d o =
       let here = sym o.stands ∙ is in
       answer-refused n z only
@@ -315,13 +313,13 @@ module _ {f : Format} {s : Bytes} {ks : List ℕ} {e : Last} {x : Line} (a : Par
       due-passed : Passes f s (reading_to ks complete d (alias_mark e.alias)) e.at (reading_to ks complete d (parts (suc (left - 1)) m)) i
       due-passed = subst (λ (k : ℕ). Passes f s (reading_to ks complete d (alias_mark e.alias)) e.at (reading_to ks complete d (parts k m)) i) some_left g.passed
 
-      pub parts-absent : {t : Taken} {r : TargetLines} → t ≡ taken_at f.width s i → r ≡ target_refused (absent_number e.lacks t) → ((y : Line) → t ≡ Taken.Line y → ⊥) → TargetJudged f s ks e complete d r
+      pub parts-absent : {t : Taken} {r : TargetNoted} → t ≡ taken_at f.width s i → r ≡ target_refused (absent_number e.lacks t) → ((y : Line) → t ≡ Taken.Line y → ⊥) → TargetJudged f s ks e complete d r
       parts-absent {t} stands only h =
           answer-refused (absent_number e.lacks t) (absent-not e.lacks t) only
           (passes-judged due-passed ∙ absent-refused f s i ks complete d e.lacks o.lacking (parts (suc (left - 1)) m) 9 refl t stands h)
 
       module _ {y : Line} (here : taken_at f.width s i ≡ Taken.Line y) {n : ℕ} (number : n ≡ part_number f.top s ks e.number e.lacks y) where
-        pub parts-refused : (n ≡ 0 → ⊥) → {r : TargetLines} → r ≡ target_refused n → TargetJudged f s ks e complete d r
+        pub parts-refused : (n ≡ 0 → ⊥) → {r : TargetNoted} → r ≡ target_refused n → TargetJudged f s ks e complete d r
         parts-refused z only =
             answer-refused n z only
             (passes-judged due-passed ∙ judged-refused f s i here (reading_to ks complete d (parts (suc (left - 1)) m)) n

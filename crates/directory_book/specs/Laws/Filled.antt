@@ -79,7 +79,7 @@ module _ (w : ℕ) (r : Notes) (b : List ℕ) (fit : Fit r) (size : length b ≡
   abbrev b₆ : List ℕ
   b₆ = column_put b₅ first_column r.first (n + 1)
 
-  size₀ : length b₀ ≡ BOOK
+  pub size₀ : length b₀ ≡ BOOK
   size₀ = simp length-set size
 
   pub size₁ : length b₁ ≡ BOOK

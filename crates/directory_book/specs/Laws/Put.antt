@@ -1,10 +1,12 @@
 -- Laws of `column_put`: the loop that copies, the column that is put, what stands beside it, and its numbers.
 use Rattle.std.specs.Prelude.{ℕ, zero, suc, ◌+◌, ◌*◌, ◌≤◌, ◌<◌, ◌≡◌, refl, length, get_or, set}
-use Rattle.std.proofs.Math.Path.{sym, ap}
+use Rattle.std.proofs.Math.Path.{sym, ap, ap₂}
 use Rattle.std.proofs.Common.{◌∙◌, not-suc-le-zero, le_of_suc-le-suc, add-one, arith, length-append, length-drop, take-append-drop, drop-set-lt, length-take-le, drop_at, get_or-take, get_or-drop}
 use mathlib.Core.List.{List, [], ◌∷◌, ◌++◌, append_assoc}
 use Rattle.std.proofs.Math.ListN.{take, drop}
 use Rattle.std.proofs.lemmas.List.{length-map, set-append_left, take-append-le, drop-append-le}
+use Rattle.std.proofs.lemmas.Slice.{take-put_mid, drop-put_mid}
+use borrow.Rule.Slice.PartMut.{put_mid}
 use Rattle.std.proofs.Math.Seq.{take-set-lt, paste-zero, paste-suc, length-paste, take_at}
 use Rattle.tables.specs.Book.{BOOK}
 use Rattle.directory_book.specs.Filled.{column_put, places_of}
@@ -19,6 +21,15 @@ pub put_on : (b : List ℕ) (at : ℕ) (column : List ℕ) (i : ℕ) {now : List
     → set now (at + i) (get_or column i 0) ≡ column_put b at column (i + 1)
 unfolding column_put
 put_on b at column i e h l = ap (λ (x : List ℕ). set x (at + i) (get_or column i 0)) e ∙ rw add-one (paste-suc b at column i 0 h l)
+
+-- ---- the column copied
+
+pub put-copied : (b : List ℕ) (at n k : ℕ) (column ys : List ℕ) → k ≡ n → at ≤ length b → n ≤ length column → ys ≡ take n column → put_mid at k b ys ≡ column_put b at column n
+unfolding column_put
+put-copied b at n k column ys z h l e =
+    let size : length ys ≡ n = ap length e ∙ length-take-le n column l in
+    sym (take-append-drop (at + n) (put_mid at k b ys))
+    ∙ ap₂ ◌++◌ (take-put_mid at k b ys (at + n) (omega (arith, size)) h ∙ ap (λ (x : List ℕ). take at b ++ x) e) (drop-put_mid at k b ys (at + n) (omega (arith, z)) h (size ∙ sym z))
 
 -- ---- a part of the table
 

@@ -3,7 +3,6 @@ use Prim.Native.Nat.{◌%◌}
 use native.Mathlib.Omega.{arith}
 use Rattle.access_set.specs.Laws.Bit.{one_shl}
 use Rattle.directory_duplicates.specs.Mark.{with_mark}
-use borrow.Author.Rules.{rules}
 use Rattle.directory_duplicates.proofs.note.Goals as goal
 
 pub returns : goal.returns

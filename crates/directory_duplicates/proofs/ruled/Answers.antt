@@ -1,12 +1,7 @@
-use Rattle.name.specs.Schema.{allowed_at}
-use Rattle.directory_duplicates.specs.Mark.{head_at, heads}
 use Rattle.directory_duplicates.specs.Laws.Rulings.{key-small, rank-within, ruled-unfit, walking, mark-small, ruled-twice, ruled-marked}
 use borrow.Author.Tests.{not-true, not-false}
-use Prim.Native.Nat.{◌+◌, ◌*◌, ◌/◌, ◌%◌, ◌≤◌, ◌<◌}
-use mathlib.Core.Path.{◌≡◌, sym, ◌∙◌}
-use mathlib.Core.Bool.{true}
+use mathlib.Core.Path.{sym, ◌∙◌}
 use native.Mathlib.Omega.{arith}
-use borrow.Author.Rules.{rules}
 use Rattle.directory_duplicates.proofs.ruled.Goals as goal
 
 pub part-v-requires : goal.part-v-requires
@@ -15,7 +10,7 @@ part-v-requires c = omega (arith, c.requires.within.bytes)
 pub returns-then-not-allowed_at : goal.returns-then-not-allowed_at
 returns-then-not-allowed_at c =
     let A = c.args in
-    λ ms ready. c.refusing.ensures ∙ ruled-unfit A.s.now A.schema.now A.marks.now A.c c.part-v.ensures (sym c.allowed_at.ensures ∙ not-true _ c.if-not-allowed_at.true-raw) ms
+    λ ms ready. ruled-unfit A.s.now A.schema.now A.marks.now A.c c.part-v.ensures (sym c.allowed_at.ensures ∙ not-true _ c.if-not-allowed_at.true-raw) ms
 
 pub overflow_mul-key : goal.overflow_mul-key
 overflow_mul-key c = omega (arith, c.requires.low)
@@ -48,7 +43,7 @@ pub twin-requires : goal.twin-requires
 twin-requires c = let P = c.requires in (_, P.all, walking P c.part-v.ensures ((sym c.allowed_at.ensures ∙ not-false _ c.if-not-allowed_at.false-raw)) c.digest-digest.ensures c.slotted-may.ensures P.ready)
 
 pub returns-then-twin : goal.returns-then-twin
-returns-then-twin c = λ ms ready. c.refusing-then-twin.ensures ∙ ruled-twice c.requires c.part-v.ensures ((sym c.allowed_at.ensures ∙ not-false _ c.if-not-allowed_at.false-raw)) c.digest-digest.ensures c.slotted-may.ensures c.twin.ensures ms ready c.if-twin.true
+returns-then-twin c = λ ms ready. ruled-twice c.requires c.part-v.ensures ((sym c.allowed_at.ensures ∙ not-false _ c.if-not-allowed_at.false-raw)) c.digest-digest.ensures c.slotted-may.ensures c.twin.ensures ms ready c.if-twin.true
 
 pub overflow_mul-result : goal.overflow_mul-result
 overflow_mul-result c = omega (arith, (mark-small c.requires c.part-v.ensures ((sym c.allowed_at.ensures ∙ not-false _ c.if-not-allowed_at.false-raw)) c.digest-digest.ensures c.slotted-may.ensures))

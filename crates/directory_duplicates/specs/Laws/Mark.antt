@@ -19,8 +19,8 @@ use Rattle.rules.proofs.Laws.Tests.{and_left, and_right, both, bool-ext, contra}
 use Rattle.value_syntax.specs.Laws.Digest.{digest-same}
 use Rattle.access_set.specs.Member.{bit_of}
 use Rattle.access_set.specs.Laws.Bit.{bit-or, bit-pow}
-use Rattle.directory_duplicates.specs.declared.Ruling.{Ruling}
-use Rattle.directory_duplicates.specs.Mark.{Mark, mark, marked_bytes, bucket_at, bucket_of, label_at, label_of, slot_at, slot_of, packed, head_at, slot_in, with_mark, table_of, Room, last_in, MarkWithin, Chained, Slotted, Chain, twin, bears, Walk, label_in, place_in, size_in, before_in, heads, slots, table_length}
+use Rattle.directory_duplicates.specs.Noted.{RulingNoted}
+use Rattle.directory_duplicates.specs.Mark.{Mark, marked_bytes, bucket_at, bucket_of, label_at, label_of, slot_at, slot_of, packed, head_at, slot_in, with_mark, table_of, Room, last_in, MarkWithin, Chained, Slotted, Chain, twin, bears, Walk, label_in, place_in, size_in, before_in, heads, slots, table_length}
 
 -- ---- buckets, labels and slots
 
@@ -66,7 +66,7 @@ module _ (label : ℕ) (m : Mark) (head : ℕ) (hp : m.place < 65536) (hs : m.si
 
 -- ---- the table of the marks: the marks, the newest mark of each bucket, and a bit for each slot
 
-module _ {t : List ℕ} {n : ℕ} {r : Ruling} (room : Room t n r) where
+module _ {t : List ℕ} {n : ℕ} {r : RulingNoted} (room : Room t n r) where
   abbrev one : List ℕ
   one = set t n r.mark
 
@@ -153,7 +153,7 @@ last-most s b (m ∷ ms) = go (eqb (bucket_of s m) b) (last-most s b ms)
 
 -- ---- one mark more
 
-module _ {t : List ℕ} {n : ℕ} {r : Ruling} (room : Room t n r) where
+module _ {t : List ℕ} {n : ℕ} {r : RulingNoted} (room : Room t n r) where
   chained-on : (s : Bytes) (ms : List Mark) → length ms ≤ n → Chained s t ms → Chained s (with_mark t n r) ms
   chained-on s [] l h = tt
   chained-on s (m ∷ ms) l h = (mark-old room (length ms) l ∙ h.0, h.1, chained-on s ms (omega arith) h.2)
@@ -163,13 +163,13 @@ module _ {t : List ℕ} {n : ℕ} {r : Ruling} (room : Room t n r) where
   slotted-on s (m ∷ ms) h = (slot-old room (slot_of s m) h.0, slotted-on s ms h.1)
 
 -- the ruling is that on the value of mark `m`
-pub record Marks (s : Bytes) (t : List ℕ) (m : Mark) (r : Ruling) : Type 0 where
+pub record Marks (s : Bytes) (t : List ℕ) (m : Mark) (r : RulingNoted) : Type 0 where
   pub bucket : r.bucket ≡ bucket_of s m
   pub slot : r.slot ≡ slot_of s m
   pub number : r.mark ≡ packed (label_of s m) m (head_at t (bucket_of s m))
 
 module _ {s : Bytes} {t : List ℕ} {ms : List Mark} (c : Chain s t ms) (m : Mark) (within : MarkWithin s m) (n : ℕ) (count : length ms ≡ n) (few : n < heads)
-    (r : Ruling) (is : Marks s t m r) where
+    (r : RulingNoted) (is : Marks s t m r) where
   pub mark-room : Room t n r
   mark-room = record {
     table = c.table;

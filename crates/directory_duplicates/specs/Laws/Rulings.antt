@@ -14,7 +14,7 @@ use Rattle.name.specs.Laws.Schema.{allowed-known}
 use Rattle.directory_duplicates.specs.Mark.{Mark, mark, bucket_at, packed, head_at, slot_in, Room, with_mark, MarkWithin, last_in, Walk, Answers, heads}
 use Rattle.directory_duplicates.specs.Laws.Mark.{Marks, mark-room, chain_more, no-twin, last-most}
 use Rattle.directory_duplicates.specs.Twins.{last_owner, key_of, twins}
-use Rattle.directory_duplicates.specs.declared.Ruling.{Ruling}
+use Rattle.directory_duplicates.specs.Noted.{RulingNoted}
 use Rattle.directory_duplicates.specs.declared.Claim.{Claim}
 use Rattle.directory_duplicates.specs.Rulings.{refusing, mark_of, marking, ruled_of, Ready, Claimed}
 
@@ -25,9 +25,9 @@ pub line-within : {w : ℕ} {s : Bytes} {i : ℕ} {x : Line} → LineFits w s i 
 line-within f = record { key = omega arith; size = f.short; bytes = omega (arith, f.next, f.within) }
 
 module _ {s : Bytes} {ks table : List ℕ} {ms : List Mark} (ready : Ready s ks table ms) (owner rank : ℕ) (low : owner ≤ last_owner) (known : rank < length ks) (place size : ℕ) (within : MarkWithin s (mark 0 place size))
-    (n : ℕ) (count : length ms ≡ n) {r : Ruling} (is : r ≡ marking s table owner rank place size) where
+    (n : ℕ) (count : length ms ≡ n) {r : RulingNoted} (is : r ≡ marking s table owner rank place size) where
   marks : Marks s table (mark_of owner rank place size) r
-  marks = record { bucket = ap (λ (q : Ruling). q.bucket) is; slot = ap (λ (q : Ruling). q.slot) is; number = ap (λ (q : Ruling). q.mark) is }
+  marks = record { bucket = ap (λ (q : RulingNoted). q.bucket) is; slot = ap (λ (q : RulingNoted). q.slot) is; number = ap (λ (q : RulingNoted). q.mark) is }
 
   there : MarkWithin s (mark_of owner rank place size)
   there = record { key = omega (arith, ready.few); size = within.size; bytes = within.bytes }
@@ -115,6 +115,6 @@ module _ {s : Bytes} {ks table : List ℕ} {c : Claim} (claim : Claimed s ks tab
 -- ---- what the rules decide
 
 -- a line refused with the ruling's number, where `top` is the highest type
-pub record Refused (top : ℕ) (st : Reading) (x : Rules.Line) (r : Ruling) : Type 0 where
+pub record Refused (top : ℕ) (st : Reading) (x : Rules.Line) (r : RulingNoted) : Type 0 where
   pub not : r.refusal ≡ 0 → ⊥
   pub is : step top st x ≡ refuse r.refusal

@@ -1,7 +1,6 @@
 use Rattle.directory_entry.specs.EntryLine.{place_refusal}
 use borrow.Author.Tests.{le-leb, lt-leb, lt-ltb, le-ltb}
 use native.Mathlib.Omega.{arith}
-use Prim.Native.Nat.{◌-◌}
 use Rattle.directory_entry.proofs.misplaced.Goals as goal
 
 pub returns-then-count-a : goal.returns-then-count-a

@@ -25,7 +25,7 @@ use Rattle.directory_schema.specs.Lines.{columns_fit}
 use Rattle.directory_schema.specs.Laws.Lines.{step-form, step-type, step-entry, step_value, step-target, step_part}
 use Rattle.directory_duplicates.specs.Mark.{Mark}
 use Rattle.directory_duplicates.specs.Twins.{twins, Named}
-use Rattle.directory_duplicates.specs.declared.Ruling.{Ruling}
+use Rattle.directory_duplicates.specs.Noted.{RulingNoted}
 use Rattle.directory_duplicates.specs.Rulings.{reading, refusing, marking, ruled_of}
 use Rattle.directory_duplicates.specs.Laws.Rulings.{Refused}
 use Rattle.directory_entry.specs.EntryLine.{level_of, place_number, place_refusal, entry_ruling}
@@ -58,7 +58,7 @@ pub record EntriesCounted (s : Bytes) (ks depths : List ℕ) (count : ℕ) (lack
   pub named : Named s ks es ms
 
 -- an entry line that was taken
-pub record EntryMarked (top : ℕ) (s : Bytes) (ks depths table : List ℕ) (count : ℕ) (x : Line) (r : Ruling) : Type 0 where
+pub record EntryMarked (top : ℕ) (s : Bytes) (ks depths table : List ℕ) (count : ℕ) (x : Line) (r : RulingNoted) : Type 0 where
   pub kind : x.kind ≡ 2
   pub form : columns_fit top x ≡ true
   pub parent : x.a ≤ count
@@ -68,7 +68,7 @@ pub record EntryMarked (top : ℕ) (s : Bytes) (ks depths table : List ℕ) (cou
   pub ruling : r ≡ marking s table x.a (rank_in ks x.b) x.place x.length
 
 -- the line, refused or taken
-abbrev pub EntryOutcome : ℕ → Bytes → List ℕ → List ℕ → List ℕ → ℕ → List Stored → Option Stored → Line → Ruling → Type 0
+abbrev pub EntryOutcome : ℕ → Bytes → List ℕ → List ℕ → List ℕ → ℕ → List Stored → Option Stored → Line → RulingNoted → Type 0
 EntryOutcome top s ks depths table count complete current x r =
     let es = entries_of (reading ks complete current) in
     Refused top (reading ks complete current) (line_of s x) r

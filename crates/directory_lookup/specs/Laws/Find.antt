@@ -1,6 +1,6 @@
 -- Laws of `Find`: the ways through the search for a child, and down a name.
 use Prim.Native.Nat.{ℕ, zero, suc, ◌+◌, ◌-◌, ◌≤◌, ◌<◌}
-use Rattle.std.specs.Prelude.{◌≡◌, Bool, true, false, List, [], ◌∷◌, leb, length, get_or, drop}
+use Rattle.std.specs.Prelude.{◌≡◌, Bool, true, false, List, [], ◌∷◌, leb, length, get_or, drop, Some, None}
 use Rattle.std.proofs.Math.Path.{refl, sym, ap, ap₂}
 use Rattle.std.proofs.Common.{◌∙◌, subst, add-one, arith}
 use Rattle.std.proofs.Math.Bool.{◌&&◌}
@@ -21,7 +21,6 @@ use Rattle.name.specs.Laws.Schema.{equal-at, equal-none}
 use Rattle.sheet_line.specs.Line.{taken_at, bytes_of}
 use Rattle.sheet_line.specs.declared.Line.{Line}
 use Rattle.sheet_line.specs.declared.Taken.{Taken}
-use Rattle.sheet_line.specs.declared.Taken.TheVariants as Taken
 use Rattle.tables.specs.Book.{entry_count, width, schema, parent_at, naming_at, naming_of}
 use Rattle.tables.specs.World.{Entries}
 use Rattle.tables.specs.Laws.World.{inside}
@@ -29,8 +28,7 @@ use Rattle.directory_lookup.specs.Find.{UpTo, is_child, by_child, LeadsWithin, s
 use Rattle.directory_lookup.specs.Laws.Names.{parts_by, parts-by}
 use Rattle.directory_lookup.specs.declared.find.Descent.{Descent}
 use Rattle.directory_lookup.specs.declared.find.Descent.TheVariants.{To, Lost, Ended}
-use Rattle.rules.specs.declared.Found.{Found}
-use Rattle.rules.specs.declared.Found.TheVariants.{At, Nothing}
+use Rattle.rules.specs.Value.{Found}
 
 -- values that differ are not equal by a syntax
 pub unlike : (s : ℕ) (v u : Bytes) → same s v u ≡ false → equal_by s v u ≡ false
@@ -42,7 +40,7 @@ unlike s v u e = rw e (none (fits s v) (fits s u))
     none true false = refl
     none false b = refl
 
-pub up_to : (n : ℕ) (f : Found) (b : ℕ) → UpTo n f → f ≡ At b → b ≤ n
+pub up_to : (n : ℕ) (f : Found) (b : ℕ) → UpTo n f → f ≡ Some b → b ≤ n
 up_to n f b h e = subst (UpTo n) e h
 
 pub within_of : (n : ℕ) (x : Descent) (k next : ℕ) → LeadsWithin n x → x ≡ To k next → k ≤ n
@@ -65,7 +63,7 @@ module _ (book : List ℕ) (d : Bytes) (k parent t s : ℕ) (v : Bytes) where
     child-by-value h = rw (eq-eqb (parent_at book k) parent e, eq-eqb t (naming_at book k) h)
 
   -- what the numbers of an entry say of it
-  child-noted : {σ : Setting} {es : List Stored} {held : List ℕ} → Entries σ es d book held → k < entry_count book → syntax_in (schema book) t ≡ At s
+  child-noted : {σ : Setting} {es : List Stored} {held : List ℕ} → Entries σ es d book held → k < entry_count book → syntax_in (schema book) t ≡ Some s
       → is_child book d k parent t s v ≡ (eqb (get_or es k blank).parent parent && same_part σ.schema (part t v) (get_or es k blank).naming)
   unfolding is_child same_part
   child-noted {σ} {es} h l q =
@@ -78,7 +76,7 @@ module _ (book : List ℕ) (d : Bytes) (k parent t s : ℕ) (v : Bytes) where
 -- ---- the children, from an index on
 
 module _ (S : Schema) (parent : ℕ) (p : Part) (es : List Stored) (i : ℕ) where
-  from-here : i < length es → (eqb (get_or es i blank).parent parent && same_part S p (get_or es i blank).naming) ≡ true → child_from S parent p (drop i es) i ≡ At (i + 1)
+  from-here : i < length es → (eqb (get_or es i blank).parent parent && same_part S p (get_or es i blank).naming) ≡ true → child_from S parent p (drop i es) i ≡ Some (i + 1)
   unfolding child_from
   from-here l e = rw (drop-cons es i blank, e, add-one)
 
@@ -87,7 +85,7 @@ module _ (S : Schema) (parent : ℕ) (p : Part) (es : List Stored) (i : ℕ) whe
   unfolding child_from
   from_on l e = rw (add-one, drop-cons es i blank, e)
 
-  from_end : length es ≤ i → child_from S parent p (drop i es) i ≡ Nothing
+  from_end : length es ≤ i → child_from S parent p (drop i es) i ≡ None
   unfolding child_from
   from_end h = rw drop_of_length-le
 
@@ -110,18 +108,18 @@ from-parent S parent p es ok (suc i) h = go (leb (suc i) (length es)) refl ∙ f
 module _ (book : List ℕ) (d : Bytes) (parent t s : ℕ) (v : Bytes) where
   -- what was found is the child
   abbrev pub IsFound : Found → Type 0
-  IsFound f = (σ : Setting) (es : List Stored) (held : List ℕ) → Entries σ es d book held → syntax_in (schema book) t ≡ At s → f ≡ child_from σ.schema parent (part t v) es 0
+  IsFound f = (σ : Setting) (es : List Stored) (held : List ℕ) → Entries σ es d book held → syntax_in (schema book) t ≡ Some s → f ≡ child_from σ.schema parent (part t v) es 0
 
   -- the search from index `i` on finds what the whole search finds
   pub record ChildSought (i : ℕ) : Type 0 where
-    pub leads : (σ : Setting) (es : List Stored) (held : List ℕ) → Entries σ es d book held → syntax_in (schema book) t ≡ At s
+    pub leads : (σ : Setting) (es : List Stored) (held : List ℕ) → Entries σ es d book held → syntax_in (schema book) t ≡ Some s
         → child_from σ.schema parent (part t v) (drop i es) i ≡ child_from σ.schema parent (part t v) es 0
 
   pub sought-start : ChildSought parent
   sought-start = record { leads = λ σ es held h q. from-parent σ.schema parent (part t v) es h.accepted parent (omega arith) }
 
   module _ (i : ℕ) (sought : ChildSought i) where
-    pub sought-here : i < entry_count book → is_child book d i parent t s v ≡ true → IsFound (At (i + 1))
+    pub sought-here : i < entry_count book → is_child book d i parent t s v ≡ true → IsFound (Some (i + 1))
     sought-here l e σ es held h q =
         sym (from-here σ.schema parent (part t v) es i (inside h i l) (sym (child-noted book d i parent t s v h l q) ∙ e)) ∙ sought.leads σ es held h q
 
@@ -130,12 +128,12 @@ module _ (book : List ℕ) (d : Bytes) (parent t s : ℕ) (v : Bytes) where
       leads = λ σ es held h q. sym (from_on σ.schema parent (part t v) es i (inside h i l) (sym (child-noted book d i parent t s v h l q) ∙ e)) ∙ sought.leads σ es held h q;
     }
 
-    pub sought-end : entry_count book ≤ i → IsFound Nothing
+    pub sought-end : entry_count book ≤ i → IsFound None
     sought-end l σ es held h q = sym (from_end σ.schema parent (part t v) es i (omega (arith, l, h.count))) ∙ sought.leads σ es held h q
 
 -- a type that is not in the schema names no child
-pub child-unknown : {σ : Setting} {es : List Stored} {d : Bytes} {book held : List ℕ} → Entries σ es d book held → (parent t : ℕ) (v : Bytes) → syntax_in (schema book) t ≡ Nothing
-    → Nothing ≡ child_from σ.schema parent (part t v) es 0
+pub child-unknown : {σ : Setting} {es : List Stored} {d : Bytes} {book held : List ℕ} → Entries σ es d book held → (parent t : ℕ) (v : Bytes) → syntax_in (schema book) t ≡ None
+    → None ≡ child_from σ.schema parent (part t v) es 0
 unfolding same_part child_from
 child-unknown {σ} {es} {d} {book} h parent t v q = sym (ap (λ (S : Schema). child_from S parent (part t v) es 0) h.schema-is ∙ none es 0)
   where
@@ -146,7 +144,7 @@ child-unknown {σ} {es} {d} {book} h parent t v q = sym (ap (λ (S : Schema). ch
     other : (e : Stored) → (eqb e.parent parent && same_part (schema_of (schema book)) (part t v) e.naming) ≡ false
     other e = rw (equal-none (schema book) t q v e.naming.value, and_none (eqb t e.naming.type), and_none (eqb e.parent parent))
 
-    none : (es : List Stored) (i : ℕ) → child_from (schema_of (schema book)) parent (part t v) es i ≡ Nothing
+    none : (es : List Stored) (i : ℕ) → child_from (schema_of (schema book)) parent (part t v) es i ≡ None
     none [] i = refl
     none (e ∷ es) i = rw (other e) (none es (suc i))
 
@@ -171,8 +169,8 @@ unfolding step_of
 name-step S es from w s j n h f ended lost to none some = ap f (parts-by w s j n h (taken_at w s j) refl) ∙ go (taken_at w s j)
   where
     found : (f : Found) (next : ℕ) → by_child lost (λ k. to k (parts_of (n - 1) (lines_at w s next))) f ≡ by_step ended lost (λ k next. to k (parts_of (n - 1) (lines_at w s next))) (step_found f next)
-    found (At k) next = refl
-    found Nothing next = refl
+    found (Some k) next = refl
+    found None next = refl
 
     go : (x : Taken) → f (parts_by w s (n - 1) x) ≡ by_step ended lost (λ k next. to k (parts_of (n - 1) (lines_at w s next))) (step_of S es from s x)
     go (Taken.Line x) = some (part x.a (bytes_of s x)) (parts_of (n - 1) (lines_at w s x.next)) ∙ found (child_from S from (part x.a (bytes_of s x)) es 0) x.next
@@ -181,13 +179,13 @@ name-step S es from w s j n h f ended lost to none some = ap f (parts-by w s j n
 
 walk_step : (S : Schema) (es : List Stored) (from w : ℕ) (s : Bytes) (j n : ℕ) → 0 < n
     → walk S es from (parts_of n (lines_at w s j))
-    ≡ by_step (At from) Nothing (λ k next. walk S es k (parts_of (n - 1) (lines_at w s next))) (step_of S es from s (taken_at w s j))
+    ≡ by_step (Some from) None (λ k next. walk S es k (parts_of (n - 1) (lines_at w s next))) (step_of S es from s (taken_at w s j))
 unfolding walk
-walk_step S es from w s j n h = name-step S es from w s j n h (walk S es from) (At from) Nothing (λ k ps. walk S es k ps) refl (λ p ps. go ps (child_from S from p es 0))
+walk_step S es from w s j n h = name-step S es from w s j n h (walk S es from) (Some from) None (λ k ps. walk S es k ps) refl (λ p ps. go ps (child_from S from p es 0))
   where
-    go : (ps : Name) (f : Found) → on_found f (λ k. walk S es k ps) ≡ by_child Nothing (λ k. walk S es k ps) f
-    go ps (At k) = refl
-    go ps Nothing = refl
+    go : (ps : Name) (f : Found) → on_found f (λ k. walk S es k ps) ≡ by_child None (λ k. walk S es k ps) f
+    go ps (Some k) = refl
+    go ps None = refl
 
 -- ---- the way down a name
 
@@ -205,11 +203,11 @@ module _ (book : List ℕ) (d s : Bytes) (i n : ℕ) where
   led-start = record { leads = λ σ es held h. refl }
 
   module _ (from j left : ℕ) (led : Led from j left) where
-    pub led-end : left ≤ 0 → IsNamed (At from)
+    pub led-end : left ≤ 0 → IsNamed (Some from)
     unfolding walk parts_of
     led-end l σ es held h = sym (done left l) ∙ led.leads σ es held h
       where
-        done : (left : ℕ) → left ≤ 0 → walk σ.schema es from (parts_of left (lines_at (width book) s j)) ≡ At from
+        done : (left : ℕ) → left ≤ 0 → walk σ.schema es from (parts_of left (lines_at (width book) s j)) ≡ Some from
         done zero l = refl
         done (suc n) l = absurd (omega arith)
 
@@ -217,17 +215,17 @@ module _ (book : List ℕ) (d s : Bytes) (i n : ℕ) where
         (is : (σ : Setting) (es : List Stored) (held : List ℕ) → Entries σ es d book held → x ≡ step_of σ.schema es from s (taken_at (width book) s j))
       where
         turn : (y : Descent) → x ≡ y → (σ : Setting) (es : List Stored) (held : List ℕ) → Entries σ es d book held
-            → by_step (At from) Nothing (λ k next. walk σ.schema es k (parts_of (left - 1) (lines_at (width book) s next))) y ≡ walk σ.schema es 0 (parts_of n (lines_at (width book) s i))
+            → by_step (Some from) None (λ k next. walk σ.schema es k (parts_of (left - 1) (lines_at (width book) s next))) y ≡ walk σ.schema es 0 (parts_of n (lines_at (width book) s i))
         turn y e σ es held h =
-            ap (by_step (At from) Nothing (λ k next. walk σ.schema es k (parts_of (left - 1) (lines_at (width book) s next)))) (sym e ∙ is σ es held h)
+            ap (by_step (Some from) None (λ k next. walk σ.schema es k (parts_of (left - 1) (lines_at (width book) s next)))) (sym e ∙ is σ es held h)
             ∙ sym (walk_step σ.schema es from (width book) s j left more)
             ∙ led.leads σ es held h
 
         pub led_on : (k next : ℕ) → x ≡ To k next → Led k next (left - 1)
         led_on k next e = record { leads = turn (To k next) e }
 
-        pub led-lost : x ≡ Lost → IsNamed Nothing
+        pub led-lost : x ≡ Lost → IsNamed None
         led-lost e = turn Lost e
 
-        pub led-ended : x ≡ Ended → IsNamed (At from)
+        pub led-ended : x ≡ Ended → IsNamed (Some from)
         led-ended e = turn Ended e

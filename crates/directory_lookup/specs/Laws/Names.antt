@@ -7,7 +7,6 @@ use Rattle.rules.specs.Places.{lines_at, parts_of}
 use Rattle.sheet_line.specs.Line.{taken_at, bytes_of}
 use Rattle.sheet_line.specs.Laws.{lines_by, taken-lines}
 use Rattle.sheet_line.specs.declared.Taken.{Taken}
-use Rattle.sheet_line.specs.declared.Taken.TheVariants as Taken
 
 -- the parts of a name, by what was taken at its first line
 abbrev pub parts_by : ℕ → Bytes → ℕ → Taken → Name

@@ -1,5 +1,6 @@
 -- A move by what was noted of the sheet: the types of the schema as numbers, and its lines.
-use Rattle.std.specs.Prelude.{ℕ, ◌+◌, ◌/◌, ◌<◌, ◌≤◌, ◌≡◌, refl, true, false, List, [], ◌∷◌, length, get_or, drop}
+use Rattle.std.specs.Prelude.{ℕ, ◌+◌, ◌/◌, ◌<◌, ◌≤◌, ◌≡◌, refl, Bool, true, false, ◌||◌, List, [], ◌∷◌, ltb, length, get_or, drop}
+use Rattle.std.specs.List.{list_any}
 use Rattle.std.proofs.Common.{sym, ap, ◌∙◌, arith, add-one}
 use Rattle.std.proofs.Math.ListN.{drop_of_length-le}
 use Rattle.std.proofs.Math.Seq.{drop-cons}
@@ -31,6 +32,12 @@ module _ (ks : List ℕ) (top i : ℕ) where
   pub beyond-end : length ks ≤ i → beyond top (schema_of (drop i ks)) ≡ false
   unfolding beyond schema_of
   beyond-end h = rw drop_of_length-le
+
+-- a type above, of types as numbers
+pub beyond-any : (top : ℕ) (ks : List ℕ) → beyond top (schema_of ks) ≡ list_any (λ k. ltb top (k / 4)) ks
+unfolding beyond schema_of attribute_of
+beyond-any top [] = refl
+beyond-any top (k ∷ ks) = ap (λ (b : Bool). ltb top (k / 4) || b) (unfold beyond in unfold schema_of in beyond-any top ks)
 
 lines_rows : (ls : List Line) → lines_of (rows ls end) ≡ ls
 lines_rows [] = refl

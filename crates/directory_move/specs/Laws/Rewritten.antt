@@ -6,7 +6,6 @@ use Rattle.rules.specs.Sheet.{Bytes, Sheet, line_size, line_bytes, print}
 use Rattle.rules.proofs.Laws.Sheet.{line-length}
 use Rattle.sheet_line.specs.declared.Line.{Line}
 use Rattle.sheet_line.specs.declared.Taken.{Taken}
-use Rattle.sheet_line.specs.declared.Taken.TheVariants as Taken
 use Rattle.sheet_line.specs.Line.{taken_at, line_of}
 use Rattle.sheet_line.specs.Laws.{lines_by, taken-lines, taken-fits-line, bytes-length}
 use Rattle.directory_move.specs.Rewritten.{lines_of, rewritten_from}

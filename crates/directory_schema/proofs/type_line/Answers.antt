@@ -1,7 +1,6 @@
 use borrow.Author.Tests.{le-leb, lt-leb, not-true, not-false}
 use Rattle.directory_schema.specs.Types.{type_refusal}
 use mathlib.Core.Path.{sym, ◌∙◌}
-use borrow.Author.Rules.{rules}
 use Rattle.directory_schema.proofs.type_line.Goals as goal
 
 pub returns-then-not-directory_columns : goal.returns-then-not-directory_columns

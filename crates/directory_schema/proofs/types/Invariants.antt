@@ -1,16 +1,7 @@
 -- The types before the position are noted.
-use Rattle.directory_schema.proofs.Lines.{not_line}
 use Rattle.directory_schema.specs.Types.{TypesRead}
-use Rattle.directory_schema.specs.Laws.Types.{types-start, types-stopped, types-room, types-on}
-use Rattle.directory_schema.specs.Laws.Lines.{other-line}
-use Rattle.sheet_kind.specs.Laws.Kinds.{is-kind, not-kind}
-use Rattle.sheet_line.specs.Laws.{taken-fits-line}
-use borrow.Author.Tests.{not-true, not-false}
 use lib.ListN.{length}
-use mathlib.Core.Path.{refl, sym, ◌∙◌}
-use native.Mathlib.Omega.{arith}
-use Prim.Native.Nat.{◌-◌, ◌≤◌, ◌<◌}
-use borrow.Author.Rules.{rules}
+use Prim.Native.Nat.{◌-◌}
 use Rattle.directory_schema.proofs.types.Given as goal
 
 abbrev pub invariant-loop-line : goal.invariant-loop-line

@@ -16,7 +16,6 @@ use Rattle.sheet_form.specs.Columns.{fits_form, in_form_of}
 use Rattle.sheet_form.specs.Laws.Columns.{columns-in-form}
 use Rattle.sheet_line.specs.declared.Line.{Line}
 use Rattle.sheet_line.specs.declared.Taken.{Taken}
-use Rattle.sheet_line.specs.declared.Taken.TheVariants as Taken
 use Rattle.sheet_line.specs.Line.{taken_at, bytes_of, line_of}
 use Rattle.sheet_line.specs.Laws.{taken-lines}
 use Rattle.directory_schema.specs.Lines.{judged_from, Passes, none, one, columns_fit, Other}

@@ -25,8 +25,7 @@ use Rattle.name.specs.Schema.{Rising}
 use Rattle.directory_schema.specs.Lines.{judged_from, none, one, columns_fit}
 use Rattle.directory_schema.specs.Laws.Lines.{formed, judged-refused, passes-judged, step-form, step-type, type-columns}
 use Rattle.directory_schema.specs.Laws.Zeros.{zeros, zeros-more}
-use Rattle.directory_schema.specs.Types.{typed, type_number, type_refusal, types_refused, TypesRead, TypesJudged}
-use Rattle.directory_schema.specs.declared.TypeLines.{TypeLines}
+use Rattle.directory_schema.specs.Types.{typed, type_number, type_refusal, TypesNoted, types_refused, TypesRead, TypesJudged}
 
 -- ---- one type more
 
@@ -95,7 +94,7 @@ module _ {f : Format} {s : Bytes} {schema : List ℕ} {n last i : ℕ} (t : Type
       go true false false p q r z = absurd (z refl)
 
   -- the answer of a refusal
-  pub types-stopped : (m : ℕ) → m ≡ type_refusal f.top x last n → (m ≡ 0 → ⊥) → (r : TypeLines) → r ≡ types_refused m → TypesJudged f s r
+  pub types-stopped : (m : ℕ) → m ≡ type_refusal f.top x last n → (m ≡ 0 → ⊥) → (r : TypesNoted) → r ≡ types_refused m → TypesJudged f s r
   types-stopped m e' z r only = record {
     ended = λ q. absurd (z (sym number ∙ q));
     refused = λ q. record {
@@ -114,7 +113,7 @@ module _ {f : Format} {s : Bytes} {schema : List ℕ} {n last i : ℕ} (t : Type
   }
     where
       number : r.refusal ≡ m
-      number = ap (λ (y : TypeLines). y.refusal) only
+      number = ap (λ (y : TypesNoted). y.refusal) only
 
   -- a line that is taken
   record Taking : Type 0 where

@@ -1,4 +1,3 @@
-use borrow.Author.Rules.{rules}
 use Rattle.directory_sheet.proofs.level.Goals as goal
 
 pub returns-then-alias : goal.returns-then-alias

@@ -1,6 +1,6 @@
 -- Laws of `Entries`: what is known of the sheet before each line after the K 1 lines that is no value line, and what the end of the sheet makes of it.
-use Prim.Native.Nat.{ℕ, zero, suc, ◌+◌, ◌*◌, ◌-◌, ◌≤◌, ◌<◌}
-use Rattle.std.specs.Prelude.{◌≡◌, refl, Bool, true, false, length, take, replicate}
+use Prim.Native.Nat.{ℕ, zero, suc, ◌+◌, ◌*◌, ◌≤◌, ◌<◌}
+use Rattle.std.specs.Prelude.{◌≡◌, refl, Bool, true, false, Result, Ok, Err, length, take, replicate}
 use Rattle.std.proofs.Common.{sym, ap, ◌∙◌, subst, arith, length-take-le, le-ltb, lt-ltb}
 use Rattle.std.proofs.Math.Option.{Option, none}
 use mathlib.Core.List.{List, []}
@@ -13,12 +13,11 @@ use Rattle.rules.specs.Places.{schema_of}
 use Rattle.rules.proofs.Laws.Judge.{refused-not, accepted-is}
 use Rattle.sheet_line.specs.declared.Line.{Line}
 use Rattle.sheet_line.specs.declared.Taken.{Taken}
-use Rattle.sheet_line.specs.declared.Taken.TheVariants as Taken
 use Rattle.sheet_line.specs.Line.{taken_at}
 use Rattle.name.specs.Schema.{Rising}
 use Rattle.directory_schema.specs.Lines.{judged_from}
 use Rattle.directory_schema.specs.Laws.Lines.{judged-broken, judged-end}
-use Rattle.directory_schema.specs.Types.{TypesEnded}
+use Rattle.directory_schema.specs.Types.{TypesNoted, TypesEnded}
 use Rattle.directory_schema.specs.Laws.Types.{types_same}
 use Rattle.directory_schema.specs.Laws.Zeros.{zeros}
 use Rattle.tables.specs.Book.{FIRST-ROWS}
@@ -28,11 +27,14 @@ use Rattle.directory_duplicates.specs.Laws.Twins.{named_start}
 use Rattle.directory_duplicates.specs.Rulings.{Ready, reading}
 use Rattle.directory_entry.specs.EntryLine.{depth_count, level_of}
 use Rattle.directory_entry.specs.Laws.EntryLine.{Elsewhere, EntriesCounted}
-use Rattle.directory_schema.specs.declared.TypeLines.{TypeLines}
 use Rattle.directory_sheet.specs.Judged.{nothing_noted, NothingAfter, EntryNoted, DirectoryNoted, DirectoryJudged}
-use Rattle.directory_sheet.specs.Entries.{Sized, end_number, Opened}
+use Rattle.directory_sheet.specs.Entries.{Sized, end_number, EntriesJudged, Opened}
+use Rattle.std.specs.Result.{is_err}
 use Rattle.directory_sheet.specs.Rows.{AllHeld}
 use Rattle.directory_sheet.specs.Laws.Rows.{held_none}
+use Rattle.rules.specs.Refusals.{refusal_number}
+use Rattle.rules.specs.declared.refusals.Refusal.{Refusal}
+use Rattle.rules.specs.declared.refusals.Refusal.TheVariants.{TooLong}
 use Rattle.directory_sheet.specs.declared.Notes.{Notes}
 
 -- the entries are noted, each with its values
@@ -47,7 +49,6 @@ pub record EntriesRead (f : Format) (s : Bytes) (ks : List ℕ) (notes : Notes) 
   pub rising : Rising 0 ks
   pub usable : Usable f
   pub sized : Sized ks notes depths
-  pub accepting : notes.refusal ≡ 0
   pub after : NothingAfter notes
   pub marked : length ms ≡ n
   pub space : 31 * n ≤ i
@@ -63,11 +64,11 @@ pub record EntriesRead (f : Format) (s : Bytes) (ks : List ℕ) (notes : Notes) 
 -- ---- the answer
 
 -- with a refusal, nothing else
-judged-nothing : {f : Format} {s : Bytes} {r : Notes} {held : List ℕ} {n : ℕ} → directory_of f s ≡ refuse n → (r ≡ nothing_noted n) × (held ≡ none_held) → DirectoryJudged f s r held
-judged-nothing {f} {s} {r} {held} {n} h only = record {
-  refusal = ap (λ (x : Notes). x.refusal) only.0 ∙ sym (ap refusal_of h);
-  noted = λ d q. absurd (refused-not n d (sym h ∙ q));
-  refused = λ m q. let e : n ≡ m = ap (refusal_of {A = Directory}) (sym h ∙ q) in (only.0 ∙ ap nothing_noted e, only.1);
+judged-nothing : {f : Format} {s : Bytes} {held : List ℕ} {e : Refusal} → directory_of f s ≡ refuse (refusal_number e) → held ≡ none_held → DirectoryJudged f s (Err e) held
+judged-nothing {e = e} h only = record {
+  refusal = sym (ap refusal_of h);
+  noted = λ d q. absurd (refused-not (refusal_number e) d (sym h ∙ q));
+  refused = λ m q. (e, refl, ap (refusal_of {A = Directory}) (sym h ∙ q), only);
 }
 
 module _ (f : Format) (s : Bytes) (fits : length s ≤ 65536) where
@@ -75,22 +76,26 @@ module _ (f : Format) (s : Bytes) (fits : length s ≤ 65536) where
   unfolding directory_of
   short = rw (le-ltb 65536 (length s) fits)
 
-  pub answer-refused : (r : Notes) (held : List ℕ) (n : ℕ) → (r ≡ nothing_noted n) × (held ≡ none_held) → fold (step f.top) finish 2 nothing (lines f.width s) ≡ refuse n
-      → DirectoryJudged f s r held
-  answer-refused r held n only h = judged-nothing (short ∙ h) only
+  pub answer-refused : (held : List ℕ) (e : Refusal) → held ≡ none_held → fold (step f.top) finish 2 nothing (lines f.width s) ≡ refuse (refusal_number e) → DirectoryJudged f s (Err e) held
+  answer-refused held e only h = judged-nothing (short ∙ h) only
 
-  pub answer-accepted : (r : Notes) (held : List ℕ) (d : Directory) → r.refusal ≡ 0 → fold (step f.top) finish 2 nothing (lines f.width s) ≡ accept d → DirectoryNoted f.width s d r held → DirectoryJudged f s r held
-  answer-accepted r held d e h n = record {
-    refusal = e ∙ sym (ap refusal_of (short ∙ h));
-    noted = λ d' q. subst (λ (x : Directory). DirectoryNoted f.width s x r held) (accepted-is (sym (short ∙ h) ∙ q)) n;
+  pub answer-accepted : (x : Notes) (held : List ℕ) (d : Directory) → fold (step f.top) finish 2 nothing (lines f.width s) ≡ accept d → DirectoryNoted f.width s d x held → DirectoryJudged f s (Ok x) held
+  answer-accepted x held d h n = record {
+    refusal = sym (ap refusal_of (short ∙ h));
+    noted = λ d' q. (x, refl, subst (λ (y : Directory). DirectoryNoted f.width s y x held) (accepted-is (sym (short ∙ h) ∙ q)) n);
     refused = λ m q. absurd (refused-not m d (sym q ∙ short ∙ h));
   }
 
-pub answer-long : (f : Format) (s : Bytes) (r : Notes) (held : List ℕ) → (r ≡ nothing_noted 1) × (held ≡ none_held) → 65536 < length s → DirectoryJudged f s r held
-answer-long f s r held only h = judged-nothing long only
+pub answer-long : (f : Format) (s : Bytes) (held : List ℕ) → held ≡ none_held → 65536 < length s → DirectoryJudged f s (Err TooLong) held
+answer-long f s held only h = judged-nothing long only
   where
     long : directory_of f s ≡ refuse 1
     long = unfold directory_of in (rw (lt-ltb 65536 (length s) h))
+
+-- the table emptied where the entries are refused
+pub emptied : {f : Format} {s : Bytes} (held : List ℕ) (r : Result Notes Refusal) → EntriesJudged f s r held → is_err r ≡ true → DirectoryJudged f s r none_held
+emptied held (Ok x) j e = absurd (let z : ◌≡◌ {A = Bool} false true = e in cc)
+emptied held (Err n) j e = j
 
 -- ---- no line stands there
 
@@ -132,14 +137,14 @@ module _ {f : Format} {s : Bytes} {ks : List ℕ} {notes : Notes} {depths table 
         go Taken.End is true q z = ends is ∙ rw q
         go Taken.End is false q z = absurd (z refl)
 
-    pub standing-ended : end_number taken lacks ≡ 0 → DirectoryJudged f s notes held
+    pub standing-ended : end_number taken lacks ≡ 0 → DirectoryJudged f s (Ok notes) held
     standing-ended = go taken refl lacks refl
       where
-        go : (t : Taken) → taken ≡ t → (b : Bool) → lacks ≡ b → end_number t b ≡ 0 → DirectoryJudged f s notes held
+        go : (t : Taken) → taken ≡ t → (b : Bool) → lacks ≡ b → end_number t b ≡ 0 → DirectoryJudged f s (Ok notes) held
         go (Taken.Line x) is b q z = absurd (none-there x is)
         go Taken.NotInForm is b q z = absurd (omega arith)
         go Taken.End is true q z = absurd (omega arith)
-        go Taken.End is false q z = answer-accepted f s st.ready.sheet notes held _ st.accepting (ends is ∙ rw q) all_noted
+        go Taken.End is false q z = answer-accepted f s st.ready.sheet notes held _ (ends is ∙ rw q) all_noted
 
 -- ---- before the first entry
 
@@ -156,7 +161,6 @@ module _ {f : Format} {s : Bytes} {ks : List ℕ} {notes : Notes} {held : List �
     rising = o.rising;
     usable = o.usable;
     sized = o.sized;
-    accepting = o.accepting;
     after = o.after;
     marked = refl;
     space = omega arith;
@@ -182,9 +186,9 @@ module _ {f : Format} {s : Bytes} {ks : List ℕ} {notes : Notes} {held : List �
       level (suc k) h = absurd (omega arith)
 
 -- after the K 1 lines, with nothing else noted
-pub opened : (f : Format) (s : Bytes) (held : List ℕ) (r : TypeLines) (b : Notes) → length s ≤ 65536 → Usable f × (held ≡ none_held) → b ≡ nothing_noted 0 → TypesEnded f s r
+pub opened : (f : Format) (s : Bytes) (held : List ℕ) (r : TypesNoted) (b : Notes) → length s ≤ 65536 → Usable f × (held ≡ none_held) → b ≡ nothing_noted → TypesEnded f s r
     → Opened f s (take r.count r.schema)
-    (record { refusal = b.refusal; types = r.count; schema = r.schema; count = b.count; at = b.at; parents = b.parents; naming = b.naming; lengths = b.lengths; first = b.first; targets = b.targets }) held r.at r.taken
+    (record { types = r.count; schema = r.schema; count = b.count; at = b.at; parents = b.parents; naming = b.naming; lengths = b.lengths; first = b.first; targets = b.targets }) held r.at r.taken
 opened f s held r b fits asked is t = rw is (record {
   sheet = fits;
   usable = asked.0;
@@ -202,7 +206,6 @@ opened f s held r b fits asked is t = rw is (record {
     targets = length-replicate {A = ℕ} 256 0;
     levels = length-replicate {A = ℕ} depth_count 0;
   };
-  accepting = refl;
   after = record { schema = t.read.rest; at = zeros 256 0; parents = zeros 256 0; naming = zeros 256 0; lengths = zeros 256 0; first = zeros FIRST-ROWS 1; targets = zeros 256 0 };
   none_yet = refl;
   none-held = get_or-replicate FIRST-ROWS 0 0 0 (omega arith);

@@ -18,10 +18,8 @@ use Rattle.rules.specs.Judge.{accept, refuse, fold}
 use Rattle.rules.specs.Directory.{Target, Stored, blank, entries_of, name_at, new_entry, alias_mark, is_alias, is_unread, under_alias, clashes, lacks_naming, lacks_target, step, finish, nothing, with_values, with_target}
 use Rattle.rules.specs.Places.{lines_at, values_of, schema_of}
 use Rattle.rules.specs.declared.Front.{Front}
-use Rattle.rules.specs.declared.Front.TheVariants as Front
 use Rattle.sheet_line.specs.declared.Line.{Line}
 use Rattle.sheet_line.specs.declared.Taken.{Taken}
-use Rattle.sheet_line.specs.declared.Taken.TheVariants as Taken
 use Rattle.sheet_line.specs.Line.{taken_by, taken_at, bytes_of, line_of}
 use Rattle.sheet_line.specs.Laws.{LineFits, taken-fits-line}
 use Rattle.name.specs.Schema.{rank_in}
@@ -34,16 +32,14 @@ use Rattle.directory_duplicates.specs.Twins.{Named}
 use Rattle.directory_duplicates.specs.Laws.Twins.{any_snoc, named-entry, valued-none}
 use Rattle.directory_duplicates.specs.Rulings.{Decides, mark_of, reading}
 use Rattle.directory_duplicates.specs.Laws.Rulings.{line-within, ready-room, ready-more}
-use Rattle.directory_duplicates.specs.declared.Ruling.{Ruling}
+use Rattle.directory_duplicates.specs.Noted.{RulingNoted}
 use Rattle.directory_entry.specs.EntryLine.{level_of, entry_ruling}
 use Rattle.directory_entry.specs.Laws.EntryLine.{EntryMarked, EntryOutcome, entry-outcome}
 use Rattle.directory_values.specs.declared.Current.{Current}
-use Rattle.directory_values.specs.declared.ValueLines.{ValueLines}
-use Rattle.directory_values.specs.Values.{Begun, ValuesAsked, ValuesEnded, ValuesJudged, ValuesAnswered}
+use Rattle.directory_values.specs.Values.{ValuesNoted, Begun, ValuesAsked, ValuesEnded, ValuesJudged, ValuesAnswered}
 use Rattle.directory_values.specs.Laws.Values.{values-all}
 use Rattle.directory_alias.specs.declared.Last.{Last}
-use Rattle.directory_alias.specs.declared.TargetLines.{TargetLines}
-use Rattle.directory_alias.specs.Target.{Owed, TargetAsked, TargetEnded, TargetJudged, TargetAnswered}
+use Rattle.directory_alias.specs.Target.{TargetNoted, Owed, TargetAsked, TargetEnded, TargetJudged, TargetAnswered}
 use Rattle.directory_sheet.specs.Judged.{EntryNoted}
 use Rattle.directory_sheet.specs.Laws.Rows.{held_more}
 use Rattle.directory_sheet.specs.declared.Notes.{Notes}
@@ -69,7 +65,6 @@ module _ (w : ℕ) (s : Bytes) (i : ℕ) {x : Line} where
 -- the entry line `x` at `i` noted, with the row after its last value, and its target
 abbrev pub noting : Notes → ℕ → Line → ℕ → ℕ → Notes
 noting notes i x to target = record {
-  refusal = notes.refusal;
   types = notes.types;
   schema = notes.schema;
   count = notes.count + 1;
@@ -145,7 +140,7 @@ mark-bit c h = go (eqb c 1) refl
 
 module _ {f : Format} {s : Bytes} {ks : List ℕ} {notes : Notes} {depths table held : List ℕ} {n : ℕ} {lacks : Bool} {i : ℕ} {taken : Taken}
     {complete : List Stored} {current : Option Stored} {ms : List Mark} (st : EntriesRead f s ks notes depths table held n lacks i taken complete current ms)
-    {x : Line} (is : taken ≡ Taken.Line x) {r : Ruling} (ruled : Decides s ks table (entry_ruling f.top depths notes.count lacks x) r) where
+    {x : Line} (is : taken ≡ Taken.Line x) {r : RulingNoted} (ruled : Decides s ks table (entry_ruling f.top depths notes.count lacks x) r) where
   abbrev es : List Stored
   es = entries_of (reading ks complete current)
 
@@ -160,7 +155,7 @@ module _ {f : Format} {s : Bytes} {ks : List ℕ} {notes : Notes} {depths table 
 
   outcome : EntryOutcome f.top s ks depths table notes.count complete current x r
   outcome =
-      subst (λ (q : Ruling). EntryOutcome f.top s ks depths table notes.count complete current x q) (sym (ruled ms st.ready))
+      subst (λ (q : RulingNoted). EntryOutcome f.top s ks depths table notes.count complete current x q) (sym (ruled ms st.ready))
       (entry-outcome f.top s ks depths table notes.count lacks complete current ms st.counted x (formed f s i here) (st.elsewhere x is))
 
   pub standing-refused : (r.refusal ≡ 0 → ⊥) → fold (step f.top) finish 2 nothing (lines f.width s) ≡ refuse r.refusal
@@ -168,7 +163,7 @@ module _ {f : Format} {s : Bytes} {ks : List ℕ} {notes : Notes} {depths table 
     where
       go : EntryOutcome f.top s ks depths table notes.count complete current x r → fold (step f.top) finish 2 nothing (lines f.width s) ≡ refuse r.refusal
       go (inl q) = st.judged ∙ judged-refused f s i here (reading ks complete current) r.refusal q.is
-      go (inr q) = absurd (z (ap (λ (y : Ruling). y.refusal) q.0.ruling))
+      go (inr q) = absurd (z (ap (λ (y : RulingNoted). y.refusal) q.0.ruling))
 
   module _ (z : r.refusal ≡ 0) where
     abbrev m : Mark
@@ -229,7 +224,7 @@ module _ {f : Format} {s : Bytes} {ks : List ℕ} {notes : Notes} {depths table 
     pub standing-asked : {table' : List ℕ} → table' ≡ with_mark table n r → ValuesAsked f s ks table' held (n + 1) e
     standing-asked noted = record { complete = es; entry = d; all = m ∷ ms; begun = standing-begun noted }
 
-    module _ {marks table' held' : List ℕ} {run : ValueLines} (noted : marks ≡ with_mark table n r) (answered : ValuesAnswered f s ks marks held (n + 1) e table' held' run) where
+    module _ {marks table' held' : List ℕ} {run : ValuesNoted} (noted : marks ≡ with_mark table n r) (answered : ValuesAnswered f s ks marks held (n + 1) e table' held' run) where
       values-judged : ValuesJudged f s ks table' held held' e es d run
       values-judged = answered es d (m ∷ ms) (standing-begun noted)
 
@@ -265,7 +260,7 @@ module _ {f : Format} {s : Bytes} {ks : List ℕ} {notes : Notes} {depths table 
         judged-values : fold (step f.top) finish 2 nothing (lines f.width s) ≡ judged_from f s (reading ks es (some (with_values d vs))) run.at
         judged-values = st.judged ∙ judged-on f s i here (reading ks complete current) (reading ks es (some d)) taking.1 ∙ passes-judged v.read.passed
 
-        module _ {t : TargetLines} (aimed : TargetAnswered f s ks last t) where
+        module _ {t : TargetNoted} (aimed : TargetAnswered f s ks last t) where
           target-judged : TargetJudged f s ks last es (with_values d vs) t
           target-judged = aimed es (with_values d vs) owed
 
@@ -358,7 +353,6 @@ module _ {f : Format} {s : Bytes} {ks : List ℕ} {notes : Notes} {depths table 
                   targets = simp length-set st.sized.targets;
                   levels = simp length-set st.sized.levels;
                 };
-                accepting = st.accepting;
                 after = record {
                   schema = st.after.schema;
                   at = zeros-more notes.count notes.at i st.after.at;

@@ -1,6 +1,6 @@
 -- The refusals of a directory are not 0, so that 0 tells an accepted one.
-use Rattle.std.specs.Prelude.{ℕ, zero, suc, ◌<◌, ◌≡◌, refl, Bool, true, false, not, ◌||◌, cond, List, [], ltb, leb, eqb, length}
-use Rattle.std.proofs.Common.{sym, ◌∙◌, arith}
+use Rattle.std.specs.Prelude.{ℕ, zero, suc, ◌<◌, ◌≡◌, refl, Bool, true, false, not, ◌||◌, cond, Result, Ok, Err, List, [], ltb, leb, eqb, length}
+use Rattle.std.proofs.Common.{sym, ap, subst, ◌∙◌, arith}
 use Rattle.std.proofs.Math.Option.{Option, none, some}
 use Rattle.rules.specs.Lists.{is_empty, any, last_or}
 use Rattle.rules.specs.Name.{part, allowed, same_part}
@@ -9,6 +9,9 @@ use Rattle.rules.specs.declared.Format.{Format}
 use Rattle.rules.specs.Columns.{in_form, directory_forms}
 use Rattle.rules.specs.Judge.{Verdict, accept, refuse, refusal_of, refuse_if, then, fold}
 use Rattle.rules.specs.Directory.{Target, nowhere, missing, parts, Stored, Directory, Reading, directory_of, step, finish, nothing, type_line, entry_line, value_line, target_line, part_line, of_last, is_unread, lacks_naming, lacks_target, under_alias, entries_of, last_type, new_entry, clashes}
+use Rattle.rules.specs.Refusals.{refusal_number, refusal_in}
+use Rattle.rules.specs.declared.refusals.Refusal.{Refusal}
+use Rattle.rules.proofs.Laws.Refusals.{refusal-some}
 use Rattle.directory_sheet.specs.Judged as Directories
 use Rattle.directory_sheet.specs.declared.Notes.{Notes}
 
@@ -94,15 +97,19 @@ told-directory : (f : Format) (s : Bytes) → Told (directory_of f s)
 unfolding directory_of
 told-directory f s = told-if (ltb 65536 (length s)) 1 _ (omega arith) (told-fold f.top (lines f.width s) nothing)
 
-module _ (f : Format) (s : Bytes) (r : Notes) {held : List ℕ} (j : Directories.DirectoryJudged f s r held) where
+module _ (f : Format) (s : Bytes) {r : Result Notes Refusal} {held : List ℕ} (j : Directories.DirectoryJudged f s r held) where
   -- a refusal is the one that the rules give
-  pub directory-refused : (r.refusal ≡ 0 → ⊥) → directory_of f s ≡ refuse r.refusal
-  directory-refused n = by (directory_of f s) j.refusal
+  pub directory-refused : (e : Refusal) → r ≡ Err e → directory_of f s ≡ refuse (refusal_number e)
+  directory-refused e is = by (directory_of f s) (sym (ap refusal_in is) ∙ j.refusal)
     where
-      by : (v : Verdict Directory) → r.refusal ≡ refusal_of v → v ≡ refuse r.refusal
-      by (accept x) e = absurd (n e)
-      by (refuse m) e = rw e
+      by : (v : Verdict Directory) → refusal_number e ≡ refusal_of v → v ≡ refuse (refusal_number e)
+      by (accept x) q = absurd (refusal-some e q)
+      by (refuse m) q = rw q
 
   -- without one, the directory that the rules accept is noted
-  pub directory-accepted : r.refusal ≡ 0 → (x : Directory) × (directory_of f s ≡ accept x) × Directories.DirectoryNoted f.width s x r held
-  directory-accepted z = let a = told-directory f s (sym j.refusal ∙ z) in (a.0, a.1, j.noted a.0 a.1)
+  pub directory-accepted : (x : Notes) → r ≡ Ok x → (d : Directory) × (directory_of f s ≡ accept d) × Directories.DirectoryNoted f.width s d x held
+  directory-accepted x is =
+      let a = told-directory f s (sym j.refusal ∙ ap refusal_in is) in
+      let n = j.noted a.0 a.1 in
+      let e : n.0 ≡ x = cc (is, n.1) in
+      (a.0, a.1, subst (λ (y : Notes). Directories.DirectoryNoted f.width s a.0 y held) e n.2)

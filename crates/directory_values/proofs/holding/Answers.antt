@@ -4,7 +4,6 @@ use Rattle.rules.specs.Sheet.{Bytes}
 use lib.ListN.{get_or}
 use mathlib.Core.Path.{ap₂, ◌∙◌}
 use Prim.Native.Nat.{◌%◌}
-use borrow.Author.Rules.{rules}
 use Rattle.directory_values.proofs.holding.Goals as goal
 
 pub returns-then-found : goal.returns-then-found

@@ -1,7 +1,6 @@
 -- The three stores are `written`.
 use mathlib.Core.Path.{refl}
 use Rattle.directory_values.specs.Rows.{written}
-use borrow.Author.Rules.{rules}
 use Rattle.directory_values.proofs.put_row.Goals as goal
 
 pub returns : goal.returns

@@ -1,22 +1,11 @@
 -- The value lines before the position are taken and their rows written; the marks are theirs, whatever entries stood before them.
-use Rattle.directory_schema.proofs.Lines.{not_line}
 use Rattle.directory_values.specs.Values.{Begun, ValuesRead}
-use Rattle.directory_values.specs.Laws.Values.{going_start, going-refused, going-room, going_on}
-use Rattle.directory_schema.specs.Laws.Lines.{other-line}
-use Rattle.sheet_kind.specs.Laws.Kinds.{is-kind, not-kind}
-use Rattle.sheet_line.specs.Laws.{taken-fits-line}
-use Rattle.tables.specs.Held.{ROWS, HELD}
-use borrow.Author.Tests.{not-true, not-false}
-use Rattle.directory_duplicates.specs.Mark.{Mark, Room, heads}
-use Rattle.directory_duplicates.specs.Laws.Rulings.{line-within}
+use Rattle.directory_duplicates.specs.Mark.{Mark}
 use Rattle.rules.specs.Directory.{Stored}
 use Rattle.rules.specs.Name.{Part}
 use lib.ListN.{length}
-use mathlib.Core.List.{List, []}
-use mathlib.Core.Path.{◌≡◌, refl, sym, ◌∙◌}
-use native.Mathlib.Omega.{arith}
-use Prim.Native.Nat.{◌+◌, ◌-◌, ◌≤◌, ◌<◌}
-use borrow.Author.Rules.{rules}
+use mathlib.Core.List.{List}
+use Prim.Native.Nat.{◌-◌}
 use Rattle.directory_values.proofs.values.Given as goal
 
 abbrev pub invariant-loop-line : goal.invariant-loop-line

@@ -18,7 +18,7 @@ use Rattle.directory_schema.specs.Lines.{columns_fit}
 use Rattle.directory_schema.specs.Laws.Lines.{step-form, step_value}
 use Rattle.directory_duplicates.specs.Mark.{Mark}
 use Rattle.directory_duplicates.specs.Twins.{owner_of, twins, Valued}
-use Rattle.directory_duplicates.specs.declared.Ruling.{Ruling}
+use Rattle.directory_duplicates.specs.Noted.{RulingNoted}
 use Rattle.directory_duplicates.specs.Rulings.{reading, refusing, marking, ruled_of}
 use Rattle.directory_duplicates.specs.Laws.Rulings.{Refused}
 use Rattle.directory_values.specs.ValueLine.{value_ruling, brought_by}
@@ -26,13 +26,13 @@ use Rattle.directory_values.specs.ValueLine.{value_ruling, brought_by}
 -- ---- what the rules decide
 
 -- a value line that was taken
-pub record ValueMarked (s : Bytes) (ks table : List ℕ) (number last : ℕ) (x : Line) (r : Ruling) : Type 0 where
+pub record ValueMarked (s : Bytes) (ks table : List ℕ) (number last : ℕ) (x : Line) (r : RulingNoted) : Type 0 where
   pub rises : last ≤ x.a
   pub fit : allowed (schema_of ks) x.a (bytes_of s x) ≡ true
   pub ruling : r ≡ marking s table (owner_of number) (rank_in ks x.a) x.place x.length
 
 -- the line, refused or taken, after the values `vs` of entry `d`
-abbrev pub ValueOutcome : ℕ → Bytes → List ℕ → List ℕ → ℕ → ℕ → List Stored → Stored → List Part → Line → Ruling → Type 0
+abbrev pub ValueOutcome : ℕ → Bytes → List ℕ → List ℕ → ℕ → ℕ → List Stored → Stored → List Part → Line → RulingNoted → Type 0
 ValueOutcome top s ks table number last complete d vs x r =
     Refused top (reading ks complete (some (with_values d vs))) (line_of s x) r
     ⊎ (ValueMarked s ks table number last x r

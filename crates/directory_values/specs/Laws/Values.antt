@@ -24,14 +24,13 @@ use Rattle.directory_duplicates.specs.Twins.{owner_of}
 use Rattle.directory_duplicates.specs.Laws.Twins.{any_snoc, last_snoc, part_same, named_value, valued-more}
 use Rattle.directory_duplicates.specs.Rulings.{mark_of, reading}
 use Rattle.directory_duplicates.specs.Laws.Rulings.{line-within, ready-room, ready-more}
-use Rattle.directory_duplicates.specs.declared.Ruling.{Ruling}
+use Rattle.directory_duplicates.specs.Noted.{RulingNoted}
 use Rattle.directory_values.specs.ValueLine.{brought_by, value_ruling}
 use Rattle.directory_values.specs.Laws.ValueLine.{ValueMarked, ValueOutcome, value-outcome}
 use Rattle.directory_values.specs.Rows.{written}
 use Rattle.directory_values.specs.Laws.Rows.{rows_start, rows_more}
 use Rattle.directory_values.specs.declared.Current.{Current}
-use Rattle.directory_values.specs.declared.ValueLines.{ValueLines}
-use Rattle.directory_values.specs.Values.{Begun, reading_with, values_refused, ValuesRead, ValuesEnded, ValuesJudged}
+use Rattle.directory_values.specs.Values.{Begun, reading_with, ValuesNoted, values_refused, ValuesRead, ValuesEnded, ValuesJudged}
 
 pub going_start : {f : Format} {s : Bytes} {ks table held : List ℕ} {n : ℕ} {e : Current} {complete : List Stored} {d : Stored} {ms : List Mark}
     → Begun f s ks table held n e complete d ms → ValuesRead f s ks table held held n false 0 0 e.line.next e.first e complete d [] ms
@@ -53,30 +52,30 @@ going_start {s = s} {ks = ks} {held = held} {e = e} b = record {
 }
 
 -- where another line stands, all values have been read
-pub values-all : {f : Format} {s : Bytes} {ks table before held : List ℕ} {e : Current} {complete : List Stored} {d : Stored} {r : ValueLines}
+pub values-all : {f : Format} {s : Bytes} {ks table before held : List ℕ} {e : Current} {complete : List Stored} {d : Stored} {r : ValuesNoted}
     (v : ValuesEnded f s ks table before held e complete d r) → values_of (lines_at f.width s e.line.next) ≡ v.values
 values-all {f} {s} {r = r} v = v.read.sofar ∙ ap (λ (x : List Part). v.values ++ x) (values-none f s r.at r.taken v.stands v.other) ∙ append-nil v.values
 
 -- one value line more
 module _ {f : Format} {s : Bytes} {ks table₀ before table held : List ℕ} {n₀ n : ℕ} {found : Bool} {last from i to : ℕ} {e : Current} {complete : List Stored} {d : Stored} {vs : List Part} {ms₀ ms : List Mark}
     (b : Begun f s ks table₀ before n₀ e complete d ms₀) (g : ValuesRead f s ks table before held n found last from i to e complete d vs ms)
-    {x : Line} (took : taken_at f.width s i ≡ Taken.Line x) (kind : x.kind ≡ 3) {r : Ruling} (is : r ≡ value_ruling f.top e.number last x s ks table ms) where
+    {x : Line} (took : taken_at f.width s i ≡ Taken.Line x) (kind : x.kind ≡ 3) {r : RulingNoted} (is : r ≡ value_ruling f.top e.number last x s ks table ms) where
   outcome : ValueOutcome f.top s ks table e.number last complete d vs x (value_ruling f.top e.number last x s ks table ms)
   outcome = value-outcome f.top s ks table e.number last complete d vs ms g.newest b.unread g.valued x (formed f s i took) kind
 
-  pub going-refused : (r.refusal ≡ 0 → ⊥) → (v : ValueLines) → v ≡ values_refused r.refusal → ValuesJudged f s ks table before held e complete d v
+  pub going-refused : (r.refusal ≡ 0 → ⊥) → (v : ValuesNoted) → v ≡ values_refused r.refusal → ValuesJudged f s ks table before held e complete d v
   going-refused z v only = record {
     ended = λ q. absurd (z (sym number ∙ q));
-    refused = λ q. record { values = vs; all = ms; marks = n; found = found; last = last; from = from; at = i; to = to; line = x; read = g; stands = took; kind = kind; number = number ∙ ap (λ (y : Ruling). y.refusal) is; sheet = go outcome ∙ ap refuse (sym number); only = only ∙ ap values_refused (sym number) };
+    refused = λ q. record { values = vs; all = ms; marks = n; found = found; last = last; from = from; at = i; to = to; line = x; read = g; stands = took; kind = kind; number = number ∙ ap (λ (y : RulingNoted). y.refusal) is; sheet = go outcome ∙ ap refuse (sym number); only = only ∙ ap values_refused (sym number) };
   }
     where
       number : v.refusal ≡ r.refusal
-      number = ap (λ (y : ValueLines). y.refusal) only
+      number = ap (λ (y : ValuesNoted). y.refusal) only
 
       go : ValueOutcome f.top s ks table e.number last complete d vs x (value_ruling f.top e.number last x s ks table ms)
           → judged_from f s (reading_with ks complete d []) e.line.next ≡ refuse r.refusal
-      go (inl q) = passes-judged g.passed ∙ judged-refused f s i took _ _ q.is ∙ ap (λ (y : Ruling). refuse y.refusal) (sym is)
-      go (inr q) = absurd (z (ap (λ (y : Ruling). y.refusal) (is ∙ q.0.ruling)))
+      go (inl q) = passes-judged g.passed ∙ judged-refused f s i took _ _ q.is ∙ ap (λ (y : RulingNoted). refuse y.refusal) (sym is)
+      go (inr q) = absurd (z (ap (λ (y : RulingNoted). y.refusal) (is ∙ q.0.ruling)))
 
   -- a line that was taken
   taking : r.refusal ≡ 0 → ValueMarked s ks table e.number last x r
@@ -86,7 +85,7 @@ module _ {f : Format} {s : Bytes} {ks table₀ before table held : List ℕ} {n�
       go : ValueOutcome f.top s ks table e.number last complete d vs x (value_ruling f.top e.number last x s ks table ms)
           → ValueMarked s ks table e.number last x r
           × (step f.top (reading ks complete (some (with_values d vs))) (line_of s x) ≡ accept (reading ks complete (some (with_values d (vs ++ (brought_by s x ∷ []))))))
-      go (inl q) = absurd (q.not (ap (λ (y : Ruling). y.refusal) (sym is) ∙ z))
+      go (inl q) = absurd (q.not (ap (λ (y : RulingNoted). y.refusal) (sym is) ∙ z))
       go (inr q) = (record { rises = q.0.rises; fit = q.0.fit; ruling = is ∙ q.0.ruling }, q.1)
 
   module _ (z : r.refusal ≡ 0) where
@@ -97,7 +96,7 @@ module _ {f : Format} {s : Bytes} {ks table₀ before table held : List ℕ} {n�
     here = bytes_of s x
 
     rank : r.rank ≡ rank_in ks x.a
-    rank = ap (λ (y : Ruling). y.rank) (taking z).0.ruling
+    rank = ap (λ (y : RulingNoted). y.rank) (taking z).0.ruling
 
     known : rank_in ks x.a < length ks
     known = allowed-within ks x.a here (taking z).0.fit

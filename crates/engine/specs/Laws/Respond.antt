@@ -1,5 +1,5 @@
 -- Laws for an accepted request: from what is noted of it to the reply.
-use Rattle.std.specs.Prelude.{ℕ, ◌+◌, ◌-◌, ◌≤◌, ◌≡◌, refl, List, [], ◌++◌, map, length, get_or, take, replicate}
+use Rattle.std.specs.Prelude.{ℕ, ◌-◌, ◌≤◌, ◌≡◌, refl, List, [], ◌++◌, map, length, get_or, take, replicate, Result}
 use Rattle.std.proofs.Common.{sym, ap, ◌∙◌, subst, arith, length-append, take_at}
 use Rattle.std.proofs.lemmas.List.{length-replicate}
 use Rattle.rules.specs.Sheet.{Bytes, Usable, print}
@@ -15,6 +15,7 @@ use Rattle.rules.specs.Serve.{Ground, setting_of, fitting, respond}
 use Rattle.rules.specs.Places.{schema_of}
 use Rattle.rules.specs.Derived.{Ranked}
 use Rattle.tables.specs.Numbers.{reach_of}
+use Rattle.rules.specs.declared.refusals.Refusal.{Refusal}
 use Rattle.request_sheet.specs.Noted as Requests
 use Rattle.request_sheet.specs.declared.Asked.{Asked}
 use Rattle.permission_sheet.specs.Noted.{Table}
@@ -44,9 +45,9 @@ use Rattle.engine.specs.Judges.{DirectoryAt}
 -- ---- the schema
 
 -- a request judged under a copy of the book's schema is judged under the directory's
-pub judged-under : (f : Format) (q : Bytes) {r : Asked} {d : Bytes} {x : Directory} {book held copy : List ℕ} → DirectoryAt f d x book held → copy ≡ Book.schema book
+pub judged-under : (f : Format) (q : Bytes) (r : Result Asked Refusal) {d : Bytes} {x : Directory} {book held copy : List ℕ} → DirectoryAt f d x book held → copy ≡ Book.schema book
     → Requests.RequestJudged f (schema_of copy) q r → Requests.RequestJudged f x.schema q r
-judged-under f q {r} {x = x} at e j =
+judged-under f q r {x = x} at e j =
     subst (λ (S : Schema). Requests.RequestJudged f S q r) (ap schema_of e ∙ sym (at.entries (setting_of x [] (record { level = 0; name = [] })) refl).schema-is) j
 
 -- ---- the requester

@@ -11,7 +11,7 @@ use Rattle.rules.specs.declared.Format.{Format}
 use Rattle.rules.specs.declared.Limits.{Limits}
 use Rattle.rules.specs.Places.{schema_of}
 use Rattle.permission_sheet.specs.Noted as Permissions
-use Rattle.permission_sheet.specs.declared.NotedItems.{NotedItems}
+use Rattle.permission_sheet.specs.Noted.{NotedItems}
 use Rattle.engine.specs.Serve.{from_ground, from_directory}
 
 module _ (f : Format) (k : Limits) (d p q : Bytes) (room : ℕ) where

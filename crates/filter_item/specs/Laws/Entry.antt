@@ -1,5 +1,5 @@
 -- The rows of an entry are its values: what is found by them is what the rules ask of the entry.
-use Rattle.std.specs.Prelude.{ℕ, suc, ◌+◌, ◌-◌, ◌%◌, ◌≤◌, ◌<◌, ◌≡◌, Bool, true, false, ◌&&◌, ◌||◌, List, [], ◌∷◌, length, get_or}
+use Rattle.std.specs.Prelude.{ℕ, suc, ◌+◌, ◌-◌, ◌%◌, ◌≤◌, ◌<◌, ◌≡◌, Bool, true, false, ◌&&◌, ◌||◌, List, [], ◌∷◌, length, get_or, Some}
 use Rattle.std.proofs.Math.Path.{refl, sym, ap, ap₂}
 use Rattle.std.proofs.Common.{◌∙◌, arith, eq-eqb, ne_eqb, eqb-true}
 use Rattle.std.proofs.Math.Bool.{cond}
@@ -15,7 +15,6 @@ use Rattle.rules.specs.Decision.{Setting, of_type, of_value, granted}
 use Rattle.rules.specs.Filter.{truth}
 use Rattle.rules.specs.FilterItem.{holds, some_value, item_truth}
 use Rattle.rules.proofs.Laws.Held.{holds-flat, some_value-flat}
-use Rattle.rules.specs.declared.Found.TheVariants.{At}
 use Rattle.rules.specs.declared.Truth.{Truth}
 use Rattle.rules.specs.declared.Truth.TheVariants.{Undefined}
 use Rattle.name.specs.Schema.{rank_in, syntax_in}
@@ -126,8 +125,8 @@ module _ (σ : Setting) (es : List Stored) (d : Bytes) (book held : List ℕ) (n
     abbrev syntax : ℕ
     syntax = get_or book (schema_column + place) 0 % 4
 
-    with-syntax : syntax_in (schema book) t ≡ At syntax
-    with-syntax = syntax-known (schema book) t (rw is at known) ∙ ap (λ (i : ℕ). At (get_or (schema book) i 0 % 4)) (sym is) ∙ ap (λ (x : ℕ). At (x % 4)) (type-at book place few)
+    with-syntax : syntax_in (schema book) t ≡ Some syntax
+    with-syntax = syntax-known (schema book) t (rw is at known) ∙ ap (λ (i : ℕ). Some (get_or (schema book) i 0 % 4)) (sym is) ∙ ap (λ (x : ℕ). Some (x % 4)) (type-at book place few)
 
     undecided : (defined_by syntax kind ps v && granted σ (get_or es k blank).name (of_type t) FilterMatch) ≡ false → Undefined ≡ found
     unfolding entry_of

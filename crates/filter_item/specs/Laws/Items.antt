@@ -1,5 +1,5 @@
 -- Laws of `Items`: the rules' item by its numbers, and a law for each way through the code.
-use Rattle.std.specs.Prelude.{ℕ, ◌≡◌, refl, Bool, ◌||◌, not, List, [], ◌∷◌}
+use Rattle.std.specs.Prelude.{ℕ, ◌≡◌, refl, Bool, ◌||◌, not, List, [], ◌∷◌, Some, None}
 use Rattle.std.proofs.Common.{sym, ◌∙◌, true≢false, arith}
 use Rattle.std.proofs.Math.Path.{ap, ap₂, fun_ext}
 use Rattle.std.proofs.Math.Bool.{true, false, ◌&&◌, cond}
@@ -17,7 +17,6 @@ use Rattle.rules.specs.FilterItem.{is_less, asserted_type, holds, some_value, de
 use Rattle.rules.specs.Places.{schema_of}
 use Rattle.rules.proofs.Laws.Tests.{and_left}
 use Rattle.rules.proofs.Laws.Held.{some_value-flat}
-use Rattle.rules.specs.declared.Found.TheVariants.{At, Nothing}
 use Rattle.rules.specs.declared.Truth.TheVariants.{Undefined}
 use Rattle.name.specs.Schema.{syntax_in, equal_by}
 use Rattle.name.specs.Laws.Schema.{by-syntax, known_at, allowed_at_lem, less-at, equal-at}
@@ -54,7 +53,7 @@ module _ (σ : Setting) (ks : List ℕ) (e : σ.schema ≡ schema_of ks) (t : �
   by-found : (test : ℕ → Bool) → of_syntax σ.schema test t ≡ by_found (syntax_in ks t) test
   by-found test = ap (λ (S : Schema). of_syntax S test t) e ∙ by-syntax ks test t
 
-  module _ (s : ℕ) (found : syntax_in ks t ≡ At s) where
+  module _ (s : ℕ) (found : syntax_in ks t ≡ Some s) where
     by-at : (test : ℕ → Bool) → of_syntax σ.schema test t ≡ test s
     by-at test = by-found test ∙ rw found
 
@@ -107,7 +106,7 @@ module _ (σ : Setting) (ks : List ℕ) (e : σ.schema ≡ schema_of ks) (t : �
         go false false false false x y z h = some-cong σ n held t FilterMatch (λ u. of_syntax σ.schema (λ s. contains s ps u) t) (λ u. contains text ps u) (λ u. by-at (λ s. contains s ps u) ∙ ap (λ (s : ℕ). contains s ps u) (text-only ps h))
 
   -- an unknown type
-  module _ (found : syntax_in ks t ≡ Nothing) where
+  module _ (found : syntax_in ks t ≡ None) where
     by-none : (test : ℕ → Bool) → of_syntax σ.schema test t ≡ false
     by-none test = by-found test ∙ rw found
 
@@ -136,11 +135,11 @@ asserted-by k t v ps = go (eqb k 23) (eqb k 24) (eqb k 25) (eqb k 26)
     go false false false false = refl
 
 module _ (σ : Setting) (n : Name) (held : List Part) (ks : List ℕ) (e : σ.schema ≡ schema_of ks) (k t : ℕ) (v : Bytes) (ps : List Piece) where
-  pub item-unknown : syntax_in ks t ≡ Nothing → item_truth σ (record { name = n; held = held_of held }) (assertion_by k t v ps) ≡ Undefined
+  pub item-unknown : syntax_in ks t ≡ None → item_truth σ (record { name = n; held = held_of held }) (assertion_by k t v ps) ≡ Undefined
   unfolding item_truth decidable
   item-unknown found = rw (undefined-unknown σ ks e t found k v ps)
 
-  module _ (s : ℕ) (found : syntax_in ks t ≡ At s) where
+  module _ (s : ℕ) (found : syntax_in ks t ≡ Some s) where
     decidable-by : decidable σ (record { name = n; held = held_of held }) (assertion_by k t v ps) ≡ (defined_by s k ps v && granted σ n (of_type t) FilterMatch)
     unfolding decidable
     decidable-by = ap₂ ◌&&◌ (defined-by σ ks e t s found k v ps) (ap (λ (x : ℕ). granted σ n (of_type x) FilterMatch) (asserted-by k t v ps))

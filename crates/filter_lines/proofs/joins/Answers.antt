@@ -1,4 +1,3 @@
-use borrow.Author.Rules.{rules}
 use Rattle.filter_lines.proofs.joins.Goals as goal
 
 pub returns : goal.returns

@@ -1,6 +1,6 @@
 -- Laws of the pieces of a substrings item, a line at a time: one for each way through a loop over their rows.
 use Prim.Native.Nat.{ℕ, zero, suc, ◌+◌, ◌-◌, ◌≤◌, ◌<◌}
-use Rattle.std.specs.Prelude.{◌≡◌, Bool, not, length, take, drop}
+use Rattle.std.specs.Prelude.{◌≡◌, Bool, not, length, take, drop, Some, None}
 use Rattle.std.proofs.Math.Path.{refl, sym, ap}
 use Rattle.std.proofs.Common.{◌∙◌, length-take}
 use Rattle.std.proofs.Math.Bool.{true, false, cond}
@@ -22,7 +22,6 @@ use Rattle.value_blank.specs.Laws.Text.{text-bytes}
 use Rattle.tables.specs.FilterLines.{pieces_of, after_lines}
 use Rattle.filter_lines.specs.Lines.{LinesNoted, position_at, column_a, value_place, next_position, line_value, pieces_in, pieces_stand, lesser}
 use Rattle.filter_lines.specs.Laws.Lines.{row-lines}
-use Rattle.rules.specs.declared.Found.TheVariants.{At, Nothing}
 
 pub not-true : (b : Bool) → not b ≡ true → b ≡ false
 not-true true e = sym e
@@ -94,6 +93,18 @@ lesser-on (suc n) lines j h l =
     let y : suc n - 1 ≡ n = omega arith in
     rw (z, y)
 
+pub lesser-first : (n m : ℕ) → n ≤ m → lesser n m ≡ n
+unfolding lesser
+lesser-first zero m h = refl
+lesser-first (suc n) zero h = absurd (omega (arith, h))
+lesser-first (suc n) (suc m) h = ap suc (lesser-first n m (omega (arith, h)))
+
+pub lesser-second : (n m : ℕ) → m ≤ n → lesser n m ≡ m
+unfolding lesser
+lesser-second zero m h = omega (arith, h)
+lesser-second (suc n) zero h = refl
+lesser-second (suc n) (suc m) h = ap suc (lesser-second n m (omega (arith, h)))
+
 -- ---- row by row
 
 pub value-short : (q : Bytes) (rows : List ℕ) (k : ℕ) → next_position rows k ≤ value_place rows k + 65 → length (line_value q rows k) ≤ 64
@@ -116,6 +127,16 @@ module _ (q : Bytes) (rows : List ℕ) (lines : ℕ) where
     pub from_on : j < lines → 0 < n → (v : Bytes) → v ≡ line_value q rows j → pieces_from j n ≡ record { place = column_a rows j; bytes = v } ∷ pieces_from (j + 1) (n - 1)
     unfolding pieces_in
     from_on l m v e = rw (lesser-on n lines j l m, e)
+
+  -- the same up to the line `last`
+  module _ (j last : ℕ) where
+    pub span-on : j < last → (v : Bytes) → v ≡ line_value q rows j → pieces_in q rows j (last - j) ≡ record { place = column_a rows j; bytes = v } ∷ pieces_in q rows (j + 1) (last - (j + 1))
+    unfolding pieces_in
+    span-on l v e = let z : last - j ≡ suc (last - (j + 1)) = omega (arith, l) in rw (z, e)
+
+    pub span_end : last ≤ j → pieces_in q rows j (last - j) ≡ []
+    unfolding pieces_in
+    span_end l = let z : last - j ≡ 0 = omega (arith, l) in rw z
 
 -- all pieces fit
 abbrev pub all_fit : ℕ → List Piece → Bool
@@ -147,10 +168,10 @@ unfolding matches
 stand-none v from e = rw e
 
 module _ (v : Bytes) (from : ℕ) {ps : List Piece} (p : Piece) (rest : List Piece) (e : ps ≡ p ∷ rest) where
-  pub stand-lost : used p.place (normal_piece text p.bytes) (drop from (folded text v)) ≡ Nothing → stand_from v from ps ≡ false
+  pub stand-lost : used p.place (normal_piece text p.bytes) (drop from (folded text v)) ≡ None → stand_from v from ps ≡ false
   stand-lost f = ap (stand_from v from) e ∙ matches-off (compared text p) (map (compared text) rest) (folded text v) from f
 
-  pub stand-on : (x : ℕ) → used p.place (normal_piece text p.bytes) (drop from (folded text v)) ≡ At x → stand_from v from ps ≡ stand_from v (from + x) rest
+  pub stand-on : (x : ℕ) → used p.place (normal_piece text p.bytes) (drop from (folded text v)) ≡ Some x → stand_from v from ps ≡ stand_from v (from + x) rest
   stand-on x f = ap (stand_from v from) e ∙ matches-on (compared text p) (map (compared text) rest) (folded text v) from x f
 
 module _ {w : ℕ} {q : Bytes} {rows : List ℕ} {lines : ℕ} (h : LinesNoted w q rows lines) where

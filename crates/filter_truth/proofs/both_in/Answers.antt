@@ -1,5 +1,4 @@
 -- By the edition.
-use borrow.Author.Rules.{rules}
 use Rattle.filter_truth.proofs.both_in.Goals as goal
 
 pub returns-in-LaterLogic : goal.returns-in-LaterLogic

@@ -1,4 +1,3 @@
-use borrow.Author.Rules.{rules}
 use Rattle.filter_truth.proofs.joined.Goals as goal
 
 pub returns-then-conjunction : goal.returns-then-conjunction

@@ -1,5 +1,4 @@
 -- By the edition, then by the number of parts.
-use borrow.Author.Rules.{rules}
 use Rattle.filter_truth.specs.Laws.{start-some}
 use Rattle.filter_truth.proofs.start.Goals as goal
 

@@ -2,12 +2,12 @@ use mathlib.Core.Path.{sym, ◌∙◌}
 use Rattle.name.specs.Laws.Schema.{ordered_at, ordered-none}
 use Rattle.name.proofs.ordered.Goals as goal
 
-pub returns-in-At : goal.returns-in-At
-returns-in-At c =
+pub returns-in-Some : goal.returns-in-Some
+returns-in-Some c =
     let a = c.args in
-    c.ordered.ensures ∙ sym (ordered_at a.schema.now a.t c.in-At.s (sym c.syntax_of.ensures ∙ c.in-At.is))
+    c.ordered.ensures ∙ sym (ordered_at a.schema.now a.t c.in-Some.s (sym c.syntax_of.ensures ∙ c.in-Some.is))
 
-pub returns-in-Nothing : goal.returns-in-Nothing
-returns-in-Nothing c =
+pub returns-in-None : goal.returns-in-None
+returns-in-None c =
     let a = c.args in
-    sym (ordered-none a.schema.now a.t (sym c.syntax_of.ensures ∙ c.in-Nothing.is))
+    sym (ordered-none a.schema.now a.t (sym c.syntax_of.ensures ∙ c.in-None.is))

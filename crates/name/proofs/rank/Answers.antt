@@ -22,4 +22,4 @@ loop-i-preserved c =
 pub returns : goal.returns
 returns c =
     let A = c.args in
-    omega (arith, c.loop-i.invariant, c.loop-i-test.false, rank_most A.schema.now A.t)
+    omega (arith, c.loop-i.invariant, c.loop-i-test.false, c.loop-i.auto.i-end (omega (arith, c.requires, rank_most A.schema.now A.t)), rank_most A.schema.now A.t)

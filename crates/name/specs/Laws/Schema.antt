@@ -1,5 +1,5 @@
 -- Laws of `Schema`: what the rules ask of a type, by its rank and by the syntax found.
-use Rattle.std.specs.Prelude.{ℕ, zero, suc, ◌/◌, ◌%◌, ◌<◌, ◌≤◌, ◌≡◌, Bool, ◌&&◌, cond, List, [], ◌∷◌, eqb, ltb, length, get_or}
+use Rattle.std.specs.Prelude.{ℕ, zero, suc, ◌/◌, ◌%◌, ◌<◌, ◌≤◌, ◌≡◌, Bool, ◌&&◌, cond, List, [], ◌∷◌, eqb, ltb, length, get_or, Some, None}
 use Rattle.std.proofs.Math.Path.{refl}
 use Rattle.std.proofs.Common.{sym, ◌∙◌, le_of_suc-le-suc, not-suc-le-zero, arith, eq-eqb, eqb-true, lt-ltb, le-ltb, ltb-true}
 use Rattle.std.proofs.Math.Bool.{true, false}
@@ -12,7 +12,6 @@ use Rattle.rules.specs.Name.{AttributeType, Schema, by_syntax, of_syntax, known,
 use Rattle.rules.specs.FilterItem.{is_less}
 use Rattle.rules.proofs.Laws.Tests.{and_left, and_right}
 use Rattle.rules.specs.Places.{attribute_of, schema_of}
-use Rattle.rules.specs.declared.Found.TheVariants.{At, Nothing}
 use Rattle.name.specs.Schema.{Rising, rank_in, syntax_in, allowed_at, equal_by}
 
 -- ---- the rank
@@ -73,11 +72,11 @@ rank_rises n (k ∷ ks) rising t u h l = go (eqb (k / 4) t) (eqb (k / 4) u) refl
 -- ---- the syntax, by the rank
 
 module _ (ks : List ℕ) (t : ℕ) where
-  pub syntax-known : rank_in ks t < length ks → syntax_in ks t ≡ At (get_or ks (rank_in ks t) 0 % 4)
+  pub syntax-known : rank_in ks t < length ks → syntax_in ks t ≡ Some (get_or ks (rank_in ks t) 0 % 4)
   unfolding syntax_in
   syntax-known h = rw (lt-ltb (rank_in ks t) (length ks) h)
 
-  pub syntax-unknown : length ks ≤ rank_in ks t → syntax_in ks t ≡ Nothing
+  pub syntax-unknown : length ks ≤ rank_in ks t → syntax_in ks t ≡ None
   unfolding syntax_in
   syntax-unknown h = rw (le-ltb (rank_in ks t) (length ks) h)
 
@@ -90,7 +89,7 @@ by-syntax (k ∷ ks) test t = go (eqb (k / 4) t) (by-syntax ks test t)
   where
     go : (b : Bool) → of_syntax (schema_of ks) test t ≡ by_found (syntax_in ks t) test
         → by_syntax test (first_or b (attribute_of k) (first (λ x. eqb x.number t) (schema_of ks)))
-        ≡ by_found (cond (ltb (cond b 0 (suc (rank_in ks t))) (suc (length ks))) (At (get_or (k ∷ ks) (cond b 0 (suc (rank_in ks t))) 0 % 4)) Nothing) test
+        ≡ by_found (cond (ltb (cond b 0 (suc (rank_in ks t))) (suc (length ks))) (Some (get_or (k ∷ ks) (cond b 0 (suc (rank_in ks t))) 0 % 4)) None) test
     go true ih = rw (lt-ltb 0 (suc (length ks)) (omega arith))
     go false ih = rw (leb-suc-suc (suc (rank_in ks t)) (length ks)) ih
 
@@ -104,7 +103,7 @@ less_by S t v u = go (first (λ k. eqb k.number t) S)
     go (some k) = refl
 
 module _ (ks : List ℕ) (t : ℕ) where
-  module _ (s : ℕ) (e : syntax_in ks t ≡ At s) where
+  module _ (s : ℕ) (e : syntax_in ks t ≡ Some s) where
     pub known_at : known (schema_of ks) t ≡ true
     unfolding known
     known_at = by-syntax ks (λ s. true) t ∙ rw e
@@ -123,7 +122,7 @@ module _ (ks : List ℕ) (t : ℕ) where
     unfolding equal equal_by
     equal-at v u = by-syntax ks (λ s. fits s v && (fits s u && same s v u)) t ∙ rw e
 
-  module _ (e : syntax_in ks t ≡ Nothing) where
+  module _ (e : syntax_in ks t ≡ None) where
     pub known-none : known (schema_of ks) t ≡ false
     unfolding known
     known-none = by-syntax ks (λ s. true) t ∙ rw e
@@ -146,7 +145,7 @@ pub allowed-ranked : (ks : List ℕ) (t : ℕ) (v : Bytes) → allowed_at ks (ra
 unfolding allowed_at allowed syntax_in
 allowed-ranked ks t v = go (ltb (rank_in ks t) (length ks)) ∙ sym (by-syntax ks (λ s. fits s v) t)
   where
-    go : (b : Bool) → (b && fits (get_or ks (rank_in ks t) 0 % 4) v) ≡ by_found (cond b (At (get_or ks (rank_in ks t) 0 % 4)) Nothing) (λ s. fits s v)
+    go : (b : Bool) → (b && fits (get_or ks (rank_in ks t) 0 % 4) v) ≡ by_found (cond b (Some (get_or ks (rank_in ks t) 0 % 4)) None) (λ s. fits s v)
     go true = refl
     go false = refl
 

@@ -1,6 +1,6 @@
 -- Laws of `Item`: what lines that were taken tell, and that the item is the one which the rules give.
-use Rattle.std.specs.Prelude.{ℕ, ◌+◌, ◌≤◌, ◌<◌, ◌≡◌, List, length}
-use Rattle.std.proofs.Common.{sym, ap, ◌∙◌, arith}
+use Rattle.std.specs.Prelude.{ℕ, ◌+◌, ◌≤◌, ◌<◌, ◌≡◌, List, length, Result, Ok}
+use Rattle.std.proofs.Common.{sym, ap, ◌∙◌, subst, arith}
 use Rattle.std.specs.Borrow.{Bor}
 use Rattle.rules.specs.Sheet.{Bytes, Sheet}
 use Rattle.rules.specs.Name.{Schema}
@@ -8,15 +8,17 @@ use Rattle.rules.specs.Judge.{Verdict, Grammar}
 use Rattle.rules.specs.Permission.{Item, item, permission_grammar}
 use Rattle.rules.specs.Places.{lines_at, parts_of}
 use Rattle.rules.specs.declared.Format.{Format}
+use Rattle.rules.specs.Refusals.{refusal_number}
+use Rattle.rules.specs.declared.refusals.Refusal.{Refusal}
 use Rattle.sheet_due.specs.Lines.{reached_at, after_due, after_group}
 use Rattle.sheet_due.specs.Laws.Lines.{after, due-is, group-is, first-parts, Took, took, took-columns, took-further, TookGroup, took-group, followers, name-length}
-use Rattle.sheet_due.specs.declared.Due.{Due}
-use Rattle.sheet_due.specs.declared.Group.{Group}
-use Rattle.sheet_due.specs.declared.Reached.{Reached}
-use Rattle.sheet_reader.specs.Advances.{reader_at, due_advance, group_advance}
+use Rattle.rules.proofs.Laws.Refusals.{refusal-some}
+use Rattle.sheet_due.specs.Laws.Outcomes.{due-stays, group-stays}
+use Rattle.sheet_due.specs.Outcomes.{Due, Group, Reached, Gives}
+use Rattle.sheet_reader.specs.Advances.{Advance, Reads, reader_at, due_advance, group_advance}
 use Rattle.sheet_reader.specs.declared.Reader.{Reader}
-use Rattle.sheet_reader.specs.declared.Advance.{Advance}
-use Rattle.permission_item.specs.Item.{head_at, base_at, user_at, target_at, mask_at, item_lines, item_of}
+use Rattle.sheet_reader.specs.declared.Advance as Code
+use Rattle.permission_item.specs.Item.{head_at, base_at, user_at, target_at, mask_at, item_refusal, item_lines, item_of}
 use Rattle.permission_item.specs.Laws.Bounds.{head-bounds, base-bounds, user-bounds, target-bounds, mask-bounds}
 use Rattle.permission_item.specs.declared.ItemLines.{ItemLines}
 
@@ -38,14 +40,6 @@ pub record TookItem (f : Format) (p : Bytes) (i : ItemLines) : Type 0 where
   pub value-length : i.target.length ≤ 64
   pub value-within : i.target.place + i.target.length ≤ length p
   pub permissions : (1 ≤ i.mask.a) × (i.mask.a ≤ 63)
-
--- the lines as a reader goes through them
-pub lines_are : (f : Format) (s : Bor (List ℕ)) (S : Schema) (at : ℕ) {r : Reader} {x y z t m : Advance} → let G = permission_grammar f.top S in let w = f.width in
-    r ≡ reader_at s at → x ≡ due_advance G w r 0 4 → y ≡ group_advance G w x.rest x.refusal 5 9 → z ≡ group_advance G w y.rest y.refusal 6 9
-    → t ≡ due_advance G w z.rest z.refusal 7 → m ≡ due_advance G w t.rest t.refusal 8
-    → record { refusal = m.refusal; head = x.line; base = y.line; user = z.line; target = t.line; mask = m.line } ≡ item_lines f s.now S at
-unfolding item_lines
-lines_are f s S at er ex ey ez et em = rw (em, et, ez, ey, ex, er)
 
 module _ (f : Format) (p : Bytes) (S : Schema) (at : ℕ) where
   abbrev G : Grammar
@@ -71,8 +65,8 @@ module _ (f : Format) (p : Bytes) (S : Schema) (at : ℕ) where
 
   -- an item that is due
   pub item-is : {A : Type 0} (next : Item → Sheet → Verdict A) → let i = item_lines f p S at in
-      item f.top S (lines_at w p at) next ≡ after i.refusal (next (item_of w p i) (lines_at w p i.mask.next))
-  unfolding item_lines item item_of
+      item f.top S (lines_at w p at) next ≡ after (item_refusal f p S at) (next (item_of w p i) (lines_at w p i.mask.next))
+  unfolding item_refusal item_lines item item_of
   item-is next =
       due-is G w p (reached_at at) 4 _
       ∙ group-is G w p (after_due x) 5 9 _
@@ -81,10 +75,28 @@ module _ (f : Format) (p : Bytes) (S : Schema) (at : ℕ) where
       ∙ due-is G w p (after_due t) 8 _
       ∙ rw (first-parts y.line.b (lines_at w p y.line.next), first-parts z.line.b (lines_at w p z.line.next))
 
+  -- the first refusal is the item's
+  module _ (r : Refusal) where
+    pub mask-refused : refusal_number r ≡ m.refusal → refusal_number r ≡ item_refusal f p S at
+    unfolding item_refusal
+    mask-refused e = e
+
+    pub target-refused : refusal_number r ≡ t.refusal → refusal_number r ≡ item_refusal f p S at
+    target-refused e = mask-refused (e ∙ sym (due-stays G w p (after_due t) 8 (λ n. refusal-some r (e ∙ n))))
+
+    pub user-refused : refusal_number r ≡ z.refusal → refusal_number r ≡ item_refusal f p S at
+    user-refused e = target-refused (e ∙ sym (due-stays G w p (after_group z) 7 (λ n. refusal-some r (e ∙ n))))
+
+    pub base-refused : refusal_number r ≡ y.refusal → refusal_number r ≡ item_refusal f p S at
+    base-refused e = user-refused (e ∙ sym (group-stays G w p (after_group y) 6 9 (λ n. refusal-some r (e ∙ n))))
+
+    pub head-refused : refusal_number r ≡ x.refusal → refusal_number r ≡ item_refusal f p S at
+    head-refused e = base-refused (e ∙ sym (group-stays G w p (after_due x) 5 9 (λ n. refusal-some r (e ∙ n))))
+
   -- all lines were taken
-  module _ (h : (item_lines f p S at).refusal ≡ 0) where
+  module _ (h : item_refusal f p S at ≡ 0) where
     took-m : Took G w p (after_due t) 8 m.line
-    unfolding item_lines
+    unfolding item_refusal
     took-m = took G w p (after_due t) 8 h
 
     took-t : Took G w p (after_group z) 7 t.line
@@ -139,3 +151,38 @@ module _ (f : Format) (p : Bytes) (S : Schema) (at : ℕ) where
     pub item-within : (item_lines f p S at).mask.next ≤ length p
     unfolding item_lines
     item-within = took-m.stands.fits.within
+
+-- the lines as a reader goes through them
+module _ (f : Format) (s : Bor (List ℕ)) (S : Schema) (at : ℕ) where
+  -- the reader after a line, and after a group
+  abbrev pub past_due : Due → Advance
+  past_due d = record { refusal = d.refusal; line = d.line; rest = reader_at s d.line.next }
+
+  abbrev pub past_group : Group → Advance
+  past_group g = record { refusal = g.refusal; line = g.line; rest = reader_at s g.next }
+
+  pub head-read : (R : Result Code.Advance Refusal) {r : Reader} → r ≡ reader_at s at → Reads R (due_advance (G f s.now S at) (w f s.now S at) r 0 4) → Reads R (past_due (head_at f s.now S at))
+  head-read R e q = subst (λ (r : Reader). Reads R (due_advance (G f s.now S at) (w f s.now S at) r 0 4)) e q
+
+  pub base-read : (R : Result Code.Advance Refusal) (x : Code.Advance) → Reads (Ok x) (past_due (head_at f s.now S at))
+      → Reads R (group_advance (G f s.now S at) (w f s.now S at) x.rest 0 5 9) → Reads R (past_group (base_at f s.now S at))
+  base-read R x h q = rw h.0 (rw h.1 at q)
+
+  pub user-read : (R : Result Code.Advance Refusal) (y : Code.Advance) → Reads (Ok y) (past_group (base_at f s.now S at))
+      → Reads R (group_advance (G f s.now S at) (w f s.now S at) y.rest 0 6 9) → Reads R (past_group (user_at f s.now S at))
+  user-read R y h q = rw h.0 (rw h.1 at q)
+
+  pub target-read : (R : Result Code.Advance Refusal) (z : Code.Advance) → Reads (Ok z) (past_group (user_at f s.now S at))
+      → Reads R (due_advance (G f s.now S at) (w f s.now S at) z.rest 0 7) → Reads R (past_due (target_at f s.now S at))
+  target-read R z h q = rw h.0 (rw h.1 at q)
+
+  pub mask-read : (R : Result Code.Advance Refusal) (t : Code.Advance) → Reads (Ok t) (past_due (target_at f s.now S at))
+      → Reads R (due_advance (G f s.now S at) (w f s.now S at) t.rest 0 8) → Reads R (past_due (mask_at f s.now S at))
+  mask-read R t h q = rw h.0 (rw h.1 at q)
+
+  -- all were taken
+  pub lines-read : (x y z t m : Code.Advance) → Reads (Ok x) (past_due (head_at f s.now S at)) → Reads (Ok y) (past_group (base_at f s.now S at))
+      → Reads (Ok z) (past_group (user_at f s.now S at)) → Reads (Ok t) (past_due (target_at f s.now S at)) → Reads (Ok m) (past_due (mask_at f s.now S at))
+      → Gives {A = ItemLines} (Ok (record { head = x.line; base = y.line; user = z.line; target = t.line; mask = m.line })) (item_refusal f s.now S at) (item_lines f s.now S at)
+  unfolding item_refusal item_lines
+  lines-read x y z t m hx hy hz ht hm = (hm.0, rw (hx.1, hy.1, hz.1, ht.1, hm.1))

@@ -1,21 +1,15 @@
 -- By the line that begins an item, where one is due.
-use mathlib.Core.Path.{ap, ◌∙◌}
+use mathlib.Core.Path.{refl, ◌∙◌}
 use Rattle.rules.specs.Places.{schema_of}
-use Rattle.rules.specs.Permission.{permission_grammar}
-use Rattle.sheet_due.specs.declared.Reached.{Reached}
-use Rattle.sheet_due.specs.Lines.{due_at}
+use Rattle.rules.proofs.Laws.Refusals.{refusal-some}
 use Rattle.permission_sheet.specs.Laws.Misplaced.{misplaced-refused, misplaced-item}
-use borrow.Author.Rules.{rules}
 use Rattle.permission_sheet.proofs.misplaced_at.Goals as goal
 
-pub returns-then-due-ne0 : goal.returns-then-due-ne0
-returns-then-due-ne0 c =
-    let A = c.args in
-    misplaced-refused A.f.top (schema_of A.schema.now) A.f.width A.p.now A.at
-    (c.due_at-due.ensures ∙ ap (λ (r : Reached). due_at (permission_grammar A.f.top (schema_of A.schema.now)) A.f.width A.p.now r 4) c.reached_at.ensures) c.if-due-ne0.true
+pub returns-in-Ok : goal.returns-in-Ok
+returns-in-Ok c = let A = c.args in misplaced-item A.f.top (schema_of A.schema.now) A.f.width A.p.now A.at refl c.in-Ok.ensures.0
 
-pub returns : goal.returns
-returns c =
+pub returns-in-Err : goal.returns-in-Err
+returns-in-Err c =
     let A = c.args in
-    misplaced-item A.f.top (schema_of A.schema.now) A.f.width A.p.now A.at
-    (c.due_at-due.ensures ∙ ap (λ (r : Reached). due_at (permission_grammar A.f.top (schema_of A.schema.now)) A.f.width A.p.now r 4) c.reached_at.ensures) c.if-due-ne0.false
+    let e = c.in-Err.ensures in
+    e ∙ misplaced-refused A.f.top (schema_of A.schema.now) A.f.width A.p.now A.at refl (λ z. refusal-some c.in-Err.refusal (e ∙ z))

@@ -1,13 +1,12 @@
 -- The end of a sheet, where items are due: it is behind the last byte, and nowhere before.
-use Rattle.std.specs.Prelude.{ℕ, ◌+◌, ◌*◌, ◌≤◌, ◌<◌, ◌≡◌, refl, Bool, true, false, cond, eqb, ltb, leb, length, get_or, drop}
+use Rattle.std.specs.Prelude.{ℕ, ◌+◌, ◌*◌, ◌≤◌, ◌<◌, ◌≡◌, refl, Bool, true, false, cond, eqb, ltb, leb, length, get_or, drop, Some, None}
 use Rattle.std.proofs.Common.{sym, ◌∙◌, arith, length-drop}
 use Rattle.std.proofs.Math.Decide.{dec_lt}
 use Rattle.rules.specs.Sheet.{Bytes, whole, front_of}
 use Rattle.rules.specs.Judge.{Verdict, accept, at_end}
 use Rattle.rules.specs.Places.{lines_at}
 use Rattle.rules.proofs.Laws.Sheet.{front-short, front-whole, front-past, lines-taken, lines-broken, lines_end}
-use Rattle.rules.specs.declared.Column.{Column}
-use Rattle.rules.specs.declared.Column.TheVariants.{Number, Malformed}
+use Rattle.rules.specs.Sheet.{Column}
 use Rattle.rules.specs.declared.Front.{Front}
 use Rattle.rules.specs.declared.Front.TheVariants.{Taken, NotInForm, End}
 
@@ -16,12 +15,12 @@ not-malformed e = let z : ◌≡◌ {A = ℕ} 0 1 = cc in omega arith
 
 whole_open : (w : ℕ) (s : Bytes) (f₀ f₁ f₂ f₃ f₄ : Column) → whole w s f₀ f₁ f₂ f₃ f₄ ≡ End → ⊥
 unfolding whole
-whole_open w s Malformed f₁ f₂ f₃ f₄ e = not-malformed e
-whole_open w s (Number k) Malformed f₂ f₃ f₄ e = not-malformed e
-whole_open w s (Number k) (Number a) Malformed f₃ f₄ e = not-malformed e
-whole_open w s (Number k) (Number a) (Number b) Malformed f₄ e = not-malformed e
-whole_open w s (Number k) (Number a) (Number b) (Number c) Malformed e = not-malformed e
-whole_open w s (Number k) (Number a) (Number b) (Number c) (Number l) e = go (leb l 64) (ltb (5 * w + l) (length s)) (eqb (get_or s (5 * w + l) 0) 10) e
+whole_open w s None f₁ f₂ f₃ f₄ e = not-malformed e
+whole_open w s (Some k) None f₂ f₃ f₄ e = not-malformed e
+whole_open w s (Some k) (Some a) None f₃ f₄ e = not-malformed e
+whole_open w s (Some k) (Some a) (Some b) None f₄ e = not-malformed e
+whole_open w s (Some k) (Some a) (Some b) (Some c) None e = not-malformed e
+whole_open w s (Some k) (Some a) (Some b) (Some c) (Some l) e = go (leb l 64) (ltb (5 * w + l) (length s)) (eqb (get_or s (5 * w + l) 0) 10) e
   where
     go : (t₁ t₂ t₃ : Bool) → cond t₁ (cond t₂ (cond t₃ (Taken k a b c l) NotInForm) NotInForm) NotInForm ≡ End → ⊥
     go true true true e = let z : ◌≡◌ {A = ℕ} 0 1 = cc in omega arith

@@ -13,19 +13,18 @@ use Rattle.rules.specs.Judge.{Verdict, accept, refuse, refusal_of}
 use Rattle.rules.specs.Permission.{Item, permission_grammar, item, items, permissions_of}
 use Rattle.rules.specs.Places.{lines_at, parts_of, schema_of}
 use Rattle.rules.proofs.Laws.Judge.{refused-not, accepted-is}
-use Rattle.permission_sheet.specs.Noted.{ALL-RIGHTS, ALL-SCOPES, PermissionsJudged, PermissionsNoted, Table, FirstItems, ItemRow, items_refused}
+use Rattle.permission_sheet.specs.Noted.{ALL-RIGHTS, ALL-SCOPES, PermissionsJudged, PermissionsNoted, Table, FirstItems, ItemRow, NotedItems, items_refused}
 use Rattle.rules.specs.Columns.{permission_forms}
 use Rattle.rules.specs.Derived.{no_item, put_at}
 use Rattle.sheet_due.specs.Lines.{seen_at, misplaced_by, no_line}
 use Rattle.sheet_due.specs.Laws.Lines.{after, misplaced-at, misplaced-some}
-use Rattle.permission_item.specs.Item.{item_lines, item_of}
+use Rattle.permission_item.specs.Item.{item_refusal, item_lines, item_of}
 use Rattle.permission_item.specs.Laws.Item.{item-is, TookItem, took-item, item-further, item-within}
 use Rattle.permission_sheet.specs.Rows.{rights_row, scopes_row}
 use Rattle.permission_sheet.specs.Laws.End.{not-at-end, at-end}
 use Rattle.permission_sheet.specs.Laws.Rows.{filled, filled_none, filled-length, filled-rest, filled_more, filled_at}
 use Rattle.permission_sheet.specs.Laws.ItemRows.{rights-long, scopes_long, row_is}
 use Rattle.permission_item.specs.declared.ItemLines.{ItemLines}
-use Rattle.permission_sheet.specs.declared.NotedItems.{NotedItems}
 
 abbrev rights_of : Bytes → List ItemLines → List ℕ
 rights_of p its = filled (rights_row p) 8 (rights-long p) 256 its
@@ -35,7 +34,7 @@ scopes_of its = filled scopes_row 7 scopes_long 256 its
 
 -- no lines
 abbrev none : ItemLines
-none = record { refusal = 0; head = no_line; base = no_line; user = no_line; target = no_line; mask = no_line }
+none = record { head = no_line; base = no_line; user = no_line; target = no_line; mask = no_line }
 
 -- `count` items before the position `at`, noted in the two arrays
 pub record ItemsRead (f : Format) (p : Bytes) (S : Schema) (count at : ℕ) (rights scopes : List ℕ) : Type 0 where
@@ -96,17 +95,14 @@ module _ {f : Format} {p : Bytes} {S : Schema} {count at : ℕ} {rights scopes :
 
     -- the item here decides
     items-by : items f.top S 256 [] (lines w p)
-        ≡ after i.refusal (items f.top S (256 - (length s.its + 1)) (map (item_of w p) s.its ++ (item_of w p i ∷ [])) (lines_at w p i.mask.next))
+        ≡ after (item_refusal f p S at) (items f.top S (256 - (length s.its + 1)) (map (item_of w p) s.its ++ (item_of w p i ∷ [])) (lines_at w p i.mask.next))
     items-by = rw n.is (sym s.from ∙ items-on ∙ item-is f p S at _)
 
     -- a refusal
-    item_refused : (i.refusal ≡ 0 → ⊥) → items f.top S 256 [] (lines w p) ≡ refuse i.refusal
-    item_refused z = items-by ∙ rw (ne_eqb i.refusal 0 z)
+    item_refused : (item_refusal f p S at ≡ 0 → ⊥) → items f.top S 256 [] (lines w p) ≡ refuse (item_refusal f p S at)
+    item_refused z = items-by ∙ rw (ne_eqb (item_refusal f p S at) 0 z)
 
-    module _ (z : i.refusal ≡ 0) where
-      taken : (item_lines f p S at).refusal ≡ 0
-      taken = rw (← n.is) z
-
+    module _ (taken : item_refusal f p S at ≡ 0) where
       pub item-small : i.head.a ≤ 255
       item-small = rw n.is (took-item f p S at taken).precedence
 
@@ -129,7 +125,7 @@ module _ {f : Format} {p : Bytes} {S : Schema} {count at : ℕ} {rights scopes :
             took = each_more (TookItem f p) none s.its i s.took (rw n.is (took-item f p S at taken));
             rights-are = er ∙ rw (s.rights-are, s.counted) (filled_more (rights_row p) 8 (rights-long p) 256 s.its i (omega (arith, s.counted, n.room)));
             scopes-are = es ∙ rw (s.scopes-are, s.counted) (filled_more scopes_row 7 scopes_long 256 s.its i (omega (arith, s.counted, n.room)));
-            from = rw (l, map-append (item_of w p) s.its (i ∷ [])) (sym (items-by ∙ rw (eq-eqb i.refusal 0 z)));
+            from = rw (l, map-append (item_of w p) s.its (i ∷ [])) (sym (items-by ∙ rw (eq-eqb (item_refusal f p S at) 0 taken)));
           }
 
   -- over the count
@@ -221,5 +217,6 @@ module _ (f : Format) (p : Bytes) (schema : List ℕ) where
       judged-over g l e = rw e (judged-refused (reading-begun s) (by-items (items-over s g l)) (misplaced-some 10 (seen_at (permission_forms f.top) f.width p at)))
 
       -- at an item that is refused
-      pub judged-item : {i : ItemLines} → ItemAhead f p (schema_of schema) count at i → (i.refusal ≡ 0 → ⊥) → PermissionsJudged f p schema (items_refused i.refusal) rights scopes
+      pub judged-item : {i : ItemLines} → ItemAhead f p (schema_of schema) count at i → (item_refusal f p (schema_of schema) at ≡ 0 → ⊥)
+          → PermissionsJudged f p schema (items_refused (item_refusal f p (schema_of schema) at)) rights scopes
       judged-item n z = judged-refused (reading-begun s) (by-items (item_refused s n z)) z

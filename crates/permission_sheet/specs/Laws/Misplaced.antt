@@ -8,8 +8,7 @@ use Rattle.rules.specs.Permission.{sound_item, permission_grammar}
 use Rattle.sheet_line.specs.Line.{line_of}
 use Rattle.sheet_line.specs.declared.Line.{Line}
 use Rattle.sheet_due.specs.declared.Seen.{Seen}
-use Rattle.sheet_due.specs.declared.Seen.TheVariants as Seen
-use Rattle.sheet_due.specs.declared.Due.{Due}
+use Rattle.sheet_due.specs.Outcomes.{Due}
 use Rattle.sheet_due.specs.Lines.{seen_at, misplaced_by, reached_at, not_due, found_due, due_by, due_at}
 
 -- a refusal, or 13 where there is none

@@ -4,8 +4,8 @@ use mathlib.Core.Path.{◌≡◌, refl, sym, ap, ◌∙◌}
 use mathlib.Core.Bool.{false}
 use lib.Dec.{eqb}
 use borrow.Author.Tests.{ne_eqb}
+use Rattle.std.proofs.lemmas.Result.{err_from_is_err_and}
 use Rattle.sheet_kind.specs.declared.Kind.{Kind}
-use Rattle.sheet_kind.specs.declared.Kind.TheVariants as Kind
 use Rattle.sheet_kind.specs.Kinds.{kind_of}
 use Rattle.sheet_kind.specs.Laws.Kinds.{kind-is}
 use Rattle.request_filter.specs.Filters.{node_of}
@@ -43,9 +43,15 @@ pub returns-in-Present : goal.returns-in-Present
 unfolding node_of
 returns-in-Present c = rw (kind-is c.args.line.kind refl (sym c.kind_of.ensures ∙ c.in-Present.is))
 
-pub returns-in-Substrings : goal.returns-in-Substrings
+pub returns-in_err-pieces-in-Substrings : goal.returns-in_err-pieces-in-Substrings
 unfolding node_of
-returns-in-Substrings c = rw (kind-is c.args.line.kind refl (sym c.kind_of.ensures ∙ c.in-Substrings.is), ← c.pieces_at.ensures) c.item_of.ensures
+returns-in_err-pieces-in-Substrings c =
+    let p = err_from_is_err_and c.from_residual.result c.from_residual.ensures.1 in
+    rw (p.1, p.2, kind-is c.args.line.kind refl (sym c.kind_of.ensures ∙ c.in-Substrings.is), ← c.in_err-pieces-in-Substrings.ensures)
+
+pub returns-in_ok-pieces-in-Substrings : goal.returns-in_ok-pieces-in-Substrings
+unfolding node_of
+returns-in_ok-pieces-in-Substrings c = rw (kind-is c.args.line.kind refl (sym c.kind_of.ensures ∙ c.in-Substrings.is), ← c.in_ok-pieces-in-Substrings.ensures)
 
 pub returns-in_default : goal.returns-in_default
 unfolding node_of kind_of

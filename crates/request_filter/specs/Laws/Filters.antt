@@ -16,11 +16,9 @@ use Rattle.sheet_line.specs.declared.Line.{Line}
 use Rattle.sheet_due.specs.Lines.{seen_at, misplaced_by}
 use Rattle.sheet_due.specs.Laws.Lines.{on_seen, misplaced-some, misplaced-at}
 use Rattle.sheet_due.specs.declared.Seen.{Seen}
-use Rattle.sheet_due.specs.declared.Seen.TheVariants as Seen
-use Rattle.request_piece.specs.declared.Progress.{Progress}
-use Rattle.request_piece.specs.declared.Progress.TheVariants as Progress
-use Rattle.request_piece.specs.declared.Progress.TheVariants.{Read}
-use Rattle.request_filter.specs.declared.Node.{Node}
+use Rattle.request_piece.specs.Progress.{Progress}
+use Rattle.request_piece.specs.Progress.{Read}
+use Rattle.request_filter.specs.Node.{Node}
 use Rattle.request_filter.specs.Filters.{by_node, filter_at, item_node, node_at, node_by, node_of, parts_at}
 
 -- ---- one turn of a loop

@@ -1,7 +1,7 @@
 -- By the operation.
+use mathlib.Core.Path.{refl}
 use borrow.Author.Tests.{ne_eqb}
 use Rattle.request_operation.specs.Operations.{body_at}
-use borrow.Author.Rules.{rules}
 use Rattle.request_operation.proofs.body_at.Goals as goal
 
 pub returns-in-1 : goal.returns-in-1
@@ -14,7 +14,7 @@ returns-in-2 c = rw c.in-2.is c.compare_at.ensures
 
 pub returns-in-3 : goal.returns-in-3
 unfolding body_at
-returns-in-3 c = rw c.in-3.is c.list_at.ensures
+returns-in-3 c = rw c.in-3.is (refl, c.list_at.ensures)
 
 pub returns-in_default : goal.returns-in_default
 unfolding body_at

@@ -1,24 +1,33 @@
--- Calls one after the other, each from where the one before it ends.
-use Prim.Native.Nat.{ℕ}
-use mathlib.Core.Path.{◌≡◌}
-use Rattle.rules.specs.Judge.{Grammar}
-use Rattle.rules.specs.Sheet.{Bytes}
-use Rattle.sheet_line.specs.declared.Line.{Line}
-use Rattle.sheet_due.specs.Lines.{no_line, reached_at, group_at, after_due, after_group}
-use Rattle.sheet_due.specs.declared.Group.{Group}
-use Rattle.sheet_due.specs.declared.Reached.{Reached}
-use Rattle.request_operation.specs.declared.Body.{Body}
-use Rattle.request_operation.specs.declared.SearchLines.{SearchLines}
-use Rattle.request_operation.specs.Operations.{body_of, filter_from, search_lines_at, search_at}
-use borrow.Author.Rules.{rules}
+-- Each step goes on from where the one before it was taken; the first refusal is the search's.
+use Rattle.std.proofs.lemmas.Result.{err_from_is_err_and}
+use Rattle.rules.specs.Request.{request_grammar}
+use Rattle.request_operation.proofs.Search.{selection-refused, scope-refused, filter-refused, searched}
 use Rattle.request_operation.proofs.search_at.Goals as goal
 
--- the lines, by what each call returned
-searched : (G : Grammar) (w : ℕ) (q : Bytes) (at : ℕ) {from next after end : Reached} {x : Group} {y : SearchLines} {none : Line} {b : Body}
-    → from ≡ reached_at at → x ≡ group_at G w q from 12 13 → next ≡ after_group x → y ≡ search_lines_at G w q next → after ≡ after_due y.subset → end ≡ filter_from G w q after → none ≡ no_line
-    → b ≡ body_of end x.line none y.ordering y.subset.line → b ≡ search_at G w q at
-unfolding search_at
-searched G w q at e₀ e₁ e₂ e₃ e₄ e₅ e₆ e₇ = rw (e₇, e₆, e₅, e₄, e₃, e₂, e₁, e₀)
+pub returns-in_err-group : goal.returns-in_err-group
+returns-in_err-group c =
+    let A = c.args in
+    let p = err_from_is_err_and c.from_residual.result c.from_residual.ensures.1 in
+    rw (p.1, p.2) (selection-refused (request_grammar A.f.top) A.f.width A.q.now A.at _ c.in_err-group.ensures)
+
+pub returns-in_err-scope : goal.returns-in_err-scope
+returns-in_err-scope c =
+    let A = c.args in
+    let g = c.in_ok-group.ensures in
+    let p = err_from_is_err_and c.from_residual-in_err-scope.result c.from_residual-in_err-scope.ensures.1 in
+    rw (p.1, p.2) (scope-refused (request_grammar A.f.top) A.f.width A.q.now A.at c.in_ok-group.group g.0 g.1 _ c.in_err-scope.ensures)
+
+pub returns-in_err-end : goal.returns-in_err-end
+returns-in_err-end c =
+    let A = c.args in
+    let g = c.in_ok-group.ensures in
+    let s = c.in_ok-scope.ensures in
+    let p = err_from_is_err_and c.from_residual-in_err-end.result c.from_residual-in_err-end.ensures.1 in
+    rw (p.1, p.2) (filter-refused (request_grammar A.f.top) A.f.width A.q.now A.at c.in_ok-group.group g.0 g.1 c.in_ok-scope.scope s.0 s.1 c.in_err-end.field-0.0 c.in_err-end.ensures)
 
 pub returns : goal.returns
-returns c = searched _ _ _ _ c.reached_at.ensures c.group_at-group.ensures c.after_group.ensures c.search_lines-scope.ensures c.after_due.ensures c.filter_from-end.ensures c.no_line.ensures c.body_of.ensures
+returns c =
+    let A = c.args in
+    let g = c.in_ok-group.ensures in
+    let s = c.in_ok-scope.ensures in
+    searched (request_grammar A.f.top) A.f.width A.q.now A.at c.in_ok-group.group g.0 g.1 c.in_ok-scope.scope s.0 s.1 c.in_ok-end.end c.no_line.result c.in_ok-end.ensures c.no_line.ensures

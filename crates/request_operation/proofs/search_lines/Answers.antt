@@ -1,31 +1,34 @@
--- By the refusal where K 15 is looked for.
-use Prim.Native.Nat.{ℕ}
-use mathlib.Core.Path.{◌≡◌}
-use borrow.Author.Tests.{eq-eqb, ne_eqb}
-use Rattle.rules.specs.Judge.{Grammar}
-use Rattle.rules.specs.Sheet.{Bytes}
-use Rattle.sheet_line.specs.declared.Line.{Line}
-use Rattle.sheet_due.specs.Lines.{no_line, due_at, after_due}
-use Rattle.sheet_due.specs.declared.Due.{Due}
-use Rattle.sheet_due.specs.declared.Reached.{Reached}
-use Rattle.request_operation.specs.Operations.{search_lines_at}
-use borrow.Author.Rules.{rules}
+-- By the line where K 15 is looked for.
+use mathlib.Core.Path.{◌∙◌}
+use Rattle.std.proofs.lemmas.Result.{err_from_is_err_and}
+use Rattle.rules.specs.Request.{request_grammar}
+use Rattle.rules.proofs.Laws.Refusals.{refusal-some}
+use Rattle.request_operation.proofs.Search.{unordered, ordering-refused, subset-refused, ordered}
 use Rattle.request_operation.proofs.search_lines.Goals as goal
 
-module _ (G : Grammar) (w : ℕ) (q : Bytes) (r : Reached) {first : Due} (e : first ≡ due_at G w q r 15) where
-  -- K 15 stands there
-  unordered : first.refusal ≡ 0 → {none : Line} → none ≡ no_line → record { ordering = none; subset = first } ≡ search_lines_at G w q r
-  unfolding search_lines_at
-  unordered z n = rw (← e, eq-eqb _ 0 z, n)
+pub returns-in-Ok : goal.returns-in-Ok
+returns-in-Ok c =
+    let A = c.args in
+    let d = c.in-Ok.ensures in
+    unordered (request_grammar A.f.top) A.f.width A.q.now A.at c.in-Ok.subset c.no_line.result d.0 d.1 c.no_line.ensures
 
-  -- it does not
-  ordered : (first.refusal ≡ 0 → ⊥) → {due last : Due} {next : Reached} → due ≡ due_at G w q r 16 → next ≡ after_due due → last ≡ due_at G w q next 15
-      → record { ordering = due.line; subset = last } ≡ search_lines_at G w q r
-  unfolding search_lines_at
-  ordered z d n l = rw (← e, ne_eqb _ 0 z, l, n, d)
+pub returns-in_err-ordering-in-Err : goal.returns-in_err-ordering-in-Err
+returns-in_err-ordering-in-Err c =
+    let A = c.args in
+    let p = err_from_is_err_and c.from_residual.result c.from_residual.ensures.1 in
+    rw (p.1, p.2) (ordering-refused (request_grammar A.f.top) A.f.width A.q.now A.at (λ z. refusal-some c.in-Err.field-0 (c.in-Err.ensures ∙ z)) _ c.in_err-ordering-in-Err.ensures)
 
-pub returns-then-first-eq0 : goal.returns-then-first-eq0
-returns-then-first-eq0 c = unordered _ _ _ _ c.due_at-first.ensures c.if-first-eq0.true c.no_line.ensures
+pub returns-in_err-subset-in-Err : goal.returns-in_err-subset-in-Err
+returns-in_err-subset-in-Err c =
+    let A = c.args in
+    let d = c.in_ok-ordering-in-Err.ensures in
+    let p = err_from_is_err_and c.from_residual-in_err-subset-in-Err.result c.from_residual-in_err-subset-in-Err.ensures.1 in
+    rw (p.1, p.2)
+    (subset-refused (request_grammar A.f.top) A.f.width A.q.now A.at (λ z. refusal-some c.in-Err.field-0 (c.in-Err.ensures ∙ z)) c.in_ok-ordering-in-Err.ordering d.0 d.1 _ c.in_err-subset-in-Err.ensures)
 
-pub returns : goal.returns
-returns c = ordered _ _ _ _ c.due_at-first.ensures c.if-first-eq0.false c.due_at-due.ensures c.after_due.ensures c.due_at.ensures
+pub returns-in_ok-subset-in-Err : goal.returns-in_ok-subset-in-Err
+returns-in_ok-subset-in-Err c =
+    let A = c.args in
+    let d = c.in_ok-ordering-in-Err.ensures in
+    let e = c.in_ok-subset-in-Err.ensures in
+    ordered (request_grammar A.f.top) A.f.width A.q.now A.at (λ z. refusal-some c.in-Err.field-0 (c.in-Err.ensures ∙ z)) c.in_ok-ordering-in-Err.ordering d.0 d.1 c.in_ok-subset-in-Err.subset e.0 e.1

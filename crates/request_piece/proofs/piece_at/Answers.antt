@@ -1,7 +1,6 @@
 -- The two calls are the definition.
 use mathlib.Core.Path.{ap, ◌∙◌}
 use Rattle.request_piece.specs.Pieces.{piece_at, piece_by}
-use borrow.Author.Rules.{rules}
 use Rattle.request_piece.proofs.piece_at.Goals as goal
 
 pub returns : goal.returns

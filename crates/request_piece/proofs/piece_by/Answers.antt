@@ -1,6 +1,5 @@
 -- By what was seen.
 use borrow.Author.Tests.{eq-eqb, ne_eqb}
-use borrow.Author.Rules.{rules}
 use Rattle.request_piece.proofs.piece_by.Goals as goal
 
 pub returns-then-left-eq0 : goal.returns-then-left-eq0

@@ -1,7 +1,6 @@
 -- By the kind, then by the place.
 use mathlib.Core.Path.{sym, ◌∙◌}
 use borrow.Author.Tests.{not-true, not-false}
-use borrow.Author.Rules.{rules}
 use Rattle.request_piece.proofs.piece_of.Goals as goal
 
 pub returns-then-not-is : goal.returns-then-not-is

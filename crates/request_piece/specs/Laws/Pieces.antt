@@ -17,10 +17,8 @@ use Rattle.sheet_line.specs.declared.Line as Sheets
 use Rattle.sheet_due.specs.Lines.{seen_at}
 use Rattle.sheet_due.specs.Laws.Lines.{on_seen, by-seen}
 use Rattle.sheet_due.specs.declared.Seen.{Seen}
-use Rattle.sheet_due.specs.declared.Seen.TheVariants as Seen
-use Rattle.request_piece.specs.declared.Progress.{Progress}
-use Rattle.request_piece.specs.declared.Progress.TheVariants as Progress
-use Rattle.request_piece.specs.declared.Progress.TheVariants.{Read}
+use Rattle.request_piece.specs.Progress.{Progress}
+use Rattle.request_piece.specs.Progress.{Read}
 use Rattle.request_piece.specs.Pieces.{in_place, on_step, piece_at, piece_by, pieces_at}
 
 -- ---- one turn of a loop

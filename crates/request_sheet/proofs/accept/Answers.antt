@@ -1,5 +1,4 @@
 -- Field by field; the edition is what `edition_in` gives.
-use borrow.Author.Rules.{rules}
 use Rattle.request_sheet.proofs.accept.Goals as goal
 
 pub returns : goal.returns

@@ -2,7 +2,6 @@
 use mathlib.Core.Path.{sym, ◌∙◌}
 use borrow.Author.Tests.{eq-eqb, ne_eqb}
 use Rattle.request_sheet.specs.Whole.{orderable_by}
-use borrow.Author.Rules.{rules}
 use Rattle.request_sheet.proofs.orderable.Goals as goal
 
 pub returns-then-asked-eq0 : goal.returns-then-asked-eq0
@@ -15,4 +14,4 @@ returns-then-ordered c = rw (ne_eqb _ 0 c.if-asked-eq0.false, sym c.ordered.ensu
 
 pub returns : goal.returns
 unfolding orderable_by
-returns c = rw (ne_eqb _ 0 c.if-asked-eq0.false, sym c.ordered.ensures ∙ c.if-ordered.false) c.refuse.ensures
+returns c = rw (ne_eqb _ 0 c.if-asked-eq0.false, sym c.ordered.ensures ∙ c.if-ordered.false)

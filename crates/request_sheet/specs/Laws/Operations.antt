@@ -21,18 +21,15 @@ use Rattle.sheet_line.specs.Line.{bytes_of, line_of}
 use Rattle.sheet_line.specs.declared.Line.{Line}
 use Rattle.sheet_due.specs.Lines.{seen_at, no_line, not_due, reached_at, after_due, after_group, due_by, due_at}
 use Rattle.sheet_due.specs.Laws.Lines.{after, after_same, due-is, group-is, took, took-columns, took-group, followers, first-types}
-use Rattle.sheet_due.specs.declared.Due.{Due}
 use Rattle.sheet_due.specs.declared.Seen.{Seen}
-use Rattle.sheet_due.specs.declared.Seen.TheVariants as Seen
-use Rattle.sheet_due.specs.declared.Reached.{Reached}
+use Rattle.sheet_due.specs.Outcomes.{Due, Reached}
 use Rattle.request_piece.specs.Laws.Pieces.{Follows}
-use Rattle.request_piece.specs.declared.Progress.{Progress}
-use Rattle.request_piece.specs.declared.Progress.TheVariants.{Read, Refused}
+use Rattle.request_piece.specs.Progress.{Progress}
+use Rattle.request_piece.specs.Progress.{Read, Refused}
 use Rattle.request_filter.specs.Filters.{filter_at}
 use Rattle.request_filter.specs.Laws.Filters.{filter-follow}
 use Rattle.request_operation.specs.declared.Body.{Body}
-use Rattle.request_operation.specs.declared.SearchLines.{SearchLines}
-use Rattle.request_operation.specs.Operations.{reached_by, filter_from, search_lines_at, selection_at, assertion_at, search_scope, read_at, compare_at, list_at, search_at, body_at}
+use Rattle.request_operation.specs.Operations.{BodyDue, SearchLines, reached_by, filter_from, search_lines_at, selection_at, assertion_at, search_scope, read_at, compare_at, list_at, search_at, body_at}
 use Rattle.request_sheet.specs.Whole.{edition_in, asked}
 use Rattle.request_sheet.specs.Noted.{NotedSelection, NotedOperation}
 use Rattle.request_sheet.specs.Laws.Bounds.{Bounds}
@@ -163,10 +160,10 @@ module _ (G : Grammar) (bounds : Bounds G) (w : ℕ) (q : Bytes) (r : Reached) w
 -- ---- the operation
 
 -- what the rules take from the lines at `at` after K 11, `x`, by what the code finds; `c` is column C of K 10
-pub record Leads (G : Grammar) (w : ℕ) (q : Bytes) (at c : ℕ) (x : Line) (b : Body) : Type 1 where
+pub record Leads (G : Grammar) (w : ℕ) (q : Bytes) (at c : ℕ) (x : Line) (b : BodyDue) : Type 1 where
   pub asks : Operation
-  pub is : (A : Type 0) (k : Operation → Sheet → Verdict A) → operation G (edition_of c) (line_of q x) (lines_at w q at) k ≡ after b.refusal (k asks (lines_at w q b.next))
-  pub noted : b.refusal ≡ 0 → (requester : Line) → requester.c ≡ c → NotedOperation G w q asks (asked requester x b)
+  pub is : (A : Type 0) (k : Operation → Sheet → Verdict A) → operation G (edition_of c) (line_of q x) (lines_at w q at) k ≡ after b.refusal (k asks (lines_at w q b.body.next))
+  pub noted : b.refusal ≡ 0 → (requester : Line) → requester.c ≡ c → NotedOperation G w q asks (asked requester x b.body)
 
 module _ (G : Grammar) (bounds : Bounds G) (w : ℕ) (q : Bytes) (at : ℕ) where
   -- the selection at a position
@@ -202,7 +199,7 @@ module _ (G : Grammar) (bounds : Bounds G) (w : ℕ) (q : Bytes) (at : ℕ) wher
       noted = λ z requester e. record {
         operation = op;
         limit = small (omega arith);
-        selection = selection-noted z requester x (read_at G w q at) refl;
+        selection = selection-noted z requester x (read_at G w q at).body refl;
         no-assertion = record { attribute = refl; value = refl; count = refl };
         no-filter = record { type = refl; falling = refl; subset = refl; filter = refl; edition = rw (ne_eqb x.a 4 (λ y. omega arith)) };
       };
@@ -259,7 +256,7 @@ module _ (G : Grammar) (bounds : Bounds G) (w : ℕ) (q : Bytes) (at : ℕ) wher
           noted = λ z requester e. record {
             operation = op;
             limit = refl;
-            selection = selection-noted (scope-clear G bounds w q r (F.clear z)) requester x (search_at G w q at) refl;
+            selection = selection-noted (scope-clear G bounds w q r (F.clear z)) requester x (search_at G w q at).body refl;
             no-assertion = record { attribute = refl; value = refl; count = refl };
             ordering = refl;
             subset = refl;

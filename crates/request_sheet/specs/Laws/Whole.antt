@@ -1,16 +1,15 @@
 -- Laws of `Whole`: what the code makes of a sheet is what `judge` promises.
-use Rattle.std.specs.Prelude.{ℕ, ◌+◌, ◌≤◌, ◌≡◌, Bool, not, cond, ltb, eqb, length}
+use Rattle.std.specs.Prelude.{ℕ, ◌+◌, ◌≤◌, ◌≡◌, Bool, not, cond, ltb, eqb, length, Result, Ok, Err}
+use Rattle.rules.specs.declared.refusals.Refusal.{Refusal}
 use Rattle.std.proofs.Math.Path.{refl}
-use Rattle.std.proofs.Common.{sym, ◌∙◌, subst, arith, eqb-true, ltb-false}
+use Rattle.std.proofs.Common.{sym, ◌∙◌, eqb-true, ltb-false}
 use Rattle.std.proofs.Math.Bool.{true, false}
 use Rattle.std.proofs.Math.Option.{none, some}
-use Rattle.std.proofs.lemmas.Bool.{eqb-false}
 use Rattle.rules.specs.Sheet.{Bytes, Sheet}
 use Rattle.rules.specs.Value.{ordered}
 use Rattle.rules.specs.Name.{Schema, of_syntax}
 use Rattle.rules.specs.declared.Format.{Format}
-use Rattle.rules.specs.Judge.{Verdict, accept, refuse, refusal_of, refuse_if, then, Grammar, misplaced, at_end, due, due_lines, name_of}
-use Rattle.rules.proofs.Laws.Judge.{refused-not, accepted-is}
+use Rattle.rules.specs.Judge.{Verdict, accept, refuse, refuse_if, then, Grammar, misplaced, at_end, due, due_lines, name_of}
 use Rattle.rules.specs.Request.{Operation, read, compare, list, search, Request, request_grammar, edition_of, operation, request, ordering_of, has_order, request_of}
 use Rattle.rules.specs.Places.{lines_at, ordering_by}
 use Rattle.sheet_line.specs.Line.{line_of}
@@ -18,43 +17,35 @@ use Rattle.sheet_line.specs.declared.Line.{Line}
 use Rattle.sheet_due.specs.Lines.{seen_at, reached_at, after_group}
 use Rattle.sheet_due.specs.Laws.Lines.{on_seen, by-seen, after, group-is, followers, first-parts, name-length, took-columns, TookGroup, took-group}
 use Rattle.sheet_due.specs.declared.Seen.{Seen}
-use Rattle.sheet_due.specs.declared.Seen.TheVariants as Seen
-use Rattle.sheet_due.specs.declared.Reached.{Reached}
-use Rattle.sheet_due.specs.declared.Group.{Group}
-use Rattle.request_operation.specs.Operations.{body_at}
+use Rattle.sheet_due.specs.Outcomes.{Reached, Group}
+use Rattle.request_operation.specs.Operations.{BodyDue, body_at}
 use Rattle.request_operation.specs.declared.Body.{Body}
 use Rattle.request_sheet.specs.declared.Asked.{Asked}
-use Rattle.request_sheet.specs.Noted.{NotedName, NotedOperation, RequestNoted, request_refused, RequestJudged}
-use Rattle.request_sheet.specs.Whole.{asked, end_by, or_refused, with_body, requester_at, base_at, asked_of, orderable_by}
+use Rattle.request_sheet.specs.Noted.{NotedName, NotedOperation, RequestNoted, RequestJudged}
+use Rattle.request_sheet.specs.Whole.{numbered, asked, end_by, or_refused, with_body, requester_at, base_at, asked_of, orderable_by, ordered_of}
 use Rattle.request_sheet.specs.Laws.Bounds.{Bounds, request-bounds}
 use Rattle.request_sheet.specs.Laws.Operations.{Leads, body-leads}
 
--- `RequestJudged`, of any verdict
-record Meets (G : Grammar) (w : ℕ) (q : Bytes) (v : Verdict Request) (r : Asked) : Type 0 where
-  refusal : r.refusal ≡ refusal_of v
-  noted : (x : Request) → v ≡ accept x → RequestNoted G w q x r
-  accepted : r.refusal ≡ 0 → (x : Request) × (v ≡ accept x)
-  nothing : (r.refusal ≡ 0 → ⊥) → r ≡ request_refused r.refusal
+-- `RequestJudged`, of any verdict and of a refusal's number
+abbrev Meets : Grammar → ℕ → Bytes → Verdict Request → Result Asked ℕ → Type 0
+Meets G w q v (Ok a) = (x : Request) × (v ≡ accept x) × RequestNoted G w q x a
+Meets G w q v (Err n) = v ≡ refuse n
 
 module _ (G : Grammar) (bounds : Bounds G) (w : ℕ) (q : Bytes) where
-  -- a refusal
-  meets-refused : (n : ℕ) → (n ≡ 0 → ⊥) → Meets G w q (refuse n) (request_refused n)
-  meets-refused n h = record { refusal = refl; noted = λ x e. absurd (refused-not n x e); accepted = λ z. absurd (h z); nothing = λ z. refl }
-
   -- a refusal, or what follows
-  meets-after : (n : ℕ) {v : Verdict Request} {r : Asked} → (n ≡ 0 → Meets G w q v r) → Meets G w q (after n v) (or_refused n r)
-  meets-after n {v} {r} h = by (eqb n 0) refl
+  meets-after : (n : ℕ) (v : Verdict Request) (r : Result Asked ℕ) → (n ≡ 0 → Meets G w q v r) → Meets G w q (after n v) (or_refused n r)
+  meets-after n v r h = by (eqb n 0) refl
     where
-      by : (t : Bool) → eqb n 0 ≡ t → Meets G w q (after n v) (or_refused n r)
-      by true e = rw e (h (eqb-true n 0 e))
-      by false e = rw e (meets-refused n (eqb-false n 0 e))
+      by : (t : Bool) → eqb n 0 ≡ t → Meets G w q (cond t v (refuse n)) (cond t r (Err n))
+      by true e = h (eqb-true n 0 e)
+      by false e = refl
 
   -- the end of the sheet
   module _ (x : Request) (requester base : Line) (b : Body) (h : RequestNoted G w q x (asked requester base b)) where
     end_seen : (s : Seen) → Meets G w q (on_seen w q (accept x) (refuse (G.refusals + 2)) (λ y rest. refuse (G.refusals + 3)) s) (end_by G.refusals requester base b s)
-    end_seen (Seen.Line y) = meets-refused (G.refusals + 3) (λ z. omega arith)
-    end_seen Seen.NotAllowed = meets-refused (G.refusals + 2) (λ z. omega arith)
-    end_seen Seen.Missing = record { refusal = refl; noted = λ y e. subst (λ y. RequestNoted G w q y (asked requester base b)) (accepted-is e) h; accepted = λ z. (x, refl); nothing = λ z. absurd (z refl) }
+    end_seen (Seen.Line y) = refl
+    end_seen Seen.NotAllowed = refl
+    end_seen Seen.Missing = (x, refl, h)
 
     end-meets : Meets G w q (at_end x (lines_at w q b.next) (misplaced G (lines_at w q b.next))) (end_by G.refusals requester base b (seen_at G.forms w q b.next))
     unfolding misplaced
@@ -72,7 +63,7 @@ module _ (G : Grammar) (bounds : Bounds G) (w : ℕ) (q : Bytes) where
   abbrev base : Group
   base = base_at G w q
 
-  abbrev body : Body
+  abbrev body : BodyDue
   body = body_at G w q base.next base.line.a
 
   -- the request with this operation
@@ -93,7 +84,7 @@ module _ (G : Grammar) (bounds : Bounds G) (w : ℕ) (q : Bytes) where
   unfolding ending request_with with_body
   body-meets short z =
       rw (leads.is Request ending)
-      (meets-after body.refusal (λ y. end-meets (request_with leads.asks) requester.line base.line body
+      (meets-after body.refusal (ending leads.asks (lines_at w q body.body.next)) (end_by G.refusals requester.line base.line body.body (seen_at G.forms w q body.body.next)) (λ y. end-meets (request_with leads.asks) requester.line base.line body.body
       (record {
         level = refl;
         requester = name-noted requester t₁ (bounds.requester _ _ _ _ (took-columns t₁.head));
@@ -124,9 +115,9 @@ module _ (G : Grammar) (bounds : Bounds G) (w : ℕ) (q : Bytes) where
       at_end (record { requester = record { level = requester.line.a; name = name_of (followers w q requester) }; base = name_of base; operation = o }) s (misplaced G s))
 
   asked_by_lem : (t : Bool) → ltb 8192 (length q) ≡ t
-      → Meets G w q (refuse_if t 21 (request G (lines_at w q 0))) (cond t (request_refused 21) (or_refused base.refusal (with_body G w q requester.line base.line body)))
-  asked_by_lem true e = meets-refused 21 (λ z. omega arith)
-  asked_by_lem false e = rw request-is (meets-after base.refusal (body-meets (ltb-false 8192 (length q) e)))
+      → Meets G w q (refuse_if t 21 (request G (lines_at w q 0))) (cond t (Err 21) (or_refused base.refusal (with_body G w q requester.line base.line body)))
+  asked_by_lem true e = refl
+  asked_by_lem false e = rw request-is (meets-after base.refusal (operation G (edition_of requester.line.c) (line_of q base.line) (lines_at w q base.next) ending) (with_body G w q requester.line base.line body) (body-meets (ltb-false 8192 (length q) e)))
 
 -- ---- a type that has an order
 
@@ -139,28 +130,27 @@ module _ (G : Grammar) (bounds : Bounds G) (w : ℕ) (q : Bytes) (S : Schema) wh
   ordering-noted (search s) r h = sym h.ordering
 
   -- a request, judged by the schema too
-  ordered-accepted : (x : Request) (r : Asked) → Meets G w q (accept x) r → Meets G w q (refuse_if (not (has_order S (ordering_of x.operation))) 24 (accept x)) (orderable_by S r)
+  ordered-accepted : (x : Request) (r : Asked) → RequestNoted G w q x r → Meets G w q (refuse_if (not (has_order S (ordering_of x.operation))) 24 (accept x)) (orderable_by S r)
   unfolding orderable_by
-  ordered-accepted x r m = rw (ordering-noted x.operation r (m.noted x refl).operation) (go (eqb r.order_type 0) (of_syntax S ordered r.order_type) refl)
+  ordered-accepted x r m = rw (ordering-noted x.operation r m.operation) (go (eqb r.order_type 0) (of_syntax S ordered r.order_type) refl)
     where
       go : (t u : Bool) → of_syntax S ordered r.order_type ≡ u
-          → Meets G w q (refuse_if (not (has_order S (cond t none (some (record { type = r.order_type; falling = r.falling }))))) 24 (accept x)) (cond t r (cond u r (request_refused 24)))
-      go true u e = m
-      go false true e = rw e m
-      go false false e = rw e (meets-refused G bounds w q 24 (λ z. omega arith))
+          → Meets G w q (refuse_if (not (has_order S (cond t none (some (record { type = r.order_type; falling = r.falling }))))) 24 (accept x)) (cond t (Ok r) (cond u (Ok r) (Err 24)))
+      go true u e = (x, refl, m)
+      go false true e = rw e (x, refl, m)
+      go false false e = rw e
 
-  -- a refused request orders nothing
-  kept : (n : ℕ) (r : Asked) → r ≡ request_refused n → r ≡ orderable_by S r
-  unfolding orderable_by
-  kept n r e = rw e
-
-  ordered-meets : (v : Verdict Request) (r : Asked) → Meets G w q v r → Meets G w q (then v λ x. refuse_if (not (has_order S (ordering_of x.operation))) 24 (accept x)) (orderable_by S r)
-  ordered-meets (accept x) r m = ordered-accepted x r m
-  ordered-meets (refuse n) r m =
-      let some : r.refusal ≡ 0 → ⊥ = λ z. refused-not n _ (m.accepted z).1 in
-      subst (Meets G w q (refuse n)) (kept r.refusal r (m.nothing some)) m
+  ordered-meets : (v : Verdict Request) (r : Result Asked ℕ) → Meets G w q v r → Meets G w q (then v λ x. refuse_if (not (has_order S (ordering_of x.operation))) 24 (accept x)) (ordered_of S r)
+  ordered-meets v (Ok a) m = rw m.1 (ordered-accepted m.0 a m.2)
+  ordered-meets v (Err n) m = rw m
 
 -- what the code does is what `judge` promises
-pub asked-judged : (f : Format) (S : Schema) (q : Bytes) → RequestJudged f S q (orderable_by S (asked_of (request_grammar f.top) f.width q))
+judged_by : (f : Format) (S : Schema) (q : Bytes) (r : Result Asked Refusal) → Meets (request_grammar f.top) f.width q (request_of f S q) (numbered r) → RequestJudged f S q r
+judged_by f S q (Ok a) m = m
+judged_by f S q (Err n) m = m
+
+pub asked-judged : (f : Format) (S : Schema) (q : Bytes) (r : Result Asked Refusal) → numbered r ≡ ordered_of S (asked_of (request_grammar f.top) f.width q) → RequestJudged f S q r
 unfolding asked_of request_of
-asked-judged f S q = let m = ordered-meets (request_grammar f.top) (request-bounds f.top) f.width q S _ _ (asked_by_lem (request_grammar f.top) (request-bounds f.top) f.width q (ltb 8192 (length q)) refl) in record { refusal = m.refusal; noted = m.noted; accepted = m.accepted; nothing = m.nothing }
+asked-judged f S q r e =
+    judged_by f S q r
+    (rw e (ordered-meets (request_grammar f.top) (request-bounds f.top) f.width q S _ (asked_of (request_grammar f.top) f.width q) (asked_by_lem (request_grammar f.top) (request-bounds f.top) f.width q (ltb 8192 (length q)) refl)))

@@ -1,5 +1,5 @@
 -- A sheet that was read is written back byte for byte: a number has one form in its column, and a line one form in its sheet.
-use Rattle.std.specs.Prelude.{ℕ, zero, suc, ◌+◌, ◌-◌, ◌*◌, ◌^◌, ◌≤◌, ◌<◌, ◌≡◌, refl, Bool, true, false, cond, eqb, length, drop}
+use Rattle.std.specs.Prelude.{ℕ, zero, suc, ◌+◌, ◌-◌, ◌*◌, ◌^◌, ◌≤◌, ◌<◌, ◌≡◌, refl, Bool, true, false, cond, eqb, length, drop, Some}
 use native.Mathlib.Omega.{arith}
 use Rattle.std.proofs.Common.{pow-suc, mul_assoc, mul_comm, mul-le-mul_right, sym, ◌∙◌, subst, length-drop, length-take-le, drop-cons, drop-drop, take-add, eqb-true}
 use Rattle.std.proofs.Math.Nat.{pow-le-pow_right}
@@ -8,7 +8,6 @@ use mathlib.Core.List.{List, [], ◌∷◌, ◌++◌, append_assoc}
 use Rattle.std.proofs.Math.ListN.{take, take-append-drop}
 use Rattle.rules.specs.Lists.{gather}
 use Rattle.rules.specs.Sheet.{Bytes, Line, line, strip, digits, numeral, column_of, column_at, front_of, value_of, rest_of, end, row, by_front, lines, column, numbers, line_bytes, print, rows}
-use Rattle.rules.specs.declared.Column.TheVariants.{Number}
 use Rattle.rules.specs.declared.Front.{Front}
 use Rattle.rules.specs.declared.Front.TheVariants.{Taken, NotInForm, End}
 use Rattle.rules.proofs.Laws.Value.{unlike, digits-cons, numeral-digits, numeral-eq}
@@ -17,7 +16,7 @@ use Rattle.rules.proofs.Laws.Sheet.{LineAt, Tells, front-tells, column-length, c
 -- ---- a column
 
 -- as many digits make a number below that power of ten
-digits-below : (bs : Bytes) (v m : ℕ) → digits v bs ≡ Number m → m < suc v * 10 ^ length bs
+digits-below : (bs : Bytes) (v m : ℕ) → digits v bs ≡ Some m → m < suc v * 10 ^ length bs
 unfolding digits
 digits-below [] v m e = let h : v ≡ m = cc in omega arith
 digits-below (b ∷ bs) v m e =
@@ -28,7 +27,7 @@ digits-below (b ∷ bs) v m e =
     let q : (suc v * 10) * 10 ^ length bs ≡ suc v * (10 ^ length bs * 10) = mul_assoc (suc v) 10 (10 ^ length bs) ∙ ap (λ (x : ℕ). suc v * x) (mul_comm 10 (10 ^ length bs)) in
     subst (λ (x : ℕ). m < suc v * x) (sym p) (omega (arith, h, l, q))
 
-numeral-below : (bs : Bytes) (m : ℕ) → numeral bs ≡ Number m → m < 10 ^ length bs
+numeral-below : (bs : Bytes) (m : ℕ) → numeral bs ≡ Some m → m < 10 ^ length bs
 unfolding numeral
 numeral-below [] m e = unlike (cc)
 numeral-below (b ∷ bs) m e = omega (arith, digits-below (b ∷ bs) 0 m (numeral-digits b bs m e).0)
@@ -56,7 +55,7 @@ strip-same (x ∷ xs) (y ∷ ys) l e = go (eqb x 32) (eqb y 32) refl refl e (str
     go false false p q e ih = e
 
 -- a number has one form in a column
-column-unique : (w n : ℕ) (bs : Bytes) → length bs ≡ suc w → column_of bs ≡ Number n → column (suc w) n ≡ bs
+column-unique : (w n : ℕ) (bs : Bytes) → length bs ≡ suc w → column_of bs ≡ Some n → column (suc w) n ≡ bs
 unfolding column_of
 column-unique w n bs l e =
     let p : 10 ^ length (strip bs) ≤ 10 ^ suc w = pow-le-pow_right (omega arith) (omega (arith, strip-shorter bs)) in
@@ -73,7 +72,7 @@ module _ (w : ℕ) (s : Bytes) {k a b c l : ℕ} (f : LineAt (suc w) s k a b c l
   abbrev v : ℕ
   v = suc w
 
-  column-at : (i n : ℕ) → suc i * v ≤ 5 * v → column_of (column_at v i s) ≡ Number n → column_at v i s ≡ column v n
+  column-at : (i n : ℕ) → suc i * v ≤ 5 * v → column_of (column_at v i s) ≡ Some n → column_at v i s ≡ column v n
   column-at i n h q =
       let g : suc i * v ≡ i * v + v = omega arith in
       let d : length (drop (i * v) s) ≡ length s - i * v = length-drop (i * v) s in

@@ -1,6 +1,6 @@
 -- Laws of `Sheet`: the lines of a sheet one by one, and a line that is printed is read back.
 use Prim.Native.Nat.{ℕ, zero, suc, ◌+◌, ◌-◌, ◌*◌, ◌/◌, ◌%◌, ◌^◌, ◌≤◌, ◌<◌}
-use Rattle.std.specs.Prelude.{◌≡◌, Bool, cond, get_or, take, drop}
+use Rattle.std.specs.Prelude.{◌≡◌, Bool, cond, get_or, take, drop, Some, None}
 use Rattle.std.proofs.Math.Path.{refl, ap, subst}
 use Rattle.std.proofs.Common.{sym, ◌∙◌, pow-suc, length-append, length-drop, length-take-le, take_at, take_all, drop_at, drop-drop}
 use Rattle.std.proofs.Math.Bool.{true, false}
@@ -13,8 +13,7 @@ use borrow.Author.Tests.{eq-eqb, ne_eqb, le-leb, lt-ltb, le-ltb, ltb-true, leb-t
 use Rattle.rules.specs.Lists.{gather}
 use Rattle.rules.specs.Sheet.{Bytes, Line, line, strip, digits, numeral, column_of, column_at, whole, front_of, value_of, line_size, rest_of, Sheet, end, broken, row, by_front, lines_within, lines, leading, column, numbers, line_bytes, print, rows}
 use Rattle.rules.specs.Derived.{Each}
-use Rattle.rules.specs.declared.Column.{Column}
-use Rattle.rules.specs.declared.Column.TheVariants.{Number, Malformed}
+use Rattle.rules.specs.Sheet.{Column}
 use Rattle.rules.specs.declared.Front.{Front}
 use Rattle.rules.specs.declared.Front.TheVariants.{Taken, NotInForm, End}
 
@@ -26,11 +25,11 @@ no_bytes (b ∷ bs) e = absurd (omega arith)
 
 -- a line taken: its columns, that it fits the sheet, and its end
 pub record LineAt (w : ℕ) (s : Bytes) (k a b c l : ℕ) : Type 0 where
-  pub col₀ : column_of (column_at w 0 s) ≡ Number k
-  pub col₁ : column_of (column_at w 1 s) ≡ Number a
-  pub col₂ : column_of (column_at w 2 s) ≡ Number b
-  pub col₃ : column_of (column_at w 3 s) ≡ Number c
-  pub col₄ : column_of (column_at w 4 s) ≡ Number l
+  pub col₀ : column_of (column_at w 0 s) ≡ Some k
+  pub col₁ : column_of (column_at w 1 s) ≡ Some a
+  pub col₂ : column_of (column_at w 2 s) ≡ Some b
+  pub col₃ : column_of (column_at w 3 s) ≡ Some c
+  pub col₄ : column_of (column_at w 4 s) ≡ Some l
   pub short : l ≤ 64
   pub fits : 5 * w + l < length s
   pub stop : get_or s (5 * w + l) 0 ≡ 10
@@ -44,12 +43,12 @@ module _ (w : ℕ) (s : Bytes) where
   whole_tells : (f₀ f₁ f₂ f₃ f₄ : Column) → column_of (column_at w 0 s) ≡ f₀ → column_of (column_at w 1 s) ≡ f₁ → column_of (column_at w 2 s) ≡ f₂
       → column_of (column_at w 3 s) ≡ f₃ → column_of (column_at w 4 s) ≡ f₄ → Tells w s (whole w s f₀ f₁ f₂ f₃ f₄)
   unfolding whole
-  whole_tells Malformed f₁ f₂ f₃ f₄ e₀ e₁ e₂ e₃ e₄ = tt
-  whole_tells (Number k) Malformed f₂ f₃ f₄ e₀ e₁ e₂ e₃ e₄ = tt
-  whole_tells (Number k) (Number a) Malformed f₃ f₄ e₀ e₁ e₂ e₃ e₄ = tt
-  whole_tells (Number k) (Number a) (Number b) Malformed f₄ e₀ e₁ e₂ e₃ e₄ = tt
-  whole_tells (Number k) (Number a) (Number b) (Number c) Malformed e₀ e₁ e₂ e₃ e₄ = tt
-  whole_tells (Number k) (Number a) (Number b) (Number c) (Number l) e₀ e₁ e₂ e₃ e₄ = go (leb l 64) (ltb (5 * w + l) (length s)) (eqb (get_or s (5 * w + l) 0) 10) refl refl refl
+  whole_tells None f₁ f₂ f₃ f₄ e₀ e₁ e₂ e₃ e₄ = tt
+  whole_tells (Some k) None f₂ f₃ f₄ e₀ e₁ e₂ e₃ e₄ = tt
+  whole_tells (Some k) (Some a) None f₃ f₄ e₀ e₁ e₂ e₃ e₄ = tt
+  whole_tells (Some k) (Some a) (Some b) None f₄ e₀ e₁ e₂ e₃ e₄ = tt
+  whole_tells (Some k) (Some a) (Some b) (Some c) None e₀ e₁ e₂ e₃ e₄ = tt
+  whole_tells (Some k) (Some a) (Some b) (Some c) (Some l) e₀ e₁ e₂ e₃ e₄ = go (leb l 64) (ltb (5 * w + l) (length s)) (eqb (get_or s (5 * w + l) 0) 10) refl refl refl
     where
       go : (t₁ t₂ t₃ : Bool) → leb l 64 ≡ t₁ → ltb (5 * w + l) (length s) ≡ t₂ → eqb (get_or s (5 * w + l) 0) 10 ≡ t₃
           → Tells w s (cond t₁ (cond t₂ (cond t₃ (Taken k a b c l) NotInForm) NotInForm) NotInForm)
@@ -199,7 +198,7 @@ leading-some : (i v : ℕ) (r : Bytes) → (v ≡ 0 → ⊥) → v < 10 ^ i → 
 leading-some zero v r nz h = absurd (nz (omega arith))
 leading-some (suc i) v r nz h = leading-by i v r nz (eqb (v / 10) 0) refl (λ q. leading-some i (v / 10) ((48 + v % 10) ∷ r) q (omega (arith, pow-suc 10 i)))
 
-column-by : (w n : ℕ) → n < 10 ^ suc w → (t : Bool) → eqb (n / 10) 0 ≡ t → column_of (column (suc w) n) ≡ Number n
+column-by : (w n : ℕ) → n < 10 ^ suc w → (t : Bool) → eqb (n / 10) 0 ≡ t → column_of (column (suc w) n) ≡ Some n
 unfolding column column_of numeral digits
 column-by w n h true e =
     let z : n / 10 ≡ 0 = eqb-true (n / 10) 0 e in
@@ -209,7 +208,7 @@ column-by w n h false e =
     let m : n / 10 * 10 + n % 10 ≡ n = omega arith in
     leading-some w (n / 10) ((48 + n % 10) ∷ []) (eqb-false (n / 10) 0 e) (omega (arith, pow-suc 10 w)) ∙ digits-digit (n / 10) (n % 10) [] (omega arith) ∙ rw m
 
-pub column-read : (w n : ℕ) → n < 10 ^ suc w → column_of (column (suc w) n) ≡ Number n
+pub column-read : (w n : ℕ) → n < 10 ^ suc w → column_of (column (suc w) n) ≡ Some n
 column-read w n h = column-by w n h (eqb (n / 10) 0) refl
 
 -- ---- a line written is read back

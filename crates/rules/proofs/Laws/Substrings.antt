@@ -1,5 +1,5 @@
 -- Laws of `Value`: what the substrings test means, and the same test a piece at a time.
-use Rattle.std.specs.Prelude.{ℕ, zero, suc, ◌+◌, ◌-◌, ◌≤◌, ◌≡◌, refl, ◌↔◌, Bool, true, false, cond, List, [], ◌∷◌, ◌++◌, map, leb, eqb, length, take, drop}
+use Rattle.std.specs.Prelude.{ℕ, zero, suc, ◌+◌, ◌-◌, ◌≤◌, ◌≡◌, refl, ◌↔◌, Bool, true, false, cond, List, [], ◌∷◌, ◌++◌, map, leb, eqb, length, take, drop, Some, None}
 use Rattle.std.proofs.Common.{sym, ap, subst, ◌∙◌, append_assoc, append-nil, arith, zero-add, eqb-true, eq-eqb, ne_eqb, le-leb, length-append, length-drop, take-append-drop, drop_at}
 use Rattle.std.proofs.Math.Bool.{and-eq-true_iff}
 use Rattle.std.proofs.lemmas.Bool.{false≢true}
@@ -7,8 +7,7 @@ use Rattle.std.proofs.lemmas.List.{length-map, drop-append-le}
 use Rattle.std.proofs.Math.Seq.{drop-length, drop-drop}
 use Rattle.rules.specs.Sheet.{Bytes}
 use Rattle.rules.specs.Value.{text, folded, normal, identical, Piece, begins, ends, find, used, by_found, matches, contains, small}
-use Rattle.rules.specs.declared.Found.{Found}
-use Rattle.rules.specs.declared.Found.TheVariants.{At, Nothing}
+use Rattle.rules.specs.Value.{Found}
 use Rattle.rules.specs.Derived.{compared}
 use Rattle.rules.proofs.Laws.Value.{unlike, identical-refl, identical-eq}
 
@@ -66,37 +65,37 @@ ends-back before p =
     let n : length before ≡ length (before ++ p) - length p = omega arith in
     rw (le-leb (length p) (length (before ++ p)) (omega arith), drop_at before p (length (before ++ p) - length p) n) (identical-refl p)
 
-pub find-by : (p v : Bytes) (i : ℕ) → begins v p ≡ true → find p v i ≡ At (i + length p)
+pub find-by : (p v : Bytes) (i : ℕ) → begins v p ≡ true → find p v i ≡ Some (i + length p)
 unfolding find
 find-by p [] i e = rw e
 find-by p (x ∷ xs) i e = rw e
 
 -- where `find` succeeds: what stands before the piece, and how many bytes are used
-find-parts : (p v : Bytes) (i j : ℕ) → find p v i ≡ At j
+find-parts : (p v : Bytes) (i j : ℕ) → find p v i ≡ Some j
     → (before : Bytes) × (n : ℕ) × (j ≡ i + n) × (n ≡ length before + length p) × (v ≡ before ++ (p ++ drop n v))
 unfolding find
 find-parts p [] i j e = go (begins [] p) refl e
   where
-    go : (t : Bool) → begins [] p ≡ t → cond t (At (i + length p)) Nothing ≡ At j
+    go : (t : Bool) → begins [] p ≡ t → cond t (Some (i + length p)) None ≡ Some j
         → (before : Bytes) × (n : ℕ) × (j ≡ i + n) × (n ≡ length before + length p) × ([] ≡ before ++ (p ++ drop n []))
     go true b e = ([], length p, cc, omega arith, begins-parts [] p b)
     go false b e = unlike (cc)
 find-parts p (x ∷ xs) i j e = go (begins (x ∷ xs) p) refl e (find-parts p xs (i + 1) j)
   where
-    go : (t : Bool) → begins (x ∷ xs) p ≡ t → cond t (At (i + length p)) (find p xs (i + 1)) ≡ At j
-        → (find p xs (i + 1) ≡ At j → (before : Bytes) × (n : ℕ) × (j ≡ i + 1 + n) × (n ≡ length before + length p) × (xs ≡ before ++ (p ++ drop n xs)))
+    go : (t : Bool) → begins (x ∷ xs) p ≡ t → cond t (Some (i + length p)) (find p xs (i + 1)) ≡ Some j
+        → (find p xs (i + 1) ≡ Some j → (before : Bytes) × (n : ℕ) × (j ≡ i + 1 + n) × (n ≡ length before + length p) × (xs ≡ before ++ (p ++ drop n xs)))
         → (before : Bytes) × (n : ℕ) × (j ≡ i + n) × (n ≡ length before + length p) × (x ∷ xs ≡ before ++ (p ++ drop n (x ∷ xs)))
     go true b e next = ([], length p, cc, omega arith, begins-parts (x ∷ xs) p b)
     go false b e next =
         let r = next e in
         (x ∷ r.0, suc r.1, omega (arith, r.2), omega (arith, r.3), ap (λ (l : Bytes). x ∷ l) r.4)
 
-used-parts : (place : ℕ) (p v : Bytes) (n : ℕ) → used place p v ≡ At n
+used-parts : (place : ℕ) (p v : Bytes) (n : ℕ) → used place p v ≡ Some n
     → (before : Bytes) × (n ≡ length before + length p) × (v ≡ before ++ (p ++ drop n v)) × InPlace place before (drop n v)
 unfolding used
 used-parts zero p v n e = go (begins v p) refl e
   where
-    go : (t : Bool) → begins v p ≡ t → cond t (At (length p)) Nothing ≡ At n
+    go : (t : Bool) → begins v p ≡ t → cond t (Some (length p)) None ≡ Some n
         → (before : Bytes) × (n ≡ length before + length p) × (v ≡ before ++ (p ++ drop n v)) × (before ≡ [])
     go true b e = let m : length p ≡ n = cc in ([], omega arith, rw (← m) (begins-parts v p b), refl)
     go false b e = unlike (cc)
@@ -106,7 +105,7 @@ used-parts (suc zero) p v n e =
     (r.0, m ∙ r.3, subst (λ (k : ℕ). v ≡ r.0 ++ (p ++ drop k v)) (sym m) r.4, tt)
 used-parts (suc (suc k)) p v n e = go (ends v p) refl (rw (ne_eqb (suc (suc k)) 0 (λ h. omega arith), ne_eqb (suc (suc k)) 1 (λ h. omega arith)) at e)
   where
-    go : (t : Bool) → ends v p ≡ t → cond t (At (length v)) Nothing ≡ At n
+    go : (t : Bool) → ends v p ≡ t → cond t (Some (length v)) None ≡ Some n
         → (before : Bytes) × (n ≡ length before + length p) × (v ≡ before ++ (p ++ drop n v)) × (drop n v ≡ [])
     go true b e =
         let m : length v ≡ n = cc in
@@ -116,7 +115,7 @@ used-parts (suc (suc k)) p v n e = go (ends v p) refl (rw (ne_eqb (suc (suc k)) 
     go false b e = unlike (cc)
 
 -- no more bytes are used than there are
-used-within : (place : ℕ) (p v : Bytes) (n : ℕ) → used place p v ≡ At n → n ≤ length v
+used-within : (place : ℕ) (p v : Bytes) (n : ℕ) → used place p v ≡ Some n → n ≤ length v
 used-within place p v n e =
     let r = used-parts place p v n e in
     omega (arith, r.1, ap length r.2, length-append r.0 (p ++ drop n v), length-append p (drop n v), length-drop n v)
@@ -128,28 +127,28 @@ matches-placed (p ∷ ps) v e = go (used p.place p.bytes v) refl e (λ n. matche
   where
     go : (f : Found) → used p.place p.bytes v ≡ f → by_found f (λ n. matches ps (drop n v)) ≡ true
         → ((n : ℕ) → matches ps (drop n v) ≡ true → Placed ps (drop n v)) → Placed (p ∷ ps) v
-    go (At n) u e next = let r = used-parts p.place p.bytes v n u in (r.0, drop n v, r.2, r.3, next n e)
-    go Nothing u e next = absurd (false≢true e)
+    go (Some n) u e next = let r = used-parts p.place p.bytes v n u in (r.0, drop n v, r.2, r.3, next n e)
+    go None u e next = absurd (false≢true e)
 
 -- where there is a place, `used` finds one that ends no later
 
 find_first : (before p after : Bytes) (i : ℕ)
-    → (n : ℕ) × (find p (before ++ (p ++ after)) i ≡ At (i + n)) × (n ≤ length before + length p)
+    → (n : ℕ) × (find p (before ++ (p ++ after)) i ≡ Some (i + n)) × (n ≤ length before + length p)
 unfolding find
 find_first [] p after i = (length p, find-by p (p ++ after) i (begins-front p after), omega arith)
 find_first (x ∷ xs) p after i = go (begins (x ∷ (xs ++ (p ++ after))) p) refl (find_first xs p after (i + 1))
   where
     go : (t : Bool) → begins (x ∷ (xs ++ (p ++ after))) p ≡ t
-        → (n : ℕ) × (find p (xs ++ (p ++ after)) (i + 1) ≡ At (i + 1 + n)) × (n ≤ length xs + length p)
-        → (n : ℕ) × (find p (x ∷ (xs ++ (p ++ after))) i ≡ At (i + n)) × (n ≤ suc (length xs) + length p)
+        → (n : ℕ) × (find p (xs ++ (p ++ after)) (i + 1) ≡ Some (i + 1 + n)) × (n ≤ length xs + length p)
+        → (n : ℕ) × (find p (x ∷ (xs ++ (p ++ after))) i ≡ Some (i + n)) × (n ≤ suc (length xs) + length p)
     go true b r = (length p, rw b, omega arith)
     go false b r = let m : i + 1 + r.0 ≡ i + suc r.0 = omega arith in (suc r.0, rw (b, ← m) r.1, omega (arith, r.2))
 
 used-first : (place : ℕ) (p before after : Bytes) → InPlace place before after
-    → (n : ℕ) × (used place p (before ++ (p ++ after)) ≡ At n) × (n ≤ length before + length p)
+    → (n : ℕ) × (used place p (before ++ (p ++ after)) ≡ Some n) × (n ≤ length before + length p)
 unfolding used
 used-first zero p before after h = (length p, rw (h, begins-front p after), omega arith)
-used-first (suc zero) p before after h = let r = find_first before p after 0 in (r.0, r.1 ∙ ap At (zero-add r.0), r.2)
+used-first (suc zero) p before after h = let r = find_first before p after 0 in (r.0, r.1 ∙ ap Some (zero-add r.0), r.2)
 used-first (suc (suc k)) p before after h =
     let l = length-append before p in (
       length (before ++ p),
@@ -217,14 +216,14 @@ folded-length s v = go (eqb s text)
     go false = refl
 
 module _ (p : Piece) (ps : List Piece) (v : Bytes) (from : ℕ) where
-  pub matches-on : (n : ℕ) → used p.place p.bytes (drop from v) ≡ At n → matches (p ∷ ps) (drop from v) ≡ matches ps (drop (from + n) v)
+  pub matches-on : (n : ℕ) → used p.place p.bytes (drop from v) ≡ Some n → matches (p ∷ ps) (drop from v) ≡ matches ps (drop (from + n) v)
   unfolding matches
   matches-on n e = rw (e, drop-drop n from v)
 
-  pub matches-off : used p.place p.bytes (drop from v) ≡ Nothing → matches (p ∷ ps) (drop from v) ≡ false
+  pub matches-off : used p.place p.bytes (drop from v) ≡ None → matches (p ∷ ps) (drop from v) ≡ false
   unfolding matches
   matches-off e = rw e
 
 -- what is used is there
-pub used-fits : (place : ℕ) (p : Bytes) (s : ℕ) (v : Bytes) (from n : ℕ) → from ≤ length v → used place p (drop from (folded s v)) ≡ At n → from + n ≤ length v
+pub used-fits : (place : ℕ) (p : Bytes) (s : ℕ) (v : Bytes) (from n : ℕ) → from ≤ length v → used place p (drop from (folded s v)) ≡ Some n → from + n ≤ length v
 used-fits place p s v from n h e = omega (arith, used-within place p (drop from (folded s v)) n e, length-drop from (folded s v), folded-length s v)

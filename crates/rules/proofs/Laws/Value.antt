@@ -1,17 +1,15 @@
 -- Laws of `Value`: equality, and that order and equality agree.
-use Rattle.std.specs.Prelude.{ℕ, zero, suc, ◌+◌, ◌-◌, ◌*◌, ◌≤◌, ◌<◌, ◌≡◌, refl, ◌↔◌, Bool, true, false, cond, [], ◌∷◌, leb, ltb, eqb, ℤ, pos, negsuc, length}
+use Rattle.std.specs.Prelude.{ℕ, zero, suc, ◌+◌, ◌-◌, ◌*◌, ◌≤◌, ◌<◌, ◌≡◌, refl, ◌↔◌, Bool, true, false, cond, [], ◌∷◌, leb, ltb, eqb, ℤ, pos, negsuc, length, Some, None}
 use Rattle.std.proofs.Common.{sym, ap, ◌∙◌, arith, ltb-true, ltb-false, leb-true, leb-false, eqb-true, eq-eqb, ne_eqb, le-ltb}
 use Rattle.std.proofs.Math.Bool.{and-eq-true_iff}
 use Rattle.std.proofs.lemmas.Bool.{false≢true, eqb-false}
 use Rattle.std.proofs.Math.Dec.{eqb-suc-zero}
 use Rattle.rules.specs.Sheet.{Bytes, digits, numeral}
 use Rattle.rules.specs.Value.{text, integer, negative, positive, integer_of, is_integer, fits, folded, normal, identical, same, orderℕ, orderℤ, order_bytes, order_integers, order}
-use Rattle.rules.specs.declared.Column.{Column}
-use Rattle.rules.specs.declared.Column.TheVariants.{Number, Malformed}
-use Rattle.rules.specs.declared.Integer.{Integer}
-use Rattle.rules.specs.declared.Integer.TheVariants.{Value, NotAnInteger}
-use Rattle.rules.specs.declared.Order.{Order}
-use Rattle.rules.specs.declared.Order.TheVariants.{Less, Equal, Greater}
+use Rattle.rules.specs.Sheet.{Column}
+use Rattle.rules.specs.Value.{Integer}
+use Rattle.std.specs.declared.cmp.Ordering.{Ordering}
+use Rattle.std.specs.declared.cmp.Ordering.TheVariants.{Less, Equal, Greater}
 use Rattle.rules.specs.Derived.{reversed}
 
 -- what follows where two answers that differ are said to be equal
@@ -61,7 +59,7 @@ same-trans s u v w e h = (same-iff s u w).1 ((same-iff s u v).0 e ∙ (same-iff 
 
 -- ---- order and equality agree
 
-orderℕ-equal : (a b : ℕ) (next : Order) → orderℕ a b next ≡ Equal → (a ≡ b) × (next ≡ Equal)
+orderℕ-equal : (a b : ℕ) (next : Ordering) → orderℕ a b next ≡ Equal → (a ≡ b) × (next ≡ Equal)
 orderℕ-equal a b next e = go (ltb a b) (ltb b a) refl refl e
   where
     go : (s t : Bool) → ltb a b ≡ s → ltb b a ≡ t → cond s Less (cond t Greater next) ≡ Equal → (a ≡ b) × (next ≡ Equal)
@@ -69,7 +67,7 @@ orderℕ-equal a b next e = go (ltb a b) (ltb b a) refl refl e
     go false true p q e = unlike (cc)
     go false false p q e = (omega (arith, ltb-false a b p, ltb-false b a q), e)
 
-pub orderℕ-same : (a : ℕ) (next : Order) → orderℕ a a next ≡ next
+pub orderℕ-same : (a : ℕ) (next : Ordering) → orderℕ a a next ≡ next
 orderℕ-same a next = rw (le-ltb a a (omega arith))
 
 pub order_bytes-equal : (a b : Bytes) → order_bytes a b ≡ Equal → a ≡ b
@@ -99,20 +97,20 @@ orderℤ-refl (negsuc a) = orderℕ-same a Equal
 
 -- a numeral is determined by its number
 
-number-cond : (t : Bool) (x : Column) (m : ℕ) → cond t x Malformed ≡ Number m → (t ≡ true) × (x ≡ Number m)
+number-cond : (t : Bool) (x : Column) (m : ℕ) → cond t x None ≡ Some m → (t ≡ true) × (x ≡ Some m)
 number-cond true x m e = (refl, e)
 number-cond false x m e = unlike (cc)
 
-pub digits-cons : (v b : ℕ) (bs : Bytes) (m : ℕ) → digits v (b ∷ bs) ≡ Number m
-    → (48 ≤ b) × (b ≤ 57) × (digits (v * 10 + (b - 48)) bs ≡ Number m)
+pub digits-cons : (v b : ℕ) (bs : Bytes) (m : ℕ) → digits v (b ∷ bs) ≡ Some m
+    → (48 ≤ b) × (b ≤ 57) × (digits (v * 10 + (b - 48)) bs ≡ Some m)
 unfolding digits
 digits-cons v b bs m e =
-    let low = number-cond (leb 48 b) (cond (leb b 57) (digits (v * 10 + (b - 48)) bs) Malformed) m e in
+    let low = number-cond (leb 48 b) (cond (leb b 57) (digits (v * 10 + (b - 48)) bs) None) m e in
     let high = number-cond (leb b 57) (digits (v * 10 + (b - 48)) bs) m low.1 in
     (leb-true 48 b low.0, leb-true b 57 high.0, high.1)
 
 -- as many digits after two numbers give one number only where all agrees
-digits_same : (a b : Bytes) (v w m : ℕ) → length a ≡ length b → digits v a ≡ Number m → digits w b ≡ Number m → (v ≡ w) × (a ≡ b)
+digits_same : (a b : Bytes) (v w m : ℕ) → length a ≡ length b → digits v a ≡ Some m → digits w b ≡ Some m → (v ≡ w) × (a ≡ b)
 unfolding digits
 digits_same [] [] v w m l p q = (cc, refl)
 digits_same [] (y ∷ ys) v w m l p q = absurd (omega arith)
@@ -126,7 +124,7 @@ digits_same (x ∷ xs) (y ∷ ys) v w m l p q =
     (omega (arith, r.0, c.0, c.1, d.0, d.1), cc)
 
 -- digits after a number that is not 0 give another number than as many or fewer digits from the start
-digits_more : (a b : Bytes) (w m : ℕ) → 0 < w → length a ≤ length b → digits 0 a ≡ Number m → digits w b ≡ Number m → ⊥
+digits_more : (a b : Bytes) (w m : ℕ) → 0 < w → length a ≤ length b → digits 0 a ≡ Some m → digits w b ≡ Some m → ⊥
 digits_more a [] w m h l p q = absurd (omega (arith, (digits_same a [] 0 w m (omega arith) p q).0))
 digits_more a (y ∷ ys) w m h l p q =
     go (leb (length a) (length ys)) refl (λ k. digits_more a ys (w * 10 + (y - 48)) m (omega arith) k p (digits-cons w y ys m q).2)
@@ -135,18 +133,18 @@ digits_more a (y ∷ ys) w m h l p q =
     go true t next = next (leb-true (length a) (length ys) t)
     go false t next = omega (arith, leb-false (length a) (length ys) t, (digits_same a (y ∷ ys) 0 w m (omega (arith, leb-false (length a) (length ys) t)) p q).0)
 
-pub numeral-digits : (b : ℕ) (bs : Bytes) (m : ℕ) → numeral (b ∷ bs) ≡ Number m → (digits 0 (b ∷ bs) ≡ Number m) × (0 < length bs → 48 < b)
+pub numeral-digits : (b : ℕ) (bs : Bytes) (m : ℕ) → numeral (b ∷ bs) ≡ Some m → (digits 0 (b ∷ bs) ≡ Some m) × (0 < length bs → 48 < b)
 unfolding numeral
 numeral-digits b [] m e = (e, λ h. omega arith)
 numeral-digits b (c ∷ cs) m e = go (eqb b 48) refl e
   where
-    go : (t : Bool) → eqb b 48 ≡ t → cond t Malformed (digits 0 (b ∷ (c ∷ cs))) ≡ Number m
-        → (digits 0 (b ∷ (c ∷ cs)) ≡ Number m) × (0 < suc (length cs) → 48 < b)
+    go : (t : Bool) → eqb b 48 ≡ t → cond t None (digits 0 (b ∷ (c ∷ cs))) ≡ Some m
+        → (digits 0 (b ∷ (c ∷ cs)) ≡ Some m) × (0 < suc (length cs) → 48 < b)
     go true t e = unlike (cc)
     go false t e = (e, λ h. omega (arith, eqb-false b 48 t, (digits-cons 0 b (c ∷ cs) m e).0))
 
 -- a shorter numeral has another number
-numeral-shorter : (a b : Bytes) (m : ℕ) → length a < length b → numeral a ≡ Number m → numeral b ≡ Number m → ⊥
+numeral-shorter : (a b : Bytes) (m : ℕ) → length a < length b → numeral a ≡ Some m → numeral b ≡ Some m → ⊥
 unfolding numeral
 numeral-shorter [] b m l p q = unlike (cc)
 numeral-shorter (x ∷ xs) [] m l p q = omega arith
@@ -154,7 +152,7 @@ numeral-shorter (x ∷ xs) (y ∷ ys) m l p q =
     let d = numeral-digits y ys m q in
     digits_more (x ∷ xs) ys (0 * 10 + (y - 48)) m (omega (arith, d.1 (omega arith))) (omega arith) (numeral-digits x xs m p).0 (digits-cons 0 y ys m d.0).2
 
-pub numeral-eq : (a b : Bytes) (m : ℕ) → numeral a ≡ Number m → numeral b ≡ Number m → a ≡ b
+pub numeral-eq : (a b : Bytes) (m : ℕ) → numeral a ≡ Some m → numeral b ≡ Some m → a ≡ b
 unfolding numeral
 numeral-eq [] b m p q = unlike (cc)
 numeral-eq (x ∷ xs) [] m p q = unlike (cc)
@@ -166,33 +164,33 @@ numeral-eq (x ∷ xs) (y ∷ ys) m p q = go (ltb (length xs) (length ys)) (ltb (
     go false false s≡ t≡ =
         (digits_same (x ∷ xs) (y ∷ ys) 0 0 m (omega (arith, ltb-false (length xs) (length ys) s≡, ltb-false (length ys) (length xs) t≡)) (numeral-digits x xs m p).0 (numeral-digits y ys m q).0).1
 
-negative-value : (c : Column) (z : ℤ) → negative c ≡ Value z → (m : ℕ) × (c ≡ Number (suc m)) × (z ≡ negsuc m)
-negative-value Malformed z e = unlike (cc)
-negative-value (Number zero) z e = unlike (cc)
-negative-value (Number (suc m)) z e = go (leb (suc m) 9223372036854775808) (rw (eqb-suc-zero m) at e)
+negative-value : (c : Column) (z : ℤ) → negative c ≡ Some z → (m : ℕ) × (c ≡ Some (suc m)) × (z ≡ negsuc m)
+negative-value None z e = unlike (cc)
+negative-value (Some zero) z e = unlike (cc)
+negative-value (Some (suc m)) z e = go (leb (suc m) 9223372036854775808) (rw (eqb-suc-zero m) at e)
   where
-    go : (t : Bool) → cond t (Value (negsuc m)) NotAnInteger ≡ Value z → (k : ℕ) × (Number (suc m) ≡ Number (suc k)) × (z ≡ negsuc k)
+    go : (t : Bool) → cond t (Some (negsuc m)) None ≡ Some z → (k : ℕ) × (Some (suc m) ≡ Some (suc k)) × (z ≡ negsuc k)
     go true e = (m, refl, cc)
     go false e = unlike (cc)
 
-positive-value : (c : Column) (z : ℤ) → positive c ≡ Value z → (m : ℕ) × (c ≡ Number m) × (z ≡ pos m)
-positive-value Malformed z e = unlike (cc)
-positive-value (Number m) z e = go (ltb m 9223372036854775808) e
+positive-value : (c : Column) (z : ℤ) → positive c ≡ Some z → (m : ℕ) × (c ≡ Some m) × (z ≡ pos m)
+positive-value None z e = unlike (cc)
+positive-value (Some m) z e = go (ltb m 9223372036854775808) e
   where
-    go : (t : Bool) → cond t (Value (pos m)) NotAnInteger ≡ Value z → (k : ℕ) × (Number m ≡ Number k) × (z ≡ pos k)
+    go : (t : Bool) → cond t (Some (pos m)) None ≡ Some z → (k : ℕ) × (Some m ≡ Some k) × (z ≡ pos k)
     go true e = (m, refl, cc)
     go false e = unlike (cc)
 
 -- an integer is written in one way
-pub integer-eq : (v w : Bytes) (z : ℤ) → integer_of v ≡ Value z → integer_of w ≡ Value z → v ≡ w
+pub integer-eq : (v w : Bytes) (z : ℤ) → integer_of v ≡ Some z → integer_of w ≡ Some z → v ≡ w
 unfolding integer_of
 integer-eq [] w z p q = unlike (cc)
 integer-eq (x ∷ xs) [] z p q = unlike (cc)
 integer-eq (x ∷ xs) (y ∷ ys) z p q = go (eqb x 45) (eqb y 45) refl refl p q
   where
     go : (s t : Bool) → eqb x 45 ≡ s → eqb y 45 ≡ t
-        → cond s (negative (numeral xs)) (positive (numeral (x ∷ xs))) ≡ Value z
-        → cond t (negative (numeral ys)) (positive (numeral (y ∷ ys))) ≡ Value z → x ∷ xs ≡ y ∷ ys
+        → cond s (negative (numeral xs)) (positive (numeral (x ∷ xs))) ≡ Some z
+        → cond t (negative (numeral ys)) (positive (numeral (y ∷ ys))) ≡ Some z → x ∷ xs ≡ y ∷ ys
     go true true s≡ t≡ p q =
         let m = negative-value (numeral xs) z p in
         let n = negative-value (numeral ys) z q in
@@ -219,13 +217,13 @@ order_integers-equal : (v w : Bytes) → is_integer (integer_of v) ≡ true → 
 order_integers-equal v w i j e = go (integer_of v) (integer_of w) refl refl i j e
   where
     go : (x y : Integer) → integer_of v ≡ x → integer_of w ≡ y → is_integer x ≡ true → is_integer y ≡ true → order_integers x y ≡ Equal → v ≡ w
-    go (Value a) (Value b) p q i j e = integer-eq v w b (p ∙ ap Value (orderℤ-equal a b e)) q
-    go (Value a) NotAnInteger p q i j e = absurd (false≢true j)
-    go NotAnInteger y p q i j e = absurd (false≢true i)
+    go (Some a) (Some b) p q i j e = integer-eq v w b (p ∙ ap Some (orderℤ-equal a b e)) q
+    go (Some a) None p q i j e = absurd (false≢true j)
+    go None y p q i j e = absurd (false≢true i)
 
 order_integers-refl : (x : Integer) → order_integers x x ≡ Equal
-order_integers-refl (Value a) = orderℤ-refl a
-order_integers-refl NotAnInteger = refl
+order_integers-refl (Some a) = orderℤ-refl a
+order_integers-refl None = refl
 
 -- values that the syntax allows compare as equal exactly where they are equal
 pub order-iff : (s : ℕ) (v w : Bytes) → fits s v ≡ true → fits s w ≡ true → (order s v w ≡ Equal) ↔ (same s v w ≡ true)
@@ -238,7 +236,7 @@ order-iff s v w fv fw = go (eqb s integer) refl
 
 -- ---- order turned round
 
-orderℕ-reversed : (a b : ℕ) (next : Order) → orderℕ b a (reversed next) ≡ reversed (orderℕ a b next)
+orderℕ-reversed : (a b : ℕ) (next : Ordering) → orderℕ b a (reversed next) ≡ reversed (orderℕ a b next)
 orderℕ-reversed a b next = go (ltb a b) (ltb b a) refl refl
   where
     go : (s t : Bool) → ltb a b ≡ s → ltb b a ≡ t → cond t Less (cond s Greater (reversed next)) ≡ reversed (cond s Less (cond t Greater next))
@@ -261,10 +259,10 @@ orderℤ-reversed (negsuc a) (pos b) = refl
 orderℤ-reversed (negsuc a) (negsuc b) = orderℕ-reversed b a Equal
 
 order_integers-reversed : (x y : Integer) → order_integers y x ≡ reversed (order_integers x y)
-order_integers-reversed (Value a) (Value b) = orderℤ-reversed a b
-order_integers-reversed (Value a) NotAnInteger = refl
-order_integers-reversed NotAnInteger (Value b) = refl
-order_integers-reversed NotAnInteger NotAnInteger = refl
+order_integers-reversed (Some a) (Some b) = orderℤ-reversed a b
+order_integers-reversed (Some a) None = refl
+order_integers-reversed None (Some b) = refl
+order_integers-reversed None None = refl
 
 pub order-reversed : (s : ℕ) (v w : Bytes) → order s w v ≡ reversed (order s v w)
 unfolding order

@@ -2,7 +2,6 @@
 use mathlib.Core.Path.{◌∙◌}
 use native.Mathlib.Omega.{arith}
 use Rattle.sheet_column.specs.Laws.{brief-column}
-use borrow.Author.Rules.{rules}
 use Rattle.sheet_column.proofs.brief.Goals as goal
 
 pub returns-then-four_spaces-2 : goal.returns-then-four_spaces-2
@@ -11,9 +10,3 @@ returns-then-four_spaces-2 c =
     let e = c.four_spaces.ensures c.if-four_spaces.true in
     let f = c.four_spaces-then-four_spaces.ensures c.if-four_spaces-2.true in
     λ h. brief-column A.s.now A.from A.w (omega arith) (omega arith) (omega arith) e f ∙ c.pair.ensures h
-
-pub returns-else-four_spaces-2 : goal.returns-else-four_spaces-2
-returns-else-four_spaces-2 c = λ e. absurd (omega (arith, e))
-
-pub returns-else-four_spaces : goal.returns-else-four_spaces
-returns-else-four_spaces c = λ e. absurd (omega (arith, e))

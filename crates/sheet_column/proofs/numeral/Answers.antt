@@ -1,9 +1,8 @@
 -- The three ways of a numeral: nothing after the spaces, a zero with more after it, or digits.
-use mathlib.Core.Path.{sym}
-use mathlib.Core.Logic.{⊎_elim}
-use native.Mathlib.Omega.{arith}
+use Rattle.std.proofs.Common.{sym, ap, arith, ◌≡◌, ◌-◌, length, take, drop}
+use Rattle.std.proofs.lemmas.Grind.{common_steps}
+use Rattle.rules.specs.Sheet.{digits}
 use Rattle.sheet_column.specs.Laws.{column-empty, column-zero, column-one, column-many, coded_none, coded-same}
-use borrow.Author.Rules.{rules}
 use Rattle.sheet_column.proofs.numeral.Goals as goal
 use Rattle.sheet_column.proofs.numeral.Goals.{then-s-at-eq48+else-at-s-2, else-s-at-eq48}
 
@@ -18,7 +17,9 @@ returns c =
     let l = c.args.s.now in
     let k = c.spaces-at.result in
     let e = c.spaces-at.ensures.1 in
+    let n : take (length l - k) (drop k l) ≡ drop k l = grind (arith, common_steps) in
+    let r = coded-same (ap (digits 0) n) c.number.ensures in
     elim c.if-s-at-eq48.branch [
-      | then-s-at-eq48+else-at-s-2 w ↦ coded-same (sym (column-one l k e (omega arith) w.if-at-s-2.false)) c.number.ensures
-      | else-s-at-eq48 w ↦ coded-same (sym (column-many l k e (omega arith) w.if-s-at-eq48.false)) c.number.ensures
+      | then-s-at-eq48+else-at-s-2 w ↦ coded-same (sym (column-one l k e (omega arith) w.if-at-s-2.false)) r
+      | else-s-at-eq48 w ↦ coded-same (sym (column-many l k e (omega arith) w.if-s-at-eq48.false)) r
     ]

@@ -1,16 +1,15 @@
-use Prim.Native.Nat.{◌-◌, ◌≤◌}
-use mathlib.Core.Path.{◌≡◌, sym, ◌∙◌}
-use lib.ListN.{length, drop, drop_of_length-le}
-use Rattle.rules.specs.Sheet.{strip}
+use Rattle.std.proofs.Common.{sym, ◌∙◌, ◌≤◌, arith, rules, length, drop_of_length-le}
 use Rattle.sheet_column.specs.Laws.{strip-space, strip-stop, strip-end}
-use borrow.Author.Rules.{rules}
 use Rattle.sheet_column.proofs.spaces.Goals as goal
 
-pub returns-then-s-i-ne32 : goal.returns-then-s-i-ne32
-returns-then-s-i-ne32 c = (search rules, sym (strip-stop _ _ c.loop-i-test.true c.if-s-i-ne32.true) ∙ c.loop-i.invariant.1)
+pub returns-then-b-ne32 : goal.returns-then-b-ne32
+returns-then-b-ne32 c = (search rules, sym (strip-stop _ _ c.loop-i-test.true c.if-b-ne32.true) ∙ c.loop-i.invariant)
 
 pub loop-i-preserved : goal.loop-i-preserved
-loop-i-preserved c = (search rules, sym (strip-space _ _ c.loop-i-test.true c.if-s-i-ne32.false) ∙ c.loop-i.invariant.1)
+loop-i-preserved c = sym (strip-space _ _ c.loop-i-test.true c.if-b-ne32.false) ∙ c.loop-i.invariant
 
 pub returns : goal.returns
-returns c = (search rules, (drop_of_length-le _ c.loop-i-test.false ∙ sym (strip-end _ _ c.loop-i-test.false)) ∙ c.loop-i.invariant.1)
+returns c =
+    let s = c.args.s.now in
+    let end : length s ≤ length s = omega arith in
+    (end, drop_of_length-le _ end ∙ sym (strip-end s c.loop-i.i c.loop-i-test.false) ∙ c.loop-i.invariant)

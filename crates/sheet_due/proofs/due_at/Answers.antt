@@ -1,39 +1,34 @@
--- By the refusal, by what was taken, then by the tests of a line; a line that was taken fits the sheet.
-use mathlib.Core.Path.{sym, ap, ◌∙◌}
+-- By what was taken, then by the tests of a line; a line that was taken fits the sheet.
+use mathlib.Core.Path.{refl, sym, ◌∙◌}
 use native.Mathlib.Omega.{arith}
-use borrow.Author.Tests.{eq-eqb, ne_eqb, not-true, not-false}
+use borrow.Author.Tests.{not-true, not-false}
 use Rattle.sheet_line.specs.Laws.{taken-fits-line}
-use Rattle.sheet_due.specs.Lines.{seen_at, due_at, not_due}
-use borrow.Author.Rules.{rules}
+use Rattle.sheet_due.specs.Lines.{seen_at, due_at}
 use Rattle.sheet_due.proofs.due_at.Goals as goal
-
-pub returns-then-from-ne0 : goal.returns-then-from-ne0
-unfolding due_at
-returns-then-from-ne0 c = rw (ne_eqb _ 0 c.if-from-ne0.true) c.not_due.ensures
 
 pub returns-then-not-in_form : goal.returns-then-not-in_form
 unfolding due_at seen_at
-returns-then-not-in_form c = rw (eq-eqb _ 0 c.if-from-ne0.false, sym c.taken_at.ensures ∙ c.in-Line.is, sym c.in_form.ensures ∙ not-true _ c.if-not-in_form.true-raw) (c.not_due-then-not-in_form.ensures ∙ ap not_due c.refusal.ensures)
+returns-then-not-in_form c = rw (sym c.taken_at.ensures ∙ c.in-Line.is, sym c.in_form.ensures ∙ not-true _ c.if-not-in_form.true-raw) c.refusal.ensures
 
 pub returns-then-not-is : goal.returns-then-not-is
 unfolding due_at seen_at
-returns-then-not-is c = rw (eq-eqb _ 0 c.if-from-ne0.false, sym c.taken_at.ensures ∙ c.in-Line.is, sym c.in_form.ensures ∙ not-false _ c.if-not-in_form.false-raw, sym c.is.ensures ∙ not-true _ c.if-not-is.true-raw) (c.not_due-then-not-is.ensures ∙ ap not_due c.refusal-then-not-is.ensures)
+returns-then-not-is c = rw (sym c.taken_at.ensures ∙ c.in-Line.is, sym c.in_form.ensures ∙ not-false _ c.if-not-in_form.false-raw, sym c.is.ensures ∙ not-true _ c.if-not-is.true-raw) c.refusal-then-not-is.ensures
 
 pub sound-requires : goal.sound-requires
 sound-requires c = let f = taken-fits-line c.args.f.width c.args.s.now _ (sym c.taken_at.ensures ∙ c.in-Line.is) in omega (arith, f.next, f.within)
 
 pub returns-then-sound : goal.returns-then-sound
 unfolding due_at seen_at
-returns-then-sound c = rw (eq-eqb _ 0 c.if-from-ne0.false, sym c.taken_at.ensures ∙ c.in-Line.is, sym c.in_form.ensures ∙ not-false _ c.if-not-in_form.false-raw, sym c.is.ensures ∙ not-false _ c.if-not-is.false-raw, sym c.sound.ensures ∙ c.if-sound.true)
+returns-then-sound c = rw (sym c.taken_at.ensures ∙ c.in-Line.is, sym c.in_form.ensures ∙ not-false _ c.if-not-in_form.false-raw, sym c.is.ensures ∙ not-false _ c.if-not-is.false-raw, sym c.sound.ensures ∙ c.if-sound.true) (refl, refl)
 
 pub returns-else-sound : goal.returns-else-sound
 unfolding due_at seen_at
-returns-else-sound c = rw (eq-eqb _ 0 c.if-from-ne0.false, sym c.taken_at.ensures ∙ c.in-Line.is, sym c.in_form.ensures ∙ not-false _ c.if-not-in_form.false-raw, sym c.is.ensures ∙ not-false _ c.if-not-is.false-raw, sym c.sound.ensures ∙ c.if-sound.false) (c.not_due-in-Line.ensures ∙ ap not_due c.refusal-in-Line.ensures)
+returns-else-sound c = rw (sym c.taken_at.ensures ∙ c.in-Line.is, sym c.in_form.ensures ∙ not-false _ c.if-not-in_form.false-raw, sym c.is.ensures ∙ not-false _ c.if-not-is.false-raw, sym c.sound.ensures ∙ c.if-sound.false) c.refusal-in-Line.ensures
 
 pub returns-in-NotInForm : goal.returns-in-NotInForm
 unfolding due_at seen_at
-returns-in-NotInForm c = rw (eq-eqb _ 0 c.if-from-ne0.false, sym c.taken_at.ensures ∙ c.in-NotInForm.is) (c.not_due-in-NotInForm.ensures ∙ ap not_due c.refusal-in-NotInForm.ensures)
+returns-in-NotInForm c = rw (sym c.taken_at.ensures ∙ c.in-NotInForm.is) c.refusal-in-NotInForm.ensures
 
 pub returns-in-End : goal.returns-in-End
 unfolding due_at seen_at
-returns-in-End c = rw (eq-eqb _ 0 c.if-from-ne0.false, sym c.taken_at.ensures ∙ c.in-End.is) (c.not_due-in-End.ensures ∙ ap not_due c.refusal-in-End.ensures)
+returns-in-End c = rw (sym c.taken_at.ensures ∙ c.in-End.is) c.refusal-in-End.ensures

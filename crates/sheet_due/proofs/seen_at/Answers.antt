@@ -1,7 +1,6 @@
 -- By the line that was taken, then by its columns.
 use mathlib.Core.Path.{sym, ◌∙◌}
 use Rattle.sheet_due.specs.Lines.{seen_at}
-use borrow.Author.Rules.{rules}
 use Rattle.sheet_due.proofs.seen_at.Goals as goal
 
 pub returns-then-request_columns : goal.returns-then-request_columns

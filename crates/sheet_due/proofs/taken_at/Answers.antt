@@ -1,5 +1,5 @@
 -- The part is the whole sheet, and a line made anew is the line.
-use mathlib.Core.Path.{◌≡◌, sym, ap, ◌∙◌}
+use mathlib.Core.Path.{sym, ap, ◌∙◌}
 use mathlib.Core.List.{List}
 use Prim.Native.Nat.{ℕ}
 use Rattle.rules.proofs.Laws.Sheet.{part-rest}
@@ -7,7 +7,6 @@ use Rattle.sheet_line.specs.Line.{taken_at}
 use Rattle.sheet_line.specs.Laws.{taken-fits-line}
 use Rattle.sheet_line.specs.declared.Line.{Line}
 use Rattle.sheet_line.specs.declared.Taken.TheVariants as Taken
-use borrow.Author.Rules.{rules}
 use Rattle.sheet_due.proofs.taken_at.Goals as goal
 
 pub anew-requires : goal.anew-requires

@@ -19,12 +19,8 @@ use Rattle.sheet_line.specs.Line.{taken_at, line_of}
 use Rattle.sheet_line.specs.Laws.{lines_by, LineFits, taken-lines, taken-fits-line}
 use Rattle.sheet_line.specs.declared.Line.{Line}
 use Rattle.sheet_line.specs.declared.Taken.{Taken}
-use Rattle.sheet_line.specs.declared.Taken.TheVariants as Taken
 use Rattle.sheet_due.specs.declared.Seen.{Seen}
-use Rattle.sheet_due.specs.declared.Seen.TheVariants as Seen
-use Rattle.sheet_due.specs.declared.Due.{Due}
-use Rattle.sheet_due.specs.declared.Reached.{Reached}
-use Rattle.sheet_due.specs.declared.Group.{Group}
+use Rattle.sheet_due.specs.Outcomes.{Due, Reached, Group}
 use Rattle.sheet_due.specs.Lines.{seen_by, seen_at, misplaced_by, not_due, after_due, due_by, due_at, lines_due, group_at}
 
 -- ---- what stands at a position

@@ -1,26 +1,11 @@
-use Prim.Native.Nat.{ℕ, ◌+◌, ◌-◌, ◌≤◌, ◌<◌}
-use mathlib.Core.Path.{◌≡◌, refl, ap, ◌∙◌}
-use mathlib.Core.List.{List}
-use native.Mathlib.Omega.{arith}
-use native.Mathlib.Numerals.{add-one}
-use lib.ListN.{length, set, length-set, get_or}
-use lib.Seq.{paste, paste-zero, paste-suc}
+-- A part of the buffer takes the bytes of `src`.
+use Rattle.std.proofs.Common.{◌+◌, ◌-◌, ◌∙◌, arith, length, refl}
+use Rattle.std.proofs.lemmas.Slice.{put_mid-paste}
 use Rattle.sheet_write.specs.Laws.Put.{put-done}
-use borrow.Author.Rules.{rules}
 use Rattle.sheet_write.proofs.put.Goals as goal
-
-pub loop-i-init : goal.loop-i-init
-loop-i-init c = (search rules, refl, paste-zero c.args.out.now c.args.at c.args.src.now)
-
-pub loop-i-preserved : goal.loop-i-preserved
-loop-i-preserved c =
-    let A = c.args in
-    let L = c.loop-i in
-    let h : A.at + L.i < length A.out.now = omega arith in
-    (search rules, simp length-set L.invariant.1, ap (λ (x : List ℕ). set x (A.at + L.i) (get_or A.src.now L.i 0)) L.invariant.2 ∙ rw add-one (paste-suc A.out.now A.at A.src.now L.i 0 h c.loop-i-test.true))
 
 pub returns : goal.returns
 returns c =
     let A = c.args in
-    let L = c.loop-i in
-    L.invariant.2 ∙ put-done A.out.now A.at A.src.now L.i (omega arith)
+    put_mid-paste A.at (A.at + length A.src.now - A.at) A.out.now _ A.src.now (length A.src.now) c.copy_from_slice.ensures.after (omega arith) refl
+    ∙ put-done A.out.now A.at A.src.now (length A.src.now) refl

@@ -1,20 +1,9 @@
-use Prim.Native.Nat.{◌≤◌}
-use mathlib.Core.Path.{◌≡◌, refl, sym, ◌∙◌}
+use mathlib.Core.Path.{sym, ◌∙◌}
 use native.Mathlib.Omega.{arith}
-use lib.ListN.{length, length-set}
-use Rattle.rules.specs.Sheet.{leading}
-use Rattle.rules.specs.Derived.{put_at}
+use lib.ListN.{length-set}
 use Rattle.sheet_write.specs.Laws.Put.{digit-on, column-done}
 use borrow.Author.Rules.{rules}
 use Rattle.sheet_write.proofs.put_leading.Goals as goal
-
-pub loop-i-init : goal.loop-i-init
-loop-i-init c = (search rules, refl, refl)
-
-pub returns-then-v-eq0 : goal.returns-then-v-eq0
-returns-then-v-eq0 c =
-    let L = c.loop-i in
-    c.put_spaces.ensures ∙ rw c.if-v-eq0.true at L.invariant.2
 
 pub loop-i-preserved : goal.loop-i-preserved
 loop-i-preserved c =

@@ -1,7 +1,6 @@
 -- Each column after the ones before it.
 use mathlib.Core.Path.{refl}
 use Rattle.sheet_write.specs.Laws.Put.{put-numbers}
-use borrow.Author.Rules.{rules}
 use Rattle.sheet_write.proofs.put_numbers.Goals as goal
 
 pub returns : goal.returns

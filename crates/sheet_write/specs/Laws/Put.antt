@@ -1,9 +1,9 @@
 -- Laws of `Put`: parts one after another, a column from the right, and a line.
 use Rattle.std.specs.Prelude.{ℕ, zero, suc, ◌+◌, ◌-◌, ◌*◌, ◌/◌, ◌%◌, ◌≤◌, ◌<◌, ◌≡◌, refl, cond, [], ◌∷◌, ◌++◌, eqb, take, drop, set}
-use Rattle.std.proofs.Common.{sym, ◌∙◌, append_assoc, append-nil, arith, ne_eqb, length-drop, length-set, take-append-drop, drop-drop, drop_at, length-take-le}
+use Rattle.std.proofs.Common.{add-one, replicate, sym, ◌∙◌, append_assoc, append-nil, arith, ne_eqb, length-drop, length-set, take-append-drop, drop-drop, drop_at, length-take-le}
 use Rattle.std.proofs.Math.ListN.{length, length-append}
 use Rattle.std.proofs.Math.Seq.{paste, take-length, take-append_seam, drop-append-add, append_snoc}
-use Rattle.std.proofs.lemmas.List.{take-set-le, set_split}
+use Rattle.std.proofs.lemmas.List.{replicate_more, take-set-le, set_split}
 use Rattle.rules.specs.Sheet.{Bytes, Line, line_size, leading, column, numbers, line_bytes}
 use Rattle.rules.proofs.Laws.Sheet.{leading_length, column-length, numbers-length}
 use Rattle.rules.specs.Derived.{put_at}
@@ -76,6 +76,12 @@ pub column-done : (d : Bytes) (at i v : ℕ) → i ≤ 0 → put_at d at (leadin
 unfolding leading
 column-done d at zero v h = put-none d at
 column-done d at (suc i) v h = absurd (omega arith)
+
+-- a column of nothing is spaces
+pub leading-none : (w : ℕ) → leading w 0 ≡ replicate w 32
+unfolding leading
+leading-none zero = refl
+leading-none (suc w) = rw (leading-none w, replicate_more {X = ℕ} w 32, add-one)
 
 -- four spaces, from the right, and a fifth before them
 pub spaces-four : (d : Bytes) (at : ℕ) → at + 4 ≤ length d → set (set (set (set d (at + 3) 32) (at + 2) 32) (at + 1) 32) at 32 ≡ put_at d at (leading 4 0)

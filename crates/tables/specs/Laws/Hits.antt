@@ -1,5 +1,5 @@
 -- List and search by entry numbers: which entries are returned, and what is returned of a child.
-use Rattle.std.specs.Prelude.{◌≡◌, ℕ, suc, ◌≤◌, ◌<◌, Bool, true, ◌&&◌, ◌||◌, get_or, drop, eqb}
+use Rattle.std.specs.Prelude.{◌≡◌, ℕ, suc, ◌≤◌, ◌<◌, Bool, true, ◌&&◌, ◌||◌, get_or, drop, eqb, Some}
 use Rattle.std.proofs.Math.Path.{sym, ap}
 use Rattle.std.proofs.Common.{◌∙◌, arith, eqb-true}
 use Rattle.std.proofs.Math.Bool.{cond}
@@ -17,10 +17,9 @@ use Rattle.tables.specs.Numbers.{walk, climbs, within_number}
 use Rattle.rules.proofs.Laws.Name.{same_length}
 use Rattle.rules.specs.Derived.{Accepted}
 use Rattle.tables.specs.Laws.Resolve.{base-found}
-use Rattle.rules.specs.declared.Found.TheVariants.{At}
 use Rattle.tables.specs.Laws.ByNumber.{named-is, child-by-number, below-by-number}
 
-module _ (σ : Setting) (es : List Stored) (ok : Accepted σ.schema es) (n : Name) (b : ℕ) (walked : walk σ.schema es 0 n ≡ At b) (k : ℕ) (l : k < length es) where
+module _ (σ : Setting) (es : List Stored) (ok : Accepted σ.schema es) (n : Name) (b : ℕ) (walked : walk σ.schema es 0 n ≡ Some b) (k : ℕ) (l : k < length es) where
   base : (b ≤ length es) × (same_name σ.schema n (name_at es b) ≡ true)
   base = base-found σ.schema es ok n b walked
 

@@ -12,7 +12,7 @@ use Rattle.rules.specs.declared.Outcome.TheVariants.{Result, NoSuchObject, Insuf
 use Rattle.rules.specs.Judge.{name_lines}
 use Rattle.rules.specs.Answer.{outcome_number, outcome, no_such_object}
 use Rattle.rules.specs.Sheet.{line}
-use Rattle.rules.specs.declared.Found.{Found}
+use Rattle.rules.specs.Value.{Found}
 use Rattle.tables.specs.Plan.{planned}
 use Rattle.tables.specs.Sound.{Base, SoundPlan}
 use Rattle.tables.specs.Outcome.{absent_plan, refused_plan}

@@ -3,7 +3,7 @@ use Rattle.std.proofs.Math.Path.{◌≡◌, refl}
 use Rattle.std.proofs.Common.{sym, ap, ap₂, ◌∙◌, subst, true≢false, ne_eqb, eqb-true}
 use Prim.Native.Nat.{ℕ, suc, ◌+◌, ◌-◌, ◌*◌, ◌/◌, ◌%◌, ◌<◌, zero-le}
 use native.Mathlib.Omega.{arith}
-use Rattle.std.specs.Prelude.{Bool, ◌&&◌, cond, length, get_or, eqb}
+use Rattle.std.specs.Prelude.{Bool, ◌&&◌, cond, length, get_or, eqb, Some, None}
 use Rattle.std.proofs.Math.Bool.{true, false}
 use mathlib.Core.List.{List, [], map}
 use Rattle.std.proofs.lemmas.List.{length-map}
@@ -20,8 +20,7 @@ use Rattle.rules.proofs.Laws.Absent.{present', nothing-below}
 use Rattle.tables.specs.Laws.ByNumber.{named-is, below-by-number}
 use Rattle.rules.specs.Derived.{concerns, Accepted}
 use Rattle.tables.specs.Laws.Resolve.{walk-found, walk-missing}
-use Rattle.rules.specs.declared.Found.{Found}
-use Rattle.rules.specs.declared.Found.TheVariants.{At, Nothing}
+use Rattle.rules.specs.Value.{Found}
 
 -- ---- it reaches the entries that the item is for
 
@@ -77,24 +76,24 @@ module _ (σ : Setting) (es : List Stored) (ok : Accepted σ.schema es) (k : ℕ
   -- a name, by the number that it is found at
   named_by : (n : Name) (f : Found) → walk σ.schema es 0 n ≡ f → same_name σ.schema n (get_or es k blank).name ≡ eqb (suc k) (number_or0 f)
   unfolding name_at same_name
-  named_by n (At b) e =
+  named_by n (Some b) e =
       let r = walk-found σ.schema es ok n [] 0 b zero-le refl e in
       named-is σ.schema es ok n b r.0 r.1 (suc k) l
-  named_by n Nothing e =
+  named_by n None e =
       bool-ext (same_name σ.schema n (get_or es k blank).name) (eqb (suc k) 0)
       (λ h. absurd (walk-missing σ.schema es ok n [] 0 zero-le refl e (suc k) l h))
       (λ h. absurd (true≢false (sym h ∙ eqb-suc-zero k)))
 
   -- the base, by the number that it is found at
-  covered-at : (below : Bool) (n : Name) (b : ℕ) → walk σ.schema es 0 n ≡ At b
+  covered-at : (below : Bool) (n : Name) (b : ℕ) → walk σ.schema es 0 n ≡ Some b
       → cond below (covers σ.schema n (get_or es k blank).name) (same_name σ.schema n (get_or es k blank).name) ≡ base_reaches es below b (suc k)
   unfolding name_at same_name base_reaches
   covered-at true n b e =
       let r = walk-found σ.schema es ok n [] 0 b zero-le refl e in
       below-by-number σ.schema es ok n b r.0 r.1 (suc k) (suc k) (omega arith) l
-  covered-at false n b e = named_by n (At b) e
+  covered-at false n b e = named_by n (Some b) e
 
-  covered_none : (below : Bool) (n : Name) → walk σ.schema es 0 n ≡ Nothing
+  covered_none : (below : Bool) (n : Name) → walk σ.schema es 0 n ≡ None
       → cond below (covers σ.schema n (get_or es k blank).name) (same_name σ.schema n (get_or es k blank).name) ≡ false
   unfolding name_at same_name entry_of walk
   covered_none true n e =
@@ -103,17 +102,17 @@ module _ (σ : Setting) (es : List Stored) (ok : Accepted σ.schema es) (k : ℕ
       (subst (λ (m : ℕ). k < m) (sym (length-map es entry_of)) l) (subst (λ (x : Entry). covers σ.schema n x.name ≡ true) (sym (get_or-map entry_of es k blank)) h)))
       (λ h. absurd (true≢false (sym h)))
     where
-      found-not : At 0 ≡ Nothing → ⊥
+      found-not : ◌≡◌ {A = Found} (Some 0) None → ⊥
       found-not q = let z : ◌≡◌ {A = ℕ} 0 1 = cc in omega arith
 
       root : n ≡ [] → ⊥
-      root q = found-not (subst (λ (m : Name). walk σ.schema es 0 m ≡ Nothing) q e)
+      root q = found-not (subst (λ (m : Name). walk σ.schema es 0 m ≡ None) q e)
 
       absent : present' σ.schema es n ≡ false
       absent = any_none (λ x. same_name σ.schema n x.name) (entry_of blank) (map entry_of es)
           (λ j lj h. walk-missing σ.schema es ok n [] 0 zero-le refl e (suc j) (subst (λ (m : ℕ). j < m) (length-map es entry_of) lj)
           (subst (λ (x : Entry). same_name σ.schema n x.name ≡ true) (get_or-map entry_of es j blank) h))
-  covered_none false n e = named_by n Nothing e ∙ eqb-suc-zero k
+  covered_none false n e = named_by n None e ∙ eqb-suc-zero k
 
   -- an item concerns an entry exactly where it reaches its number
   pub reach-concerns : (i : Item) → reaches es (reach_of σ es i) (suc k) ≡ concerns σ (get_or es k blank).name i
@@ -138,8 +137,8 @@ module _ (σ : Setting) (es : List Stored) (ok : Accepted σ.schema es) (k : ℕ
 
       go : (v : Bool) (f : Found) → walk σ.schema es 0 i.base ≡ f → reaches es (cond v (reach_from σ es i o f) 0) (suc k) ≡ (B && (W && v))
       go false f e = reach-none es (suc k) ∙ dead B W
-      go true Nothing e = reach-none es (suc k) ∙ sym (ap (λ (x : Bool). x && (W && true)) (covered_none i.below i.base e))
-      go true (At b) e = two (eqb i.who 2) refl
+      go true None e = reach-none es (suc k) ∙ sym (ap (λ (x : Bool). x && (W && true)) (covered_none i.below i.base e))
+      go true (Some b) e = two (eqb i.who 2) refl
         where
           cov : B ≡ base_reaches es i.below b (suc k)
           cov = covered-at i.below i.base b e

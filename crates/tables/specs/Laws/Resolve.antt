@@ -1,5 +1,5 @@
 -- Names looked up from the root down, child by child: for a program that goes by entry numbers.
-use Rattle.std.specs.Prelude.{◌≡◌, ◌⊎◌, Bool, ◌&&◌, ◌||◌, get_or, take, eqb}
+use Rattle.std.specs.Prelude.{◌≡◌, ◌⊎◌, Bool, ◌&&◌, ◌||◌, get_or, take, eqb, Some, None}
 use Rattle.std.proofs.Math.Path.{refl, ap, subst}
 use Rattle.std.proofs.Common.{sym, ◌∙◌, inl, inr, le_of_suc-le-suc, take-suc}
 use Prim.Native.Nat.{ℕ, zero, suc, ◌+◌, ◌≤◌, ◌<◌, suc-le-suc, zero-le}
@@ -26,41 +26,40 @@ use Rattle.rules.specs.Derived.{Accepted}
 use Rattle.rules.proofs.Laws.Directory.{one_number, once-named}
 use Rattle.rules.proofs.Laws.Absent.{present', above}
 use Rattle.tables.specs.Numbers.{on_found, child_from, walk}
-use Rattle.rules.specs.declared.Found.{Found}
-use Rattle.rules.specs.declared.Found.TheVariants.{At, Nothing}
+use Rattle.rules.specs.Value.{Found}
 
 -- ---- children
 
-found-not : (i : ℕ) → Nothing ≡ At i → ⊥
+found-not : (i : ℕ) → None ≡ Some i → ⊥
 found-not i e = let z : ◌≡◌ {A = ℕ} 0 1 = cc in omega arith
 
-at-is : {i j : ℕ} → At i ≡ At j → i ≡ j
+at-is : {i j : ℕ} → Some i ≡ Some j → i ≡ j
 at-is e = cc
 
 module _ (S : Schema) (parent : ℕ) (p : Part) where
   wanted : Stored → Bool
   wanted e = eqb e.parent parent && same_part S p e.naming
 
-  child-found : (es : List Stored) (i j : ℕ) → child_from S parent p es i ≡ At j
+  child-found : (es : List Stored) (i j : ℕ) → child_from S parent p es i ≡ Some j
       → (k : ℕ) × (k < length es) × (j ≡ suc (i + k)) × (wanted (get_or es k blank) ≡ true)
   unfolding child_from wanted
   child-found [] i j e = absurd (found-not j e)
   child-found (x ∷ es) i j e = go (wanted x) refl e (child-found es (suc i) j)
     where
-      go : (b : Bool) → wanted x ≡ b → cond b (At (suc i)) (child_from S parent p es (suc i)) ≡ At j
-          → (child_from S parent p es (suc i) ≡ At j → (k : ℕ) × (k < length es) × (j ≡ suc (suc i + k)) × (wanted (get_or es k blank) ≡ true))
+      go : (b : Bool) → wanted x ≡ b → cond b (Some (suc i)) (child_from S parent p es (suc i)) ≡ Some j
+          → (child_from S parent p es (suc i) ≡ Some j → (k : ℕ) × (k < length es) × (j ≡ suc (suc i + k)) × (wanted (get_or es k blank) ≡ true))
           → (k : ℕ) × (k < length (x ∷ es)) × (j ≡ suc (i + k)) × (wanted (get_or (x ∷ es) k blank) ≡ true)
       go true w h ih = let q : suc i ≡ j = at-is h in (0, suc-le-suc zero-le, omega arith, w)
       go false w h ih = let r = ih h in let q : j ≡ suc (suc i + r.0) = r.2 in (suc r.0, suc-le-suc r.1, omega arith, r.3)
 
-  child-missing : (es : List Stored) (i : ℕ) → child_from S parent p es i ≡ Nothing → (k : ℕ) → k < length es → wanted (get_or es k blank) ≡ true → ⊥
+  child-missing : (es : List Stored) (i : ℕ) → child_from S parent p es i ≡ None → (k : ℕ) → k < length es → wanted (get_or es k blank) ≡ true → ⊥
   unfolding child_from wanted
   child-missing [] i e k l w = not-suc-le-zero l
   child-missing (x ∷ es) i e k l w = go (wanted x) refl e k l w (child-missing es (suc i))
     where
-      go : (b : Bool) → wanted x ≡ b → cond b (At (suc i)) (child_from S parent p es (suc i)) ≡ Nothing
+      go : (b : Bool) → wanted x ≡ b → cond b (Some (suc i)) (child_from S parent p es (suc i)) ≡ None
           → (k : ℕ) → k < length (x ∷ es) → wanted (get_or (x ∷ es) k blank) ≡ true
-          → (child_from S parent p es (suc i) ≡ Nothing → (k : ℕ) → k < length es → wanted (get_or es k blank) ≡ true → ⊥) → ⊥
+          → (child_from S parent p es (suc i) ≡ None → (k : ℕ) → k < length es → wanted (get_or es k blank) ≡ true → ⊥) → ⊥
       go true b h k l w ih = found-not (suc i) (sym h)
       go false b h zero l w ih = true≢false (sym w ∙ b)
       go false b h (suc k) l w ih = ih h k (le_of_suc-le-suc l) w
@@ -76,7 +75,7 @@ module _ (S : Schema) (es : List Stored) (ok : Accepted S es) where
   snoc-same (x ∷ xs) (y ∷ ys) a b e h = both (same_part S x y) _ (and_left (same_part S x y) _ e) (snoc-same xs ys a b (and_right (same_part S x y) _ e) h)
 
   -- a child found has its parent's name with the part
-  child-named : (n : Name) (k : ℕ) (p : Part) (j : ℕ) → child_from S k p es 0 ≡ At j → same_name S n (name_at es k) ≡ true
+  child-named : (n : Name) (k : ℕ) (p : Part) (j : ℕ) → child_from S k p es 0 ≡ Some j → same_name S n (name_at es k) ≡ true
       → (j ≤ length es) × (same_name S (n ++ (p ∷ [])) (name_at es j) ≡ true)
   unfolding name_at wanted
   child-named n k p j e h =
@@ -88,7 +87,7 @@ module _ (S : Schema) (es : List Stored) (ok : Accepted S es) where
       = snoc-same n (name_at es (get_or es m blank).parent) p (get_or es m blank).naming (subst (λ (x : ℕ). same_name S n (name_at es x) ≡ true) (sym parent) h) (and_right (eqb (get_or es m blank).parent k) _ r.3) in
       (subst (λ (x : ℕ). x ≤ length es) (sym q) r.1, subst (λ (x : ℕ). same_name S (n ++ (p ∷ [])) (name_at es x) ≡ true) (sym q) (rw (ok.names m r.1) at))
 
-  pub walk-found : (ps n : Name) (k b : ℕ) → k ≤ length es → same_name S n (name_at es k) ≡ true → walk S es k ps ≡ At b
+  pub walk-found : (ps n : Name) (k b : ℕ) → k ≤ length es → same_name S n (name_at es k) ≡ true → walk S es k ps ≡ Some b
       → (b ≤ length es) × (same_name S (n ++ ps) (name_at es b) ≡ true)
   unfolding walk
   walk-found [] n k b l h e =
@@ -96,14 +95,14 @@ module _ (S : Schema) (es : List Stored) (ok : Accepted S es) where
       (subst (λ (x : ℕ). x ≤ length es) q l, rw (append-nil n) (subst (λ (x : ℕ). same_name S n (name_at es x) ≡ true) q h))
   walk-found (p ∷ ps) n k b l h e = go (child_from S k p es 0) refl e (λ j lj hj. walk-found ps (n ++ (p ∷ [])) j b lj hj)
     where
-      go : (f : Found) → child_from S k p es 0 ≡ f → on_found f (λ j. walk S es j ps) ≡ At b
-          → ((j : ℕ) → j ≤ length es → same_name S (n ++ (p ∷ [])) (name_at es j) ≡ true → walk S es j ps ≡ At b → (b ≤ length es) × (same_name S ((n ++ (p ∷ [])) ++ ps) (name_at es b) ≡ true))
+      go : (f : Found) → child_from S k p es 0 ≡ f → on_found f (λ j. walk S es j ps) ≡ Some b
+          → ((j : ℕ) → j ≤ length es → same_name S (n ++ (p ∷ [])) (name_at es j) ≡ true → walk S es j ps ≡ Some b → (b ≤ length es) × (same_name S ((n ++ (p ∷ [])) ++ ps) (name_at es b) ≡ true))
           → (b ≤ length es) × (same_name S (n ++ (p ∷ ps)) (name_at es b) ≡ true)
-      go (At j) q w ih = let c = child-named n k p j q h in let r = ih j c.0 c.1 w in (r.0, rw append_snoc at r.1)
-      go Nothing q w ih = absurd (found-not b w)
+      go (Some j) q w ih = let c = child-named n k p j q h in let r = ih j c.0 c.1 w in (r.0, rw append_snoc at r.1)
+      go None q w ih = absurd (found-not b w)
 
   -- a base that the walk reaches: its number is in range, and it has the name
-  pub base-found : (n : Name) (b : ℕ) → walk S es 0 n ≡ At b → (b ≤ length es) × (same_name S n (name_at es b) ≡ true)
+  pub base-found : (n : Name) (b : ℕ) → walk S es 0 n ≡ Some b → (b ≤ length es) × (same_name S n (name_at es b) ≡ true)
   unfolding name_at same_name
   base-found n b e = walk-found n [] 0 b zero-le refl e
 
@@ -132,7 +131,7 @@ module _ (S : Schema) (es : List Stored) (ok : Accepted S es) where
 
   -- a name with an entry below it is a child's name, of the entry that its beginning names
   child-there : (n : Name) (k : ℕ) (p : Part) (b : ℕ) → k ≤ length es → b ≤ length es → same_name S n (name_at es k) ≡ true → covers S (n ++ (p ∷ [])) (name_at es b) ≡ true
-      → child_from S k p es 0 ≡ Nothing → ⊥
+      → child_from S k p es 0 ≡ None → ⊥
   unfolding name_at wanted
   child-there n k p b lk lb h c e = go (above S es ok b b (n ++ (p ∷ [])) (omega arith) lb c)
     where
@@ -147,16 +146,16 @@ module _ (S : Schema) (es : List Stored) (ok : Accepted S es) where
           let parent : (get_or es m blank).parent ≡ k = one_number S es ok (get_or es m blank).parent (get_or es m blank).parent k (omega arith) (omega arith) lk (same_name-join S n _ _ s.0 h) in
           child-missing S k p es 0 e m r.1 (both (eqb (get_or es m blank).parent k) _ (eq-eqb _ _ parent) s.1)
 
-  pub walk-missing : (ps n : Name) (k : ℕ) → k ≤ length es → same_name S n (name_at es k) ≡ true → walk S es k ps ≡ Nothing
+  pub walk-missing : (ps n : Name) (k : ℕ) → k ≤ length es → same_name S n (name_at es k) ≡ true → walk S es k ps ≡ None
       → (b : ℕ) → b ≤ length es → same_name S (n ++ ps) (name_at es b) ≡ true → ⊥
   unfolding walk
   walk-missing [] n k l h e b lb s = found-not k (sym e)
   walk-missing (p ∷ ps) n k l h e b lb s = go (child_from S k p es 0) refl e (λ j lj hj w. walk-missing ps (n ++ (p ∷ [])) j lj hj w b lb (rw (append_snoc n p ps) s))
     where
-      go : (f : Found) → child_from S k p es 0 ≡ f → on_found f (λ j. walk S es j ps) ≡ Nothing
-          → ((j : ℕ) → j ≤ length es → same_name S (n ++ (p ∷ [])) (name_at es j) ≡ true → walk S es j ps ≡ Nothing → ⊥) → ⊥
-      go (At j) q w ih = let c = child-named n k p j q h in ih j c.0 c.1 w
-      go Nothing q w ih = child-there n k p b l lb h (beginning n ps (name_at es b) p s) q
+      go : (f : Found) → child_from S k p es 0 ≡ f → on_found f (λ j. walk S es j ps) ≡ None
+          → ((j : ℕ) → j ≤ length es → same_name S (n ++ (p ∷ [])) (name_at es j) ≡ true → walk S es j ps ≡ None → ⊥) → ⊥
+      go (Some j) q w ih = let c = child-named n k p j q h in ih j c.0 c.1 w
+      go None q w ih = child-there n k p b l lb h (beginning n ps (name_at es b) p s) q
 
 -- ---- what the operations ask of a name
 
@@ -213,8 +212,8 @@ numbered es zero = none
 numbered es (suc k) = some (entry_of (get_or es k blank))
 
 abbrev pub entry_by : List Stored → Found → Option Entry
-entry_by es Nothing = none
-entry_by es (At b) = numbered es b
+entry_by es None = none
+entry_by es (Some b) = numbered es b
 
 module _ (σ : Setting) (es : List Stored) (ok : Accepted σ.schema es) where
   -- whoever has the name has the number
@@ -235,11 +234,11 @@ module _ (σ : Setting) (es : List Stored) (ok : Accepted σ.schema es) where
   named-walk n = go (walk σ.schema es 0 n) refl
     where
       go : (f : Found) → walk σ.schema es 0 n ≡ f → named σ (map entry_of es) n ≡ entry_by es f
-      go Nothing q = nobody n (λ k l e. walk-missing σ.schema es ok n [] 0 zero-le refl q (suc k) l e)
-      go (At zero) q =
+      go None q = nobody n (λ k l e. walk-missing σ.schema es ok n [] 0 zero-le refl q (suc k) l e)
+      go (Some zero) q =
           let r = base-found σ.schema es ok n 0 q in
           nobody n (λ k l e. let z : suc k ≡ 0 = only n 0 k r.0 l r.1 e in omega arith)
-      go (At (suc k)) q =
+      go (Some (suc k)) q =
           let r = base-found σ.schema es ok n (suc k) q in
           first-at (λ e. same_name σ.schema n e.name) (entry_of blank) (map entry_of es) k
           (subst (λ (m : ℕ). k < m) (sym (length-map es entry_of)) r.0)
@@ -273,18 +272,18 @@ walk-append S es k (x ∷ xs) ys = go (child_from S k x es 0) (λ j. walk-append
   where
     go : (f : Found) → ((j : ℕ) → walk S es j (xs ++ ys) ≡ on_found (walk S es j xs) (λ j. walk S es j ys))
         → on_found f (λ j. walk S es j (xs ++ ys)) ≡ on_found (on_found f (λ j. walk S es j xs)) (λ j. walk S es j ys)
-    go (At j) ih = ih j
-    go Nothing ih = refl
+    go (Some j) ih = ih j
+    go None ih = refl
 
 pub walk_more : (S : Schema) (es : List Stored) (n : Name) (i : ℕ) (z : Part) → i < length n
     → walk S es 0 (take (suc i) n) ≡ on_found (walk S es 0 (take i n)) (λ j. child_from S j (get_or n i z) es 0)
 unfolding walk
 walk_more S es n i z l = ap (walk S es 0) (take-suc n i z l) ∙ walk-append S es 0 (take i n) (get_or n i z ∷ []) ∙ go (walk S es 0 (take i n))
   where
-    one : (f : Found) → on_found f (λ j. At j) ≡ f
-    one (At j) = refl
-    one Nothing = refl
+    one : (f : Found) → on_found f (λ j. Some j) ≡ f
+    one (Some j) = refl
+    one None = refl
 
-    go : (f : Found) → on_found f (λ j. on_found (child_from S j (get_or n i z) es 0) (λ k. At k)) ≡ on_found f (λ j. child_from S j (get_or n i z) es 0)
-    go (At j) = one (child_from S j (get_or n i z) es 0)
-    go Nothing = refl
+    go : (f : Found) → on_found f (λ j. on_found (child_from S j (get_or n i z) es 0) (λ k. Some k)) ≡ on_found f (λ j. child_from S j (get_or n i z) es 0)
+    go (Some j) = one (child_from S j (get_or n i z) es 0)
+    go None = refl

@@ -1,20 +1,19 @@
 -- Laws of `Sound`: what is known with a name asked for.
-use Rattle.std.specs.Prelude.{ℕ, ◌≤◌, ◌≡◌, List}
+use Rattle.std.specs.Prelude.{ℕ, ◌≤◌, ◌≡◌, List, Some}
 use Rattle.std.proofs.Common.{◌∙◌, subst, arith}
 use Rattle.rules.specs.Sheet.{Bytes}
 use Rattle.rules.specs.Name.{Name}
 use Rattle.rules.specs.Directory.{Stored}
 use Rattle.rules.specs.Decision.{Setting}
 use Rattle.tables.specs.Laws.Resolve.{base-found}
-use Rattle.rules.specs.declared.Found.{Found}
-use Rattle.rules.specs.declared.Found.TheVariants.{At}
+use Rattle.rules.specs.Value.{Found}
 use Rattle.tables.specs.Book.{entry_count}
 use Rattle.tables.specs.World.{Known}
 use Rattle.tables.specs.Sound.{Base, KnownBase}
 
 -- the number that a name is found at, and that of the matched name, are numbers of the `count` entries, or the root's, 0
 pub record Numbered (count : ℕ) (base : Found) (missing : ℕ) : Type 0 where
-  pub found : (b : ℕ) → base ≡ At b → b ≤ count
+  pub found : (b : ℕ) → base ≡ Some b → b ≤ count
   pub matched : missing ≤ count
 
 module _ {d p : Bytes} {book held sets : List ℕ} {base : Found} {missing : ℕ} (h : KnownBase d p book held sets base missing) where

@@ -3,7 +3,7 @@
 use Prim.Native.Nat.{ℕ, zero, suc, ◌+◌, ◌≤◌, ◌<◌, zero-le}
 use Rattle.std.proofs.Common.{not-suc-le-zero, sym, ◌∙◌, length-append, length-drop, take-append-drop}
 use native.Mathlib.Omega.{arith}
-use Rattle.std.specs.Prelude.{◌≡◌, Bool, length, get_or, take, drop}
+use Rattle.std.specs.Prelude.{◌≡◌, Bool, length, get_or, take, drop, Some, None}
 use Rattle.std.proofs.Math.Path.{refl, ap, subst}
 use Rattle.std.proofs.Math.Bool.{true, false, cond}
 use Rattle.std.proofs.lemmas.Bool.{false≢true}
@@ -18,8 +18,7 @@ use Rattle.rules.specs.Judge.{accept}
 use Rattle.rules.specs.Directory.{Target, nowhere, missing, parts, Stored, blank, name_at, Directory, is_alias, is_whole, under_alias, directory_of, schema_lines, target_lines, stored_lines, directory_lines, Alias, leads_to, alias_of, aliases}
 use Rattle.rules.specs.Aliases.{replaced, leading, aliased}
 use Rattle.tables.specs.Numbers.{on_found, child_from, walk, lead, alias_by}
-use Rattle.rules.specs.declared.Found.{Found}
-use Rattle.rules.specs.declared.Found.TheVariants.{At, Nothing}
+use Rattle.rules.specs.Value.{Found}
 use Rattle.rules.proofs.Laws.Tests.{and_left, and_right, both, bool-ext}
 use Rattle.rules.specs.Derived.{Each, NamingAllowed, Accepted}
 use Rattle.rules.proofs.Laws.Each.{each_after, each_at, gathered-each}
@@ -130,41 +129,41 @@ module _ (d : Directory) (ok : Accepted d.schema d.entries) where
 
 -- ---- aliases on the way down
 
-at-not : (i : ℕ) → At i ≡ Nothing → ⊥
+at-not : (i : ℕ) → Some i ≡ None → ⊥
 at-not i e = let z : ◌≡◌ {A = ℕ} 0 1 = cc in omega arith
 
 module _ (S : Schema) (es : List Stored) where
   -- what is met is an alias, at a beginning of the name
-  lead-met : (ps : Name) (k j : ℕ) → lead S es k ps ≡ At j → (i : ℕ) × (walk S es k (take i ps) ≡ At j) × (under_alias es j ≡ true)
+  lead-met : (ps : Name) (k j : ℕ) → lead S es k ps ≡ Some j → (i : ℕ) × (walk S es k (take i ps) ≡ Some j) × (under_alias es j ≡ true)
   unfolding lead walk
   lead-met [] k j e = go (under_alias es k) refl e
     where
-      go : (b : Bool) → under_alias es k ≡ b → cond b (At k) Nothing ≡ At j → (i : ℕ) × (walk S es k (take i []) ≡ At j) × (under_alias es j ≡ true)
+      go : (b : Bool) → under_alias es k ≡ b → cond b (Some k) None ≡ Some j → (i : ℕ) × (walk S es k (take i []) ≡ Some j) × (under_alias es j ≡ true)
       go true h q = let r : k ≡ j = cc in (0, q, rw (← r) h)
       go false h q = absurd (at-not j (sym q))
   lead-met (p ∷ ps) k j e = go (under_alias es k) refl (child_from S k p es 0) refl e (lead-met ps)
     where
       Met : Type 0
-      Met = (i : ℕ) × (walk S es k (take i (p ∷ ps)) ≡ At j) × (under_alias es j ≡ true)
+      Met = (i : ℕ) × (walk S es k (take i (p ∷ ps)) ≡ Some j) × (under_alias es j ≡ true)
 
-      go : (b : Bool) → under_alias es k ≡ b → (f : Found) → child_from S k p es 0 ≡ f → cond b (At k) (on_found f (λ c. lead S es c ps)) ≡ At j
-          → ((c j : ℕ) → lead S es c ps ≡ At j → (i : ℕ) × (walk S es c (take i ps) ≡ At j) × (under_alias es j ≡ true)) → Met
+      go : (b : Bool) → under_alias es k ≡ b → (f : Found) → child_from S k p es 0 ≡ f → cond b (Some k) (on_found f (λ c. lead S es c ps)) ≡ Some j
+          → ((c j : ℕ) → lead S es c ps ≡ Some j → (i : ℕ) × (walk S es c (take i ps) ≡ Some j) × (under_alias es j ≡ true)) → Met
       go true h f g q ih = let r : k ≡ j = cc in (0, q, rw (← r) h)
-      go false h (At c) g q ih = let (i, w, u) = ih c j q in (suc i, rw g w, u)
-      go false h Nothing g q ih = absurd (at-not j (sym q))
+      go false h (Some c) g q ih = let (i, w, u) = ih c j q in (suc i, rw g w, u)
+      go false h None g q ih = absurd (at-not j (sym q))
 
   -- an alias that is passed is met, or one before it
-  lead-meets : (xs ys : Name) (k j : ℕ) → walk S es k xs ≡ At j → under_alias es j ≡ true → lead S es k (xs ++ ys) ≡ Nothing → ⊥
+  lead-meets : (xs ys : Name) (k j : ℕ) → walk S es k xs ≡ Some j → under_alias es j ≡ true → lead S es k (xs ++ ys) ≡ None → ⊥
   unfolding lead walk
   lead-meets [] [] k j w u e = let r : k ≡ j = cc in let a : under_alias es k ≡ true = rw r u in at-not k (rw a at e)
   lead-meets [] (y ∷ ys) k j w u e = let r : k ≡ j = cc in let a : under_alias es k ≡ true = rw r u in at-not k (rw a at e)
   lead-meets (x ∷ xs) ys k j w u e = go (under_alias es k) (child_from S k x es 0) w e (lead-meets xs ys)
     where
-      go : (b : Bool) (f : Found) → on_found f (λ c. walk S es c xs) ≡ At j → cond b (At k) (on_found f (λ c. lead S es c (xs ++ ys))) ≡ Nothing
-          → ((c j : ℕ) → walk S es c xs ≡ At j → under_alias es j ≡ true → lead S es c (xs ++ ys) ≡ Nothing → ⊥) → ⊥
+      go : (b : Bool) (f : Found) → on_found f (λ c. walk S es c xs) ≡ Some j → cond b (Some k) (on_found f (λ c. lead S es c (xs ++ ys))) ≡ None
+          → ((c j : ℕ) → walk S es c xs ≡ Some j → under_alias es j ≡ true → lead S es c (xs ++ ys) ≡ None → ⊥) → ⊥
       go true f v q ih = at-not k q
-      go false (At c) v q ih = ih c j v u q
-      go false Nothing v q ih = at-not j (sym v)
+      go false (Some c) v q ih = ih c j v u q
+      go false None v q ih = at-not j (sym v)
 
 -- a name begins with what its beginning is the same as
 covers-take : (S : Schema) (i : ℕ) (n m : Name) → same_name S (take i n) m ≡ true → covers S m n ≡ true
@@ -184,18 +183,18 @@ take-covers S (a ∷ as') (b ∷ bs) e =
 
 module _ (d : Directory) (ok : Accepted d.schema d.entries) where
   -- the walk finds whom a name names
-  walk-to : (n : Name) (k : ℕ) → k < length d.entries → same_name d.schema n (get_or d.entries k blank).name ≡ true → walk d.schema d.entries 0 n ≡ At (suc k)
+  walk-to : (n : Name) (k : ℕ) → k < length d.entries → same_name d.schema n (get_or d.entries k blank).name ≡ true → walk d.schema d.entries 0 n ≡ Some (suc k)
   unfolding name_at same_name
   walk-to n k l s = go (walk d.schema d.entries 0 n) refl
     where
-      go : (f : Found) → walk d.schema d.entries 0 n ≡ f → f ≡ At (suc k)
-      go Nothing q = absurd (walk-missing d.schema d.entries ok n [] 0 zero-le refl q (suc k) l s)
-      go (At b) q =
+      go : (f : Found) → walk d.schema d.entries 0 n ≡ f → f ≡ Some (suc k)
+      go None q = absurd (walk-missing d.schema d.entries ok n [] 0 zero-le refl q (suc k) l s)
+      go (Some b) q =
           let r = base-found d.schema d.entries ok n b q in
-          ap At (one_number d.schema d.entries ok b b (suc k) (omega arith) r.0 l (same_name-join d.schema n (name_at d.entries b) (get_or d.entries k blank).name r.1 s))
+          ap Some (one_number d.schema d.entries ok b b (suc k) (omega arith) r.0 l (same_name-join d.schema n (name_at d.entries b) (get_or d.entries k blank).name r.1 s))
 
   -- who is found has as many parts as were taken: what is left of the name stays behind the target
-  pub walk-depth : (n : Name) (k : ℕ) → walk d.schema d.entries 0 n ≡ At k → length (name_at d.entries k) ≡ length n
+  pub walk-depth : (n : Name) (k : ℕ) → walk d.schema d.entries 0 n ≡ Some k → length (name_at d.entries k) ≡ length n
   walk-depth n k w = sym (same_length d.schema n (name_at d.entries k) (base-found d.schema d.entries ok n k w).1)
 
   -- the alias that leads a name is the one that is met on the way down
@@ -204,13 +203,13 @@ module _ (d : Directory) (ok : Accepted d.schema d.entries) where
   leading-walk n = go (lead d.schema d.entries 0 n) refl
     where
       go : (f : Found) → lead d.schema d.entries 0 n ≡ f → leading d.schema (aliases d) n ≡ alias_by d.entries f
-      go Nothing q =
+      go None q =
           leading-none d ok n (λ k l e c.
           let m : Name = (get_or d.entries k blank).name in
           lead-meets d.schema d.entries (take (length m) n) (drop (length m) n) 0 (suc k) (walk-to (take (length m) n) k l (take-covers d.schema n m c)) e
           (rw (take-append-drop (length m) n) q))
-      go (At zero) q = let (i, w, u) = lead-met d.schema d.entries n 0 0 q in absurd (false≢true u)
-      go (At (suc k)) q =
+      go (Some zero) q = let (i, w, u) = lead-met d.schema d.entries n 0 0 q in absurd (false≢true u)
+      go (Some (suc k)) q =
           let (i, w, u) = lead-met d.schema d.entries n 0 (suc k) q in
           let r = base-found d.schema d.entries ok (take i n) (suc k) w in
           leading-number d ok n k r.0 u (covers-take d.schema i n (get_or d.entries k blank).name r.1)

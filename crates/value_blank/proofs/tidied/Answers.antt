@@ -31,11 +31,11 @@ pub loop-b-smaller : goal.loop-b-smaller
 loop-b-smaller c =
     let s = c.args.v.now in
     let L = c.loop-b in
-    omega (arith, (next-byte s L.i L.invariant.0 _ _ (sym c.next_at.ensures ∙ c.in-Byte.is)).1)
+    omega (arith, (next-byte s L.i L.invariant.0 _ _ (sym c.next_at.ensures ∙ c.in-Some.is)).1)
 
 pub loop-b-preserved : goal.loop-b-preserved
 loop-b-preserved c =
     let s = c.args.v.now in
     let L = c.loop-b in
-    let N = next-byte s L.i L.invariant.0 _ _ (sym c.next_at.ensures ∙ c.in-Byte.is) in
-    (N.1.1, ap (λ (x : Text). filled x (words true false (drop c.in-Byte.k s))) c.put-t.ensures ∙ sym (filled_on L.t _ _) ∙ ap (filled L.t) (sym N.0) ∙ L.invariant.1)
+    let N = next-byte s L.i L.invariant.0 _ _ (sym c.next_at.ensures ∙ c.in-Some.is) in
+    (N.1.1, ap (λ (x : Text). filled x (words true false (drop c.in-Some.k s))) c.put-t.ensures ∙ sym (filled_on L.t _ _) ∙ ap (filled L.t) (sym N.0) ∙ L.invariant.1)

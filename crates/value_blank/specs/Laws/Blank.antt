@@ -1,5 +1,5 @@
 -- Laws of blanks, one for each way through a loop.
-use Rattle.std.specs.Prelude.{ℕ, suc, ◌+◌, ◌-◌, ◌≤◌, ◌<◌, ◌≡◌, Bool, ◌&&◌, ◌||◌, not, cond, [], ◌∷◌, ◌++◌, eqb, ltb, length, get_or, drop}
+use Rattle.std.specs.Prelude.{ℕ, suc, ◌+◌, ◌-◌, ◌≤◌, ◌<◌, ◌≡◌, Bool, ◌&&◌, ◌||◌, not, cond, [], ◌∷◌, ◌++◌, eqb, ltb, length, get_or, drop, Some, None}
 use Rattle.std.proofs.Math.Path.{refl}
 use Rattle.std.proofs.Common.{sym, ap, ◌∙◌, subst, arith, add-one, zero-add, length-drop, drop-drop, get_or-drop}
 use Rattle.std.proofs.Math.Bool.{true, false}
@@ -13,8 +13,7 @@ use Rattle.rules.specs.Sheet.{Bytes, strip}
 use Rattle.rules.specs.Value.{blank_first, shorten, trim, or_blank, tidied}
 use Rattle.rules.specs.Derived.{words}
 use Rattle.rules.proofs.Laws.Blanks.{words-blank, words-byte, tidied-words}
-use Rattle.value_blank.specs.declared.Next.{Next}
-use Rattle.value_blank.specs.declared.Next.TheVariants.{Byte, End}
+use Rattle.value_blank.specs.Blank.{Next}
 use Rattle.value_blank.specs.Blank.{pair_at, doubled_at, has_run, is_tidy, blanks, skipped, next_at}
 
 -- ---- runs
@@ -186,21 +185,21 @@ module _ (v : Bytes) (i : ℕ) where
 
 -- what is left of the words where this comes next
 abbrev pub shown : Bytes → Next → Bytes
-shown v (Byte b k) = b ∷ words true false (drop k v)
-shown v End = []
+shown v (Some (b, k)) = b ∷ words true false (drop k v)
+shown v None = []
 
 -- and how far it goes
 abbrev pub Ahead : Bytes → ℕ → Next → Type 0
-Ahead v i (Byte b k) = (i < k) × (k ≤ length v)
-Ahead v i End = Unit {0}
+Ahead v i (Some (b, k)) = (i < k) × (k ≤ length v)
+Ahead v i None = Unit {0}
 
 pub next-words : (v : Bytes) (i : ℕ) → i ≤ length v → (words true false (drop i v) ≡ shown v (next_at v i)) × Ahead v i (next_at v i)
 unfolding next_at
 next-words v i l = go (eqb (skipped v i) (length v)) (ltb i (skipped v i)) refl refl
   where
     go : (s t : Bool) → eqb (skipped v i) (length v) ≡ s → ltb i (skipped v i) ≡ t
-        → (words true false (drop i v) ≡ shown v (cond s End (cond t (Byte 32 (skipped v i)) (Byte (get_or v (skipped v i) 0) (skipped v i + 1)))))
-        × Ahead v i (cond s End (cond t (Byte 32 (skipped v i)) (Byte (get_or v (skipped v i) 0) (skipped v i + 1))))
+        → (words true false (drop i v) ≡ shown v (cond s None (cond t (Some (32, skipped v i)) (Some (get_or v (skipped v i) 0, skipped v i + 1)))))
+        × Ahead v i (cond s None (cond t (Some (32, skipped v i)) (Some (get_or v (skipped v i) 0, skipped v i + 1))))
     go true t p q = (from_end v i true false (omega (arith, eqb-true (skipped v i) (length v) p)), tt)
     go false true p q =
         let h : i < skipped v i = ltb-true i (skipped v i) q in
@@ -212,10 +211,10 @@ next-words v i l = go (eqb (skipped v i) (length v)) (ltb i (skipped v i)) refl 
         (ap (λ (k : ℕ). words true false (drop k v)) e ∙ from-here v i true false m, omega arith)
 
 module _ (v : Bytes) (i : ℕ) (h : i ≤ length v) where
-  pub next-byte : (b k : ℕ) → next_at v i ≡ Byte b k → (words true false (drop i v) ≡ b ∷ words true false (drop k v)) × ((i < k) × (k ≤ length v))
+  pub next-byte : (b k : ℕ) → next_at v i ≡ Some (b, k) → (words true false (drop i v) ≡ b ∷ words true false (drop k v)) × ((i < k) × (k ≤ length v))
   next-byte b k e = subst (λ (x : Next). (words true false (drop i v) ≡ shown v x) × Ahead v i x) e (next-words v i h)
 
-  pub next-end : next_at v i ≡ End → words true false (drop i v) ≡ []
+  pub next-end : next_at v i ≡ None → words true false (drop i v) ≡ []
   next-end e = (next-words v i h).0 ∙ ap (shown v) e
 
 -- ---- from the beginning

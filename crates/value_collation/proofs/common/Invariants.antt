@@ -1,11 +1,7 @@
 -- The invariant: the bytes passed are shared.
-use Prim.Native.Nat.{◌-◌}
 use Rattle.rules.specs.Value.{folded}
 use Rattle.value_collation.specs.Compare.{Shared}
 use Rattle.value_collation.proofs.common.Given as goal
 
 abbrev pub invariant-loop-i : goal.invariant-loop-i
 invariant-loop-i l = Shared (folded l.syntax l.v) (folded l.syntax l.w) l.n l.i
-
-abbrev pub decreases-loop-i : goal.decreases-loop-i
-decreases-loop-i l = l.n - l.i

@@ -1,11 +1,8 @@
 -- The invariant is the contract: four identical bytes are four shared ones.
-use Prim.Native.Nat.{◌-◌}
+use Rattle.std.proofs.Common.{◌*◌}
 use Rattle.rules.specs.Value.{folded}
 use Rattle.value_collation.specs.Compare.{Shared}
 use Rattle.value_collation.proofs.leap.Given as goal
 
-abbrev pub invariant-loop-i : goal.invariant-loop-i
-invariant-loop-i l = Shared (folded l.syntax l.v) (folded l.syntax l.w) l.n l.i
-
-abbrev pub decreases-loop-i : goal.decreases-loop-i
-decreases-loop-i l = l.n - l.i
+abbrev pub invariant-loop-q : goal.invariant-loop-q
+invariant-loop-q l = Shared (folded l.syntax l.v) (folded l.syntax l.w) l.n (4 * l.q)

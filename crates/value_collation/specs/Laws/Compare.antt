@@ -11,7 +11,7 @@ use Rattle.rules.proofs.Laws.Value.{identical-eq, normal-other}
 use Rattle.rules.proofs.Laws.Substrings.{folded-length}
 use Rattle.rules.specs.Sheet.{Bytes}
 use Rattle.rules.specs.Value.{text, folded, identical, same, begins, order_bytes}
-use Rattle.rules.specs.declared.Order.TheVariants.{Less, Equal, Greater}
+use Rattle.std.specs.declared.cmp.Ordering.TheVariants.{Less, Equal, Greater}
 use Rattle.value_collation.specs.Fold.{fold, four}
 use Rattle.value_collation.specs.Laws.Fold.{folded-cons, four-steps}
 use Rattle.value_collation.specs.Compare.{common, Shared}

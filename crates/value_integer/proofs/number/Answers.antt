@@ -1,6 +1,7 @@
 -- By the number of digits, and the first one.
-use mathlib.Core.Path.{sym, ◌∙◌}
-use native.Mathlib.Omega.{arith}
+use Rattle.std.proofs.Common.{sym, ap, ◌∙◌, ◌≡◌, ◌-◌, length, take, drop, arith}
+use Rattle.std.proofs.lemmas.Grind.{common_steps}
+use Rattle.rules.specs.Sheet.{digits}
 use Rattle.value_integer.specs.Laws.Numeral.{bounded-none, bounded-long, bounded-zero, bounded-one, bounded-many}
 use Rattle.value_integer.proofs.number.Goals as goal
 use Rattle.value_integer.proofs.number.Goals.{then-n-gt1+else-s-from-eq48, else-n-gt1}
@@ -24,7 +25,8 @@ pub returns : goal.returns
 returns c =
     let A = c.args in
     let h = c.if-n-gt19.false in
-    c.digits.ensures
+    let rest : take (length A.s.now - A.from) (drop A.from A.s.now) ≡ drop A.from A.s.now = grind (arith, common_steps) in
+    c.digits.ensures ∙ ap (digits 0) rest
     ∙ elim c.if-n-gt1.branch [
       | then-n-gt1+else-s-from-eq48 w ↦ sym (bounded-many A.s.now A.from h (omega (arith, w.if-n-gt1.true)) w.if-s-from-eq48.false)
       | else-n-gt1 w ↦ sym (bounded-one A.s.now A.from h (omega (arith, w.if-n-gt1.false, c.if-n-eq0.false)))

@@ -1,10 +1,7 @@
-use Prim.Native.Nat.{◌+◌, ◌-◌, ◌≤◌}
-use mathlib.Core.Path.{◌≡◌, sym, ◌∙◌}
+use Prim.Native.Nat.{◌+◌, ◌-◌}
+use mathlib.Core.Path.{sym, ◌∙◌}
 use native.Mathlib.Omega.{arith}
-use lib.ListN.{length, drop}
-use Rattle.rules.specs.Value.{text, folded, find}
 use Rattle.value_substring.specs.Laws.Pieces.{seek-within, any-empty, any_found, any-short, any-first, any-on}
-use borrow.Author.Rules.{rules}
 use Rattle.value_substring.proofs.any.Goals as goal
 
 pub returns-then-p-eq0 : goal.returns-then-p-eq0
@@ -32,9 +29,6 @@ returns-then-stands c =
     let A = c.args in
     let L = c.loop-i in
     sym (any_found A.v.now A.p.now L.i (L.i - A.from) (sym c.stands.ensures ∙ c.if-stands.true)) ∙ L.invariant.2
-
-pub loop-i-smaller : goal.loop-i-smaller
-loop-i-smaller c = omega (arith, c.seek-i-in-loop-i.ensures)
 
 pub loop-i-preserved : goal.loop-i-preserved
 loop-i-preserved c =

@@ -1,11 +1,8 @@
 -- The invariant: the piece stands nowhere before `i`.
-use Prim.Native.Nat.{◌+◌, ◌-◌, ◌≤◌}
-use mathlib.Core.Path.{◌≡◌, sym, ◌∙◌}
-use native.Mathlib.Omega.{arith}
+use Prim.Native.Nat.{◌-◌, ◌≤◌}
+use mathlib.Core.Path.{◌≡◌}
 use lib.ListN.{length, drop}
 use Rattle.rules.specs.Value.{text, folded, find}
-use Rattle.value_substring.specs.Laws.Pieces.{seek-within, any-empty, any_found, any-short, any-first, any-on}
-use borrow.Author.Rules.{rules}
 use Rattle.value_substring.proofs.any.Given as goal
 
 abbrev pub invariant-loop-i : goal.invariant-loop-i

@@ -1,31 +1,17 @@
-use Prim.Native.Nat.{◌-◌}
-use mathlib.Core.Path.{sym, ◌∙◌}
-use native.Mathlib.Omega.{arith}
+use Rattle.std.proofs.Common.{sym, ◌∙◌, ◌≡◌, ◌+◌, ◌*◌, arith}
 use borrow.Author.Tests.{not-false}
-use lib.ListN.{length}
-use Rattle.rules.specs.Value.{text, folded}
-use Rattle.rules.proofs.Laws.Substrings.{folded-length}
-use Rattle.value_substring.specs.Pieces.{Sought}
 use Rattle.value_substring.specs.Laws.Pieces.{sought-start, sought-four}
-use borrow.Author.Rules.{rules}
 use Rattle.value_substring.proofs.leap.Goals as goal
 
-pub loop-i-init : goal.loop-i-init
-loop-i-init c =
+pub loop-q-init : goal.loop-q-init
+loop-q-init c =
     let A = c.args in
-    sought-start A.b A.v.now A.from c.requires
+    let first : A.from + 4 * 0 ≡ A.from = omega arith in
+    rw first (sought-start A.b A.v.now A.from c.requires)
 
-pub overflow_sub-v : goal.overflow_sub-v
-overflow_sub-v c = omega (arith, c.loop-i.invariant.within, folded-length text c.args.v.now)
-
-pub returns-then-not-absent : goal.returns-then-not-absent
-returns-then-not-absent c = c.loop-i.invariant
-
-pub loop-i-preserved : goal.loop-i-preserved
-loop-i-preserved c =
+pub loop-q-preserved : goal.loop-q-preserved
+loop-q-preserved c =
     let A = c.args in
-    let L = c.loop-i in
-    sought-four A.b A.v.now A.from L.i L.invariant (omega arith) (sym c.absent.ensures ∙ not-false _ c.if-not-absent.false-raw)
-
-pub returns : goal.returns
-returns c = c.loop-i.invariant
+    let L = c.loop-q in
+    let next : A.from + 4 * (L.q + 1) ≡ A.from + 4 * L.q + 4 = omega arith in
+    rw next (sought-four A.b A.v.now A.from (A.from + 4 * L.q) L.invariant (omega arith) (sym c.absent.ensures ∙ not-false _ c.if-not-absent.false-raw))

@@ -1,14 +1,8 @@
-use Prim.Native.Nat.{◌-◌}
-use mathlib.Core.Path.{sym, ◌∙◌}
-use lib.ListN.{length}
-use Rattle.rules.specs.Value.{text, folded}
-use Rattle.value_substring.specs.Pieces.{Sought}
+use Rattle.std.proofs.Common.{sym, ◌∙◌, ◌≡◌, length, arith}
+use Rattle.rules.specs.Value.{text}
+use Rattle.rules.proofs.Laws.Substrings.{folded-length}
 use Rattle.value_substring.specs.Laws.Pieces.{sought-on, sought-at, sought-end}
-use borrow.Author.Rules.{rules}
 use Rattle.value_substring.proofs.seek.Goals as goal
-
-pub loop-i-init : goal.loop-i-init
-loop-i-init c = c.leap-i.ensures
 
 pub returns-then-small-b : goal.returns-then-small-b
 returns-then-small-b c =
@@ -26,4 +20,5 @@ pub returns : goal.returns
 returns c =
     let A = c.args in
     let L = c.loop-i in
-    sought-end A.b A.v.now A.from L.i L.invariant c.loop-i-test.false
+    let end : length A.v.now ≡ L.i = omega (arith, L.invariant.within, folded-length text A.v.now) in
+    end ∙ sought-end A.b A.v.now A.from L.i L.invariant c.loop-i-test.false

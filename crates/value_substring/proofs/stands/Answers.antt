@@ -1,6 +1,5 @@
 -- The beginning that the text from `at` on shares with the piece is all of the piece.
 use Rattle.value_substring.specs.Laws.Pieces.{stands-common}
-use borrow.Author.Rules.{rules}
 use Rattle.value_substring.proofs.stands.Goals as goal
 
 pub returns : goal.returns

@@ -1,5 +1,5 @@
 -- Laws of `Pieces`: a piece is looked for by its first byte, then by what it begins.
-use Rattle.std.specs.Prelude.{ℕ, suc, ◌+◌, ◌-◌, ◌≤◌, ◌<◌, ◌≡◌, refl, Bool, true, false, not, cond, [], ◌∷◌, eqb, get_or, take}
+use Rattle.std.specs.Prelude.{ℕ, suc, ◌+◌, ◌-◌, ◌≤◌, ◌<◌, ◌≡◌, refl, Bool, true, false, not, cond, [], ◌∷◌, eqb, get_or, take, Some, None}
 use Rattle.std.proofs.Common.{sym, ◌∙◌, add-zero, length-drop, drop_of_length-le}
 use Rattle.std.proofs.Math.Path.{ap}
 use native.Mathlib.Omega.{arith}
@@ -9,7 +9,6 @@ use Rattle.std.proofs.Math.Seq.{drop-drop}
 use Rattle.rules.proofs.Laws.Substrings.{find-by, folded-length}
 use Rattle.rules.specs.Sheet.{Bytes}
 use Rattle.rules.specs.Value.{text, small, folded, begins, ends, find}
-use Rattle.rules.specs.declared.Found.TheVariants.{At, Nothing}
 use Rattle.value_collation.specs.Fold.{fold, four}
 use Rattle.value_collation.specs.Laws.Fold.{folded-cons, folded-part, four-steps}
 use Rattle.value_collation.specs.Compare.{common}
@@ -71,21 +70,21 @@ stands-common v p at = rw (folded-part text v at, ← folded-length text p) (sym
 begins-short : (a p : Bytes) → length a < length p → begins a p ≡ false
 begins-short a p h = begins-common a p ∙ ne_eqb (common a p) (length p) (λ e. omega (arith, (common-bound a p).0))
 
-find-short : (p a : Bytes) (k : ℕ) → length a < length p → find p a k ≡ Nothing
+find-short : (p a : Bytes) (k : ℕ) → length a < length p → find p a k ≡ None
 unfolding find
 find-short p [] k h = rw (begins-short [] p h)
 find-short p (x ∷ xs) k h = rw (begins-short (x ∷ xs) p h) (find-short p xs (k + 1) (omega arith))
 
-pub any-empty : (p a : Bytes) → length p ≡ 0 → find (folded text p) a 0 ≡ At 0
+pub any-empty : (p a : Bytes) → length p ≡ 0 → find (folded text p) a 0 ≡ Some 0
 unfolding folded begins
 any-empty [] a e = find-by [] a 0 refl
 any-empty (x ∷ xs) a e = absurd (omega arith)
 
 module _ (v p : Bytes) (i k : ℕ) where
-  pub any_found : begins (drop i (folded text v)) (folded text p) ≡ true → find (folded text p) (drop i (folded text v)) k ≡ At (k + length p)
+  pub any_found : begins (drop i (folded text v)) (folded text p) ≡ true → find (folded text p) (drop i (folded text v)) k ≡ Some (k + length p)
   any_found e = rw (← folded-length text p) (find-by (folded text p) (drop i (folded text v)) k e)
 
-  pub any-short : length v - i < length p → find (folded text p) (drop i (folded text v)) k ≡ Nothing
+  pub any-short : length v - i < length p → find (folded text p) (drop i (folded text v)) k ≡ None
   any-short h = find-short (folded text p) (drop i (folded text v)) k (simp (length-drop, folded-length) h)
 
 find-seek : (b : ℕ) (p a : Bytes) (k : ℕ) → find (b ∷ p) a k ≡ find (b ∷ p) (drop (seek b a) a) (k + seek b a)

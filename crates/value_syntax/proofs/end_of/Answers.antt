@@ -5,7 +5,6 @@ use lib.ListN.{length-drop}
 use Rattle.rules.specs.Value.{text, used}
 use Rattle.rules.proofs.Laws.Substrings.{folded-length}
 use Rattle.value_substring.specs.Laws.Pieces.{ends-short, ends-stands}
-use borrow.Author.Rules.{rules}
 use Rattle.value_syntax.proofs.end_of.Goals as goal
 
 pub returns-then-stands : goal.returns-then-stands

@@ -2,7 +2,6 @@
 use mathlib.Core.Path.{sym, ◌∙◌}
 use Rattle.value_blank.specs.Laws.Text.{text-within}
 use Rattle.value_syntax.specs.Laws.Piece.{piece-plain, piece-short}
-use borrow.Author.Rules.{rules}
 use Rattle.value_syntax.proofs.piece_end.Goals as goal
 
 pub slice_bounds-end_of-end : goal.slice_bounds-end_of-end

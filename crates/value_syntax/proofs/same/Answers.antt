@@ -1,11 +1,7 @@
 -- Text by its order. Other values of one length are equal where the beginning that they share is all of them.
 use mathlib.Core.Path.{sym}
 use Rattle.value_collation.specs.Laws.Compare.{same-common, same-never}
-use borrow.Author.Rules.{rules}
 use Rattle.value_syntax.proofs.same.Goals as goal
-
-pub returns-then-syntax-eq-TEXT : goal.returns-then-syntax-eq-TEXT
-returns-then-syntax-eq-TEXT c = rw c.if-syntax-eq-TEXT.true c.same_text.ensures
 
 pub returns-then-v-w : goal.returns-then-v-w
 returns-then-v-w c =

@@ -1,5 +1,5 @@
 -- Laws of a piece: with its runs shortened, or none to shorten.
-use Rattle.std.specs.Prelude.{ℕ, ◌-◌, ◌≤◌, ◌≡◌, false, length, take}
+use Rattle.std.specs.Prelude.{◌-◌, ◌≤◌, ◌≡◌, false, length, take}
 use Rattle.std.proofs.Common.{arith, sym, ap, ◌∙◌, take_all}
 use Rattle.rules.specs.Sheet.{Bytes}
 use Rattle.rules.specs.Value.{text, shorten, folded, normal_piece}

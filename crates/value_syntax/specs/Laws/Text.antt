@@ -1,6 +1,6 @@
 -- Laws of text: one byte more, four bytes more, and none.
-use Rattle.std.specs.Prelude.{ℕ, suc, ◌+◌, ◌-◌, ◌≤◌, ◌<◌, ◌≡◌, refl, Bool, true, false, ◌&&◌, ◌||◌, not, length, get_or, drop}
-use Rattle.std.proofs.Common.{add-one, arith, drop_of_length-le, drop-cons}
+use Rattle.std.specs.Prelude.{ℕ, suc, ◌+◌, ◌-◌, ◌≤◌, ◌<◌, ◌≡◌, refl, Bool, true, false, ◌&&◌, ◌||◌, not, [], ◌∷◌, fold, length, get_or, drop}
+use Rattle.std.proofs.Common.{◌∙◌, add-one, arith, drop_of_length-le, drop-cons}
 use Rattle.rules.specs.Lists.{any, all}
 use Rattle.rules.specs.Sheet.{Bytes}
 use Rattle.rules.specs.Value.{printable}
@@ -30,3 +30,13 @@ all-four v i h =
 
 pub all_end : (v : Bytes) (i : ℕ) → length v ≤ i → all printable (drop i v) ≡ true
 all_end v i h = rw drop_of_length-le
+
+pub fold-all : (t : Bool) (v : Bytes) → fold (λ t b. t && printable b) t v ≡ (t && all printable v)
+fold-all true [] = refl
+fold-all false [] = refl
+fold-all t (b ∷ bs) = fold-all (t && printable b) bs ∙ go t (printable b) (any (λ b. not (printable b)) bs)
+  where
+    go : (x y z : Bool) → ((x && y) && not z) ≡ (x && not (not y || z))
+    go true true z = refl
+    go true false z = refl
+    go false y z = refl

@@ -4,7 +4,6 @@ use mathlib.Core.List.{List}
 use Prim.Native.Nat.{ℕ}
 use Rattle.rules.proofs.Laws.Sheet.{part-rest}
 use Rattle.rules.specs.Value.{text, normal, order_bytes}
-use borrow.Author.Rules.{rules}
 use Rattle.value_text.proofs.by_blanks.Goals as goal
 
 pub returns : goal.returns

@@ -2,7 +2,6 @@
 use mathlib.Core.Path.{sym, ◌∙◌}
 use native.Mathlib.Omega.{arith}
 use Rattle.value_text.specs.Laws.Walk.{shared-within, shared-all, shared-apart}
-use borrow.Author.Rules.{rules}
 use Rattle.value_text.proofs.order_after.Goals as goal
 
 pub returns-then-i-w : goal.returns-then-i-w

@@ -3,7 +3,6 @@ use mathlib.Core.Path.{sym, ◌∙◌}
 use native.Mathlib.Omega.{arith}
 use Rattle.value_blank.specs.Laws.Blank.{skip-within}
 use Rattle.value_text.specs.Laws.Walk.{blanks-both, blanks-first, blanks-second, blanks-none}
-use borrow.Author.Rules.{rules}
 use Rattle.value_text.proofs.order_blanks.Goals as goal
 
 pub returns-then-j-w : goal.returns-then-j-w

@@ -1,13 +1,9 @@
 -- What is left from `i` and `j` on is ordered as the whole.
 use Prim.Native.Nat.{◌-◌, ◌≤◌}
-use mathlib.Core.Path.{◌≡◌, refl, sym, ◌∙◌}
-use native.Mathlib.Omega.{arith}
+use mathlib.Core.Path.{◌≡◌}
 use lib.ListN.{length}
 use Rattle.rules.specs.Value.{order_bytes}
-use Rattle.value_blank.specs.Laws.Blank.{next-byte}
 use Rattle.value_text.specs.Walk.{left}
-use Rattle.value_text.specs.Laws.Walk.{walk-ended, walk-longer, walk-apart, walk-on}
-use borrow.Author.Rules.{rules}
 use Rattle.value_text.proofs.order_from.Given as goal
 
 abbrev pub invariant-loop-a : goal.invariant-loop-a

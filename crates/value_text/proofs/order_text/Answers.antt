@@ -1,7 +1,6 @@
 -- First bytes that differ, and are no blanks, tell the order.
 use mathlib.Core.Path.{sym, ◌∙◌}
 use Rattle.value_text.specs.Laws.Walk.{first-apart}
-use borrow.Author.Rules.{rules}
 use Rattle.value_text.proofs.order_text.Goals as goal
 
 pub returns-then-b-ne-BLANK : goal.returns-then-b-ne-BLANK

@@ -1,5 +1,5 @@
 -- Laws of the order of texts: one for each way through the walk, and what the beginning that two texts share tells.
-use Rattle.std.specs.Prelude.{ℕ, zero, suc, ◌+◌, ◌≤◌, ◌<◌, ◌≡◌, refl, Bool, true, ◌&&◌, cond, [], ◌∷◌, ◌++◌, map, eqb, ltb, get_or}
+use Rattle.std.specs.Prelude.{ℕ, zero, suc, ◌+◌, ◌≤◌, ◌<◌, ◌≡◌, refl, Bool, true, ◌&&◌, cond, [], ◌∷◌, ◌++◌, map, eqb, ltb, get_or, Some, None}
 use Rattle.std.proofs.Math.Path.{sym, ap}
 use Rattle.std.proofs.Common.{ap₂, ◌∙◌, arith}
 use Rattle.std.proofs.Math.Bool.{false}
@@ -12,21 +12,20 @@ use Rattle.rules.proofs.Laws.Value.{identical-eq, order_bytes-refl}
 use Rattle.rules.proofs.Laws.Substrings.{folded-length}
 use Rattle.rules.specs.Derived.{words}
 use Rattle.rules.proofs.Laws.Blanks.{words-blank, words-byte, small-blank, normal-text}
-use Rattle.rules.specs.declared.Order.{Order}
-use Rattle.rules.specs.declared.Order.TheVariants.{Less, Equal, Greater}
+use Rattle.std.specs.declared.cmp.Ordering.{Ordering}
+use Rattle.std.specs.declared.cmp.Ordering.TheVariants.{Less, Equal, Greater}
 use Rattle.value_collation.specs.Fold.{fold}
 use Rattle.value_collation.specs.Laws.Fold.{folded-cons}
 use Rattle.value_collation.specs.Compare.{common}
 use Rattle.value_collation.specs.Laws.Compare.{common-bound, identical-common}
-use Rattle.value_blank.specs.declared.Next.{Next}
-use Rattle.value_blank.specs.declared.Next.TheVariants.{Byte, End}
+use Rattle.value_blank.specs.Blank.{Next}
 use Rattle.value_blank.specs.Blank.{skipped, next_at}
 use Rattle.value_blank.specs.Laws.Blank.{next-byte, next-end, tidied-none, first_some, tidied-some}
 use Rattle.value_text.specs.Walk.{apart, ended, left, is_equal}
 
 -- ---- two bytes
 
-orderℕ-apart : (a b : ℕ) (next : Order) → (a ≡ b → ⊥) → orderℕ a b next ≡ apart a b
+orderℕ-apart : (a b : ℕ) (next : Ordering) → (a ≡ b → ⊥) → orderℕ a b next ≡ apart a b
 orderℕ-apart a b next h = go (ltb a b) refl
   where
     go : (t : Bool) → ltb a b ≡ t → cond t Less (cond (ltb b a) Greater next) ≡ cond t Less Greater
@@ -48,17 +47,17 @@ small-not b h e = h (eqb-true b 32 (sym (small-blank b) ∙ eq-eqb (small b) 32 
 -- ---- the walk
 
 module _ (v w : Bytes) (i j : ℕ) (hi : i ≤ length v) (hj : j ≤ length w) where
-  pub walk-ended : next_at v i ≡ End → (x : Next) → x ≡ next_at w j → order_bytes (left v i) (left w j) ≡ ended x
+  pub walk-ended : next_at v i ≡ None → (x : Next) → x ≡ next_at w j → order_bytes (left v i) (left w j) ≡ ended x
   unfolding order_bytes
-  walk-ended e (Byte b l) f = rw (next-end v i hi e, (next-byte w j hj b l (sym f)).0)
-  walk-ended e End f = rw (next-end v i hi e, next-end w j hj (sym f))
+  walk-ended e (Some (b, l)) f = rw (next-end v i hi e, (next-byte w j hj b l (sym f)).0)
+  walk-ended e None f = rw (next-end v i hi e, next-end w j hj (sym f))
 
-  module _ (a k : ℕ) (e : next_at v i ≡ Byte a k) where
-    pub walk-longer : next_at w j ≡ End → order_bytes (left v i) (left w j) ≡ Greater
+  module _ (a k : ℕ) (e : next_at v i ≡ Some (a, k)) where
+    pub walk-longer : next_at w j ≡ None → order_bytes (left v i) (left w j) ≡ Greater
     unfolding order_bytes
     walk-longer f = rw ((next-byte v i hi a k e).0, next-end w j hj f)
 
-    module _ (b l : ℕ) (f : next_at w j ≡ Byte b l) (x y : ℕ) (p : x ≡ small a) (q : y ≡ small b) where
+    module _ (b l : ℕ) (f : next_at w j ≡ Some (b, l)) (x y : ℕ) (p : x ≡ small a) (q : y ≡ small b) where
       both : (left v i ≡ x ∷ left v k) × (left w j ≡ y ∷ left w l)
       both = rw (p, q) (ap (map small) (next-byte v i hi a k e).0, ap (map small) (next-byte w j hj b l f).0)
 
@@ -196,7 +195,7 @@ pub same-order : (v w : Bytes) → same text v w ≡ is_equal (order_bytes (norm
 unfolding same identical order_bytes
 same-order v w = go (normal text v) (normal text w)
   where
-    by : (x y : ℕ) (next : Order) → (eqb x y && is_equal next) ≡ is_equal (orderℕ x y next)
+    by : (x y : ℕ) (next : Ordering) → (eqb x y && is_equal next) ≡ is_equal (orderℕ x y next)
     by x y next = at (eqb x y) refl
       where
         at : (t : Bool) → eqb x y ≡ t → (t && is_equal next) ≡ is_equal (orderℕ x y next)

@@ -1,6 +1,5 @@
 use borrow.Author.Tests.{eq-eqb, ne_eqb, lt-ltb, le-ltb}
 use Rattle.access_covers.specs.Enter.{reach_entered}
-use borrow.Author.Rules.{rules}
 use Rattle.access_covers.proofs.enter.enter.Goals as goal
 
 pub returns-then-r-lt2 : goal.returns-then-r-lt2

@@ -1,5 +1,4 @@
 use Rattle.access_covers.specs.Laws.Row.{inherited-rows}
-use borrow.Author.Rules.{rules}
 use Rattle.access_covers.proofs.row.inherit.Goals as goal
 
 pub returns : goal.returns

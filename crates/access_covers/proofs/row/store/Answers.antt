@@ -1,6 +1,5 @@
 use mathlib.Core.Path.{refl}
 use Rattle.access_covers.specs.Row.{row_stored}
-use borrow.Author.Rules.{rules}
 use Rattle.access_covers.proofs.row.store.Goals as goal
 
 pub returns : goal.returns

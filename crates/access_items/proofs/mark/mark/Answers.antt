@@ -4,7 +4,6 @@ use lib.ListN.{get_or, set}
 use lib.Bits.{bit_or}
 use Rattle.access_items.specs.Mark.{marked}
 use Rattle.access_items.specs.Laws.Mark.{shifted}
-use borrow.Author.Rules.{rules}
 use Rattle.access_items.proofs.mark.mark.Goals as goal
 
 pub returns : goal.returns

@@ -3,7 +3,6 @@ use mathlib.Core.Path.{ap₂, ◌∙◌}
 use mathlib.Core.List.{List}
 use Rattle.access_items.specs.Mark.{marked}
 use Rattle.access_items.specs.Note.{about_noted}
-use borrow.Author.Rules.{rules}
 use Rattle.access_items.proofs.note.note_about.Goals as goal
 
 pub returns : goal.returns

@@ -3,7 +3,6 @@ use mathlib.Core.Path.{ap, ◌∙◌}
 use lib.ListN.{get_or}
 use Rattle.permission_sheet.specs.Noted.{PERMISSIONS}
 use Rattle.access_items.specs.Note.{permitted, grants_noted}
-use borrow.Author.Rules.{rules}
 use Rattle.access_items.proofs.note.note_grants.Goals as goal
 
 pub returns : goal.returns

@@ -3,7 +3,6 @@ use mathlib.Core.Path.{ap, ◌∙◌}
 use lib.ListN.{get_or}
 use Rattle.permission_sheet.specs.Noted.{TYPE}
 use Rattle.access_items.specs.Note.{about_noted, type_noted, value_noted, item_noted}
-use borrow.Author.Rules.{rules}
 use Rattle.access_items.proofs.note.note_item.Goals as goal
 
 pub returns : goal.returns

@@ -4,7 +4,6 @@ use native.Mathlib.Omega.{arith}
 use Rattle.tables.specs.Sets.{type_row}
 use Rattle.access_items.specs.Mark.{marked}
 use Rattle.access_items.specs.Laws.Note.{type-known, type-unknown, type-none}
-use borrow.Author.Rules.{rules}
 use Rattle.access_items.proofs.note.note_type.Goals as goal
 
 pub returns-then-rank-schema : goal.returns-then-rank-schema

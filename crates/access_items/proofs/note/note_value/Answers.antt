@@ -1,7 +1,6 @@
 -- Three stores, each at its own place.
 use mathlib.Core.Path.{refl}
 use Rattle.access_items.specs.Note.{value_noted}
-use borrow.Author.Rules.{rules}
 use Rattle.access_items.proofs.note.note_value.Goals as goal
 
 pub returns : goal.returns

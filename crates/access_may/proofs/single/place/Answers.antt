@@ -7,4 +7,4 @@ pub returns-in_default : goal.returns-in_default
 returns-in_default c = first-none (member c.args.s) c.first.result c.in_default.is c.first.ensures
 
 pub returns : goal.returns
-returns c = first-at (member c.args.s) c.in-At.i c.first.result c.in-At.is c.first.ensures
+returns c = first-at (member c.args.s) c.in-Some.i c.first.result c.in-Some.is c.first.ensures

@@ -2,7 +2,6 @@ use mathlib.Core.Path.{sym, ◌∙◌}
 use Rattle.rules.specs.Places.{schema_of}
 use Rattle.tables.specs.Book.{schema, width}
 use Rattle.access_scope.specs.Laws.Scopes.{asked_by_lem, unasked}
-use borrow.Author.Rules.{rules}
 use Rattle.access_scope.proofs.asked.asked.Goals as goal
 
 pub returns-then-level_fits : goal.returns-then-level_fits

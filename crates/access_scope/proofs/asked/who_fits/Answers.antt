@@ -1,6 +1,5 @@
 use mathlib.Core.Path.{sym, ◌∙◌}
 use Rattle.access_scope.specs.Laws.Scopes.{who-all, who-self, who-below, who-other, who-named}
-use borrow.Author.Rules.{rules}
 use Rattle.access_scope.proofs.asked.who_fits.Goals as goal
 use Rattle.access_scope.proofs.asked.who_fits.Goals.{then-x-ne-AT_OR_BELOW+else-x-who, else-x-ne-AT_OR_BELOW}
 

@@ -1,28 +1,33 @@
+use mathlib.Core.Path.{◌≡◌, refl, sym, ◌∙◌, subst}
+use Prim.Native.Nat.{ℕ, zero, suc, ◌<◌}
+use mathlib.Core.List.{[], ◌∷◌}
 use native.Mathlib.Omega.{arith}
-use Rattle.access_set.specs.Laws.Sets.{least-a, least-b, least-c, least-d, least-none}
-use borrow.Author.Rules.{rules}
+use lib.ListN.{get_or}
+use borrow.Author.Count.{below_more}
+use Rattle.access_set.specs.declared.Bits.{Bits}
+use Rattle.access_set.specs.Member.{Lowest, word_of}
+use Rattle.access_set.specs.Laws.Sets.{least_at, least-none}
 use Rattle.access_set.proofs.Bits.first.Goals as goal
 
-pub returns-then-a-ne0 : goal.returns-then-a-ne0
-returns-then-a-ne0 c = least-a c.args.self _ c.lowest.ensures
+word-listed : (s : Bits) (k : ℕ) → k < 4 → get_or (s.a ∷ (s.b ∷ (s.c ∷ (s.d ∷ [])))) k 0 ≡ word_of s k
+unfolding word_of
+word-listed s zero h = refl
+word-listed s (suc zero) h = refl
+word-listed s (suc (suc zero)) h = refl
+word-listed s (suc (suc (suc zero))) h = refl
+word-listed s (suc (suc (suc (suc k)))) h = absurd (omega arith)
 
-pub overflow_add-result : goal.overflow_add-result
-overflow_add-result c = omega (arith, c.lowest-then-b-ne0.ensures.within)
+pub returns-then-w-ne0 : goal.returns-then-w-ne0
+returns-then-w-ne0 c =
+    let s = c.args.self in
+    let k = c.loop-k.k in
+    least_at s k _ c.loop-k-test.true c.loop-k.invariant (subst (λ (w : ℕ). Lowest w c.lowest.result) (word-listed s k c.loop-k-test.true) c.lowest.ensures)
 
-pub returns-then-b-ne0 : goal.returns-then-b-ne0
-returns-then-b-ne0 c = least-b c.args.self _ (omega arith) c.lowest-then-b-ne0.ensures
-
-pub overflow_add-result-then-c-ne0 : goal.overflow_add-result-then-c-ne0
-overflow_add-result-then-c-ne0 c = omega (arith, c.lowest-then-c-ne0.ensures.within)
-
-pub returns-then-c-ne0 : goal.returns-then-c-ne0
-returns-then-c-ne0 c = least-c c.args.self _ (omega arith) (omega arith) c.lowest-then-c-ne0.ensures
-
-pub overflow_add-result-then-d-ne0 : goal.overflow_add-result-then-d-ne0
-overflow_add-result-then-d-ne0 c = omega (arith, c.lowest-then-d-ne0.ensures.within)
-
-pub returns-then-d-ne0 : goal.returns-then-d-ne0
-returns-then-d-ne0 c = least-d c.args.self _ (omega arith) (omega arith) (omega arith) c.lowest-then-d-ne0.ensures
+pub loop-k-preserved : goal.loop-k-preserved
+loop-k-preserved c = below_more _ _ c.loop-k.invariant (sym (word-listed c.args.self c.loop-k.k c.loop-k-test.true) ∙ c.if-w-ne0.false)
 
 pub returns : goal.returns
-returns c = least-none c.args.self (omega arith) (omega arith) (omega arith) (omega arith)
+unfolding word_of
+returns c =
+    let none = c.loop-k.invariant in
+    least-none c.args.self (none 0 (omega arith)) (none 1 (omega arith)) (none 2 (omega arith)) (none 3 (omega arith))

@@ -2,7 +2,6 @@ use mathlib.Core.Path.{ap}
 use Prim.Native.Nat.{ℕ, ◌/◌, ◌%◌, ◌^◌}
 use lib.Dec.{eqb}
 use Rattle.access_set.specs.Member.{bit_of, member}
-use borrow.Author.Rules.{rules}
 use Rattle.access_set.proofs.Bits.has.Goals as goal
 
 pub returns : goal.returns

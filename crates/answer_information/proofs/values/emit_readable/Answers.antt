@@ -3,7 +3,6 @@ use mathlib.Core.Path.{refl}
 use Rattle.tables.specs.Book.{width}
 use Rattle.answer_information.specs.Laws.Values.{lines-not, lines-some}
 use Rattle.answer_information.specs.Laws.Rows.{type-number}
-use borrow.Author.Rules.{rules}
 use Rattle.answer_information.proofs.values.emit_readable.Goals as goal
 
 pub size-requires : goal.size-requires

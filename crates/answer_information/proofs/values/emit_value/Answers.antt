@@ -8,7 +8,6 @@ use Rattle.answer_information.specs.Laws.Rows.{granted-named}
 use Rattle.answer_line.specs.Laws.Emit.{emits-length}
 use Rattle.tables.specs.Book.{width, schema}
 use Rattle.rules.specs.Directory.{name_at}
-use borrow.Author.Rules.{rules}
 use Rattle.answer_information.proofs.values.emit_value.Goals as goal
 
 pub may_value-requires : goal.may_value-requires

@@ -1,44 +1,12 @@
-use Prim.Native.Nat.{suc, ◌+◌, ◌-◌, ◌≤◌, ◌<◌}
+use Prim.Native.Nat.{◌+◌, ◌-◌}
 use mathlib.Core.Path.{◌≡◌, sym, ap, ◌∙◌}
-use mathlib.Core.List.{List}
 use native.Mathlib.Omega.{arith}
-use Rattle.rules.specs.Directory.{Stored}
-use Rattle.rules.specs.Decision.{Setting}
-use Rattle.tables.specs.Book.{type_count, entry_count, first_at}
-use Rattle.tables.specs.World.{World}
+use Rattle.tables.specs.Book.{first_at}
 use Rattle.tables.specs.Laws.Book.{end_is}
 use Rattle.tables.specs.Laws.World.{rows-within, bytes-within}
-use Rattle.answer_key.specs.Keys.{key_in, RowFits}
+use Rattle.answer_key.specs.Keys.{key_in}
 use Rattle.answer_key.specs.Laws.Keys.{key-none, none-fits, key_from, from_end, from_first, from_in, from_out}
-use borrow.Author.Rules.{rules}
 use Rattle.answer_key.proofs.key.key_of.Goals as goal
-
-pub overflow_add-syntax : goal.overflow_add-syntax
-overflow_add-syntax c = let P = c.requires in let E = P.0.2.entries in omega (arith, P.2, E.fits.few-types)
-
-pub offset_bounds-book-rank : goal.offset_bounds-book-rank
-offset_bounds-book-rank c = let P = c.requires in let E = P.0.2.entries in omega (arith, P.2, E.fits.few-types)
-
-pub bounds-book-rank : goal.bounds-book-rank
-bounds-book-rank c = let P = c.requires in let E = P.0.2.entries in omega (arith, P.2, E.fits.few-types, E.fits.size)
-
-pub overflow_add-first : goal.overflow_add-first
-overflow_add-first c = let P = c.requires in let E = P.0.2.entries in omega (arith, P.1, E.fits.few-entries)
-
-pub offset_bounds-book-k : goal.offset_bounds-book-k
-offset_bounds-book-k c = let P = c.requires in let E = P.0.2.entries in omega (arith, P.1, E.fits.few-entries)
-
-pub bounds-book-k : goal.bounds-book-k
-bounds-book-k c = let P = c.requires in let E = P.0.2.entries in omega (arith, P.1, E.fits.few-entries, E.fits.size)
-
-pub overflow_add-i-2 : goal.overflow_add-i-2
-overflow_add-i-2 c = let P = c.requires in let E = P.0.2.entries in omega (arith, P.1, E.fits.few-entries)
-
-pub offset_bounds-book-k-2 : goal.offset_bounds-book-k-2
-offset_bounds-book-k-2 c = let P = c.requires in let E = P.0.2.entries in omega (arith, P.1, E.fits.few-entries)
-
-pub bounds-book-k-2 : goal.bounds-book-k-2
-bounds-book-k-2 c = let P = c.requires in let E = P.0.2.entries in omega (arith, P.1, E.fits.few-entries, E.fits.size)
 
 pub loop-i-init : goal.loop-i-init
 loop-i-init c = let A = c.args in let P = c.requires in let E = P.0.2.entries in let rows = rows-within E A.k P.1 in let b = A.book.now in (
@@ -47,9 +15,6 @@ loop-i-init c = let A = c.args in let P = c.requires in let E = P.0.2.entries in
   none-fits A.d.now A.held.now,
   λ σ es w l e. key-none A.d.now A.held.now 2115 (omega arith) ∙ sym (ap (key_from w.entries A.rank l A.k e) (end_is b A.k) ∙ from_end w.entries A.rank l A.k e),
 )
-
-pub readable-requires : goal.readable-requires
-readable-requires c = let P = c.requires in let L = c.loop-i in let l = c.loop-i-test.true in (P.0, P.1, P.2, omega (arith, l), omega (arith, l, L.invariant.1))
 
 pub smaller-best-requires : goal.smaller-best-requires
 smaller-best-requires c = let A = c.args in let P = c.requires in let E = P.0.2.entries in let rows = rows-within E A.k P.1 in let L = c.loop-i in let l = c.loop-i-test.true in (omega (arith, l, L.invariant.1, rows.1), bytes-within E A.k P.1 (L.i - 1) (omega (arith, l)) (omega (arith, l, L.invariant.1)), L.invariant.2)

@@ -4,7 +4,6 @@ use Rattle.tables.specs.Book.{width}
 use Rattle.tables.specs.Plan.{information_at}
 use Rattle.rules.specs.Answer.{entry_lines}
 use Rattle.answer_line.specs.Laws.Emit.{emits-append}
-use borrow.Author.Rules.{rules}
 use Rattle.answer_print.proofs.entries.emit_found.Goals as goal
 
 pub emit_entry-next-requires : goal.emit_entry-next-requires

@@ -6,7 +6,6 @@ use Rattle.tables.specs.Book.{width, target_at}
 use Rattle.answer_resolution.specs.Resolution.{part_bytes}
 use Rattle.answer_resolution.specs.Laws.Replace.{bytes-room, target-few, target-parts, target-count, replaced-size, replaced-holds}
 use Rattle.sheet_write.specs.Laws.Put.{put-length}
-use borrow.Author.Rules.{rules}
 use Rattle.answer_resolution.proofs.replace.replaced.Goals as goal
 
 pub put_parts-at-requires : goal.put_parts-at-requires

@@ -1,6 +1,5 @@
 use mathlib.Core.Bool.{Bool, cond}
 use mathlib.Core.Path.{sym, ap, ◌∙◌}
-use borrow.Author.Rules.{rules}
 use Rattle.answer_resolution.proofs.way.disclosed.Goals as goal
 
 pub returns-then-may_entry : goal.returns-then-may_entry

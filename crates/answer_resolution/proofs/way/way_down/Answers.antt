@@ -1,11 +1,7 @@
-use Prim.Native.Nat.{◌≤◌}
 use native.Mathlib.Omega.{arith}
 use Rattle.tables.specs.Laws.World.{known-entry}
 use Rattle.directory_lookup.specs.Laws.Find.{within_of}
-use Rattle.tables.specs.Book.{entry_count, width}
-use Rattle.answer_resolution.specs.Resolution.{Full}
-use Rattle.answer_resolution.specs.Laws.Way.{going-full, Going, going-positive, going-met, going-past, going_on, going-lost, going-ended, going_end}
-use borrow.Author.Rules.{rules}
+use Rattle.answer_resolution.specs.Laws.Way.{going-full, going-positive, going-met, going-past, going_on, going-lost, going-ended, going_end}
 use Rattle.answer_resolution.proofs.way.way_down.Goals as goal
 
 pub disclosed-last-requires : goal.disclosed-last-requires
@@ -13,15 +9,6 @@ disclosed-last-requires c = known-entry c.requires.0.2 _ c.loop-left.invariant.0
 
 pub overflow_sub-number : goal.overflow_sub-number
 overflow_sub-number c = let L = c.loop-left in let o = going-positive _ _ _ _ _ _ _ L.invariant.4 c.loop-left-test.true c.down.ensures.1 c.in-To.is c.requires.0.2 in omega (arith, o)
-
-pub overflow_add-number : goal.overflow_add-number
-overflow_add-number c = let n = within_of _ _ _ _ c.down.ensures.0 c.in-To.is in let f = c.requires.0.2.2.entries.fits in omega (arith, n, f.few-entries)
-
-pub offset_bounds-book-number : goal.offset_bounds-book-number
-offset_bounds-book-number c = let n = within_of _ _ _ _ c.down.ensures.0 c.in-To.is in let f = c.requires.0.2.2.entries.fits in omega (arith, n, f.few-entries)
-
-pub bounds-book-number : goal.bounds-book-number
-bounds-book-number c = let L = c.loop-left in let n = within_of _ _ _ _ c.down.ensures.0 c.in-To.is in let o = going-positive _ _ _ _ _ _ _ L.invariant.4 c.loop-left-test.true c.down.ensures.1 c.in-To.is c.requires.0.2 in let f = c.requires.0.2.2.entries.fits in omega (arith, n, o, f.few-entries)
 
 pub returns-then-book-number-ne0 : goal.returns-then-book-number-ne0
 returns-then-book-number-ne0 c = let L = c.loop-left in let n = within_of _ _ _ _ c.down.ensures.0 c.in-To.is in let o = going-positive _ _ _ _ _ _ _ L.invariant.4 c.loop-left-test.true c.down.ensures.1 c.in-To.is c.requires.0.2 in let u = going-full _ _ _ _ _ _ _ L.invariant.4 c.loop-left-test.true c.down.ensures.1 c.in-To.is c.requires.0.2 L.invariant.3 in ((o, n, omega (arith, L.invariant.2, c.loop-left-test.true), u), going-met _ _ _ _ _ _ _ L.invariant.4 c.loop-left-test.true c.down.ensures.1 c.in-To.is c.if-stop.true o n c.if-book-number-ne0.true)

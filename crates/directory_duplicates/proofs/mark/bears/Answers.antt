@@ -2,8 +2,6 @@ use borrow.Author.Tests.{eq-eqb, ne_eqb}
 use Rattle.rules.specs.Value.{same}
 use Rattle.rules.specs.Sheet.{Bytes}
 use mathlib.Core.Path.{ap, ◌∙◌}
-use Prim.Native.Nat.{◌-◌}
-use borrow.Author.Rules.{rules}
 use Rattle.directory_duplicates.proofs.mark.bears.Goals as goal
 
 pub returns-then-m-label : goal.returns-then-m-label

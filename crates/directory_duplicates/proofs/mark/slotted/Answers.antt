@@ -1,6 +1,5 @@
 use mathlib.Core.Path.{refl}
 use Rattle.access_set.specs.Member.{bit_of}
-use borrow.Author.Rules.{rules}
 use Rattle.directory_duplicates.proofs.mark.slotted.Goals as goal
 
 pub returns : goal.returns

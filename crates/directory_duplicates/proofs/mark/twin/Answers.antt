@@ -1,11 +1,7 @@
 use borrow.Author.Tests.{not-true}
-use Rattle.directory_duplicates.specs.Mark.{Mark, Walk}
-use Rattle.directory_duplicates.specs.Laws.Mark.{WalkLeft, start, index, here, gone, found, onward, readable, older}
-use mathlib.Core.List.{List}
+use Rattle.directory_duplicates.specs.Laws.Mark.{start, index, here, gone, found, onward, readable, older}
 use mathlib.Core.Path.{sym, ◌∙◌}
 use native.Mathlib.Omega.{arith}
-use Prim.Native.Nat.{ℕ, ◌-◌}
-use borrow.Author.Rules.{rules}
 use Rattle.directory_duplicates.proofs.mark.twin.Goals as goal
 
 pub returns-then-not-may : goal.returns-then-not-may

@@ -1,12 +1,8 @@
 -- Of the marks newer than number `k` in the bucket none is a twin.
-use borrow.Author.Tests.{not-true}
 use Rattle.directory_duplicates.specs.Mark.{Mark, Walk}
-use Rattle.directory_duplicates.specs.Laws.Mark.{WalkLeft, start, index, here, gone, found, onward, readable, older}
+use Rattle.directory_duplicates.specs.Laws.Mark.{WalkLeft}
 use mathlib.Core.List.{List}
-use mathlib.Core.Path.{sym, ◌∙◌}
-use native.Mathlib.Omega.{arith}
-use Prim.Native.Nat.{ℕ, ◌-◌}
-use borrow.Author.Rules.{rules}
+use Prim.Native.Nat.{ℕ}
 use Rattle.directory_duplicates.proofs.mark.twin.Given as goal
 
 abbrev pub invariant-loop-k : goal.invariant-loop-k

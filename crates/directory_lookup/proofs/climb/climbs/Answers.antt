@@ -1,9 +1,7 @@
-use Prim.Native.Nat.{◌-◌, ◌≤◌}
+use Prim.Native.Nat.{◌-◌}
 use native.Mathlib.Omega.{arith}
-use Rattle.tables.specs.Book.{entry_count}
 use Rattle.tables.specs.Laws.World.{parent-falls}
-use Rattle.directory_lookup.specs.Laws.Climb.{Climbing, climbing-start, climbing-on, climbing-end}
-use borrow.Author.Rules.{rules}
+use Rattle.directory_lookup.specs.Laws.Climb.{climbing-start, climbing-on, climbing-end}
 use Rattle.directory_lookup.proofs.climb.climbs.Goals as goal
 
 pub loop-k-init : goal.loop-k-init

@@ -1,9 +1,6 @@
-use Prim.Native.Nat.{◌-◌, ◌≤◌}
-use native.Mathlib.Omega.{arith}
+use Prim.Native.Nat.{◌≤◌}
 use Rattle.tables.specs.Book.{entry_count}
-use Rattle.tables.specs.Laws.World.{parent-falls}
-use Rattle.directory_lookup.specs.Laws.Climb.{Climbing, climbing-start, climbing-on, climbing-end}
-use borrow.Author.Rules.{rules}
+use Rattle.directory_lookup.specs.Laws.Climb.{Climbing}
 use Rattle.directory_lookup.proofs.climb.climbs.Given as goal
 
 abbrev pub invariant-loop-k : goal.invariant-loop-k

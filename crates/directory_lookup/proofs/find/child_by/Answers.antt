@@ -1,8 +1,6 @@
-use Prim.Native.Nat.{◌-◌}
 use mathlib.Core.Path.{sym, ◌∙◌}
 use native.Mathlib.Omega.{arith}
-use Rattle.directory_lookup.specs.Laws.Find.{ChildSought, sought-start, sought-here, sought-on, sought-end}
-use borrow.Author.Rules.{rules}
+use Rattle.directory_lookup.specs.Laws.Find.{sought-start, sought-here, sought-on, sought-end}
 use Rattle.directory_lookup.proofs.find.child_by.Goals as goal
 
 pub loop-i-init : goal.loop-i-init

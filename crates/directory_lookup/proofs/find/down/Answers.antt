@@ -5,7 +5,6 @@ use Rattle.sheet_line.specs.Laws.{taken-fits-line}
 use Rattle.tables.specs.Book.{width}
 use Rattle.directory_lookup.specs.Find.{step_of}
 use Rattle.directory_lookup.specs.Laws.Find.{up_to, step-found}
-use borrow.Author.Rules.{rules}
 use Rattle.directory_lookup.proofs.find.down.Goals as goal
 
 pub bytes-requires : goal.bytes-requires
@@ -14,20 +13,20 @@ bytes-requires c =
     let f = taken-fits-line (width a.book.now) a.s.now a.j (sym c.take.ensures ∙ c.in-Line.is) in
     omega (arith, f.next, f.within)
 
-pub returns-in-At : goal.returns-in-At
-returns-in-At c =
+pub returns-in-Some : goal.returns-in-Some
+returns-in-Some c =
     let a = c.args in
-    let n = c.in-At.is in
+    let n = c.in-Some.is in
     let k = c.child.ensures in (
       up_to _ _ _ k.0 n,
       λ σ es held h. step-found σ.schema es a.from (width a.book.now) a.s.now a.j _ (sym c.take.ensures ∙ c.in-Line.is) _ _ c.bytes.ensures (sym n ∙ k.1 σ es held h),
     )
 
-pub returns-in-Nothing : goal.returns-in-Nothing
-returns-in-Nothing c =
+pub returns-in-None : goal.returns-in-None
+returns-in-None c =
     let a = c.args in
     let k = c.child.ensures in
-    (tt, λ σ es held h. step-found σ.schema es a.from (width a.book.now) a.s.now a.j _ (sym c.take.ensures ∙ c.in-Line.is) _ _ c.bytes.ensures (sym c.in-Nothing.is ∙ k.1 σ es held h))
+    (tt, λ σ es held h. step-found σ.schema es a.from (width a.book.now) a.s.now a.j _ (sym c.take.ensures ∙ c.in-Line.is) _ _ c.bytes.ensures (sym c.in-None.is ∙ k.1 σ es held h))
 
 pub returns-in-NotInForm : goal.returns-in-NotInForm
 unfolding step_of

@@ -4,7 +4,6 @@ use borrow.Author.Tests.{not-true}
 use Rattle.tables.specs.Laws.World.{entry_at}
 use Rattle.name.specs.Schema.{equal_by}
 use Rattle.directory_lookup.specs.Laws.Find.{unlike, child-of-other, child-by-other, child-by-value}
-use borrow.Author.Rules.{rules}
 use Rattle.directory_lookup.proofs.find.is_child.Goals as goal
 
 pub returns-then-book-k : goal.returns-then-book-k

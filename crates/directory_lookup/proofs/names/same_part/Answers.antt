@@ -1,7 +1,6 @@
 use mathlib.Core.Path.{sym, ◌∙◌}
 use Rattle.rules.specs.Places.{schema_of}
 use Rattle.directory_lookup.specs.Laws.Names.{part_apart, part_by}
-use borrow.Author.Rules.{rules}
 use Rattle.directory_lookup.proofs.names.same_part.Goals as goal
 
 pub returns-then-a-b : goal.returns-then-a-b

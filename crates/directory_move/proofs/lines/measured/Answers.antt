@@ -1,10 +1,7 @@
 use mathlib.Core.Path.{sym, ◌∙◌}
 use native.Mathlib.Omega.{arith}
-use Prim.Native.Nat.{◌-◌}
-use lib.ListN.{length}
 use Rattle.sheet_line.specs.Laws.{taken-fits-line}
-use Rattle.directory_move.specs.Laws.Rewritten.{rewritten-broken, rewritten-end, Measured, measured-start, measured-on, measured-done}
-use borrow.Author.Rules.{rules}
+use Rattle.directory_move.specs.Laws.Rewritten.{rewritten-broken, rewritten-end, measured-start, measured-on, measured-done}
 use Rattle.directory_move.proofs.lines.measured.Goals as goal
 
 pub loop-line-init : goal.loop-line-init

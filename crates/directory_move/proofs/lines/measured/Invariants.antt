@@ -1,10 +1,6 @@
-use mathlib.Core.Path.{sym, ◌∙◌}
-use native.Mathlib.Omega.{arith}
 use Prim.Native.Nat.{◌-◌}
 use lib.ListN.{length}
-use Rattle.sheet_line.specs.Laws.{taken-fits-line}
-use Rattle.directory_move.specs.Laws.Rewritten.{rewritten-broken, rewritten-end, Measured, measured-start, measured-on, measured-done}
-use borrow.Author.Rules.{rules}
+use Rattle.directory_move.specs.Laws.Rewritten.{Measured}
 use Rattle.directory_move.proofs.lines.measured.Given as goal
 
 abbrev pub invariant-loop-line : goal.invariant-loop-line

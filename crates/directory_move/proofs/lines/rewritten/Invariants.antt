@@ -1,12 +1,7 @@
-use mathlib.Core.Path.{sym, ◌∙◌}
-use native.Mathlib.Omega.{arith}
 use Prim.Native.Nat.{◌-◌}
 use lib.ListN.{length}
-use Rattle.sheet_line.specs.Laws.{taken-fits-line}
-use Rattle.sheet_write.specs.Laws.Writing.{Writing, writing_start, writing-room, writing-on, writing-done}
+use Rattle.sheet_write.specs.Laws.Writing.{Writing}
 use Rattle.directory_move.specs.Rewritten.{rewritten_from}
-use Rattle.directory_move.specs.Laws.Rewritten.{rewritten-on, rewritten-broken, rewritten-end}
-use borrow.Author.Rules.{rules}
 use Rattle.directory_move.proofs.lines.rewritten.Given as goal
 
 abbrev pub invariant-loop-line : goal.invariant-loop-line

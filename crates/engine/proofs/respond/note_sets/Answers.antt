@@ -7,7 +7,6 @@ use Rattle.tables.specs.Laws.Book.{schema-length}
 use Rattle.access_items.specs.Laws.Items.{small-rows}
 use Rattle.access_covers.specs.Laws.Covers.{within-reach, parents-rise}
 use Rattle.engine.specs.Laws.Respond.{reached-of, reach-is, world-of}
-use borrow.Author.Rules.{rules}
 use Rattle.engine.proofs.respond.note_sets.Goals as goal
 
 pub note_rights-requires : goal.note_rights-requires

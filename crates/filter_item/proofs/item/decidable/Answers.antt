@@ -2,7 +2,6 @@ use mathlib.Core.Path.{sym, ap, ◌∙◌}
 use mathlib.Core.Bool.{Bool, ◌&&◌}
 use Rattle.filter_lines.specs.Lines.{kind_at, line_value, pieces_at}
 use Rattle.filter_item.specs.Items.{defined_by}
-use borrow.Author.Rules.{rules}
 use Rattle.filter_item.proofs.item.decidable.Goals as goal
 
 pub defined-requires : goal.defined-requires

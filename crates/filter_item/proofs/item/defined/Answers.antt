@@ -4,7 +4,6 @@ use mathlib.Core.Bool.{◌&&◌}
 use Rattle.sheet_kind.specs.Laws.Kinds.{is-kind, not-kind}
 use Rattle.filter_lines.specs.Lines.{kind_at, line_value, pieces_at}
 use Rattle.filter_item.specs.Laws.Items.{defined-equality, defined-least, defined-most, defined-present, defined-pieces}
-use borrow.Author.Rules.{rules}
 use Rattle.filter_item.proofs.item.defined.Goals as goal
 
 pub value_of-v-requires : goal.value_of-v-requires

@@ -2,7 +2,6 @@ use native.Mathlib.Omega.{arith}
 use Rattle.filter_lines.specs.Lines.{kind_at, column_a, type_rank, line_value, pieces_at}
 use Rattle.filter_matchable.specs.Laws.Matchable.{values-within}
 use Rattle.filter_item.specs.Laws.Entry.{item-beyond, item-undecidable, item-told}
-use borrow.Author.Rules.{rules}
 use Rattle.filter_item.proofs.item.item.Goals as goal
 
 pub returns-then-book-rank : goal.returns-then-book-rank

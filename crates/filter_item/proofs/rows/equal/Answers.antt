@@ -1,6 +1,5 @@
 use mathlib.Core.Path.{sym, ◌∙◌}
 use Rattle.name.specs.Laws.Schema.{equal-apart}
-use borrow.Author.Rules.{rules}
 use Rattle.filter_item.proofs.rows.equal.Goals as goal
 
 pub returns : goal.returns

@@ -1,11 +1,9 @@
-use mathlib.Core.Path.{◌≡◌, refl, sym, ◌∙◌}
-use Prim.Native.Nat.{◌-◌}
+use mathlib.Core.Path.{refl, sym, ◌∙◌}
 use lib.Dec.{eqb}
 use borrow.Author.Tests.{eq-eqb, ne_eqb}
 use Rattle.tables.specs.Held.{rank_at}
-use Rattle.filter_item.specs.Rows.{some_from, held_row}
+use Rattle.filter_item.specs.Rows.{held_row}
 use Rattle.filter_item.specs.Laws.Rows.{some-here, some-on, some_end}
-use borrow.Author.Rules.{rules}
 use Rattle.filter_item.proofs.rows.holds.Goals as goal
 
 pub loop-i-init : goal.loop-i-init

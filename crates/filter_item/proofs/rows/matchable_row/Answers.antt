@@ -1,5 +1,4 @@
 use Rattle.filter_item.specs.Laws.Rows.{matchable-other, matchable-same}
-use borrow.Author.Rules.{rules}
 use Rattle.filter_item.proofs.rows.matchable_row.Goals as goal
 
 pub returns-then-held-i : goal.returns-then-held-i

@@ -1,25 +1,6 @@
-use Rattle.filter_item.specs.Rows.{some_from, matchable_at, some_row, beside_by}
-use mathlib.Core.Path.{◌≡◌, refl, sym, ◌∙◌}
-use native.Mathlib.Omega.{arith}
-use Prim.Native.Nat.{◌-◌, ◌≤◌}
-use mathlib.Core.Bool.{◌&&◌}
-use Rattle.tables.specs.Held.{bytes_at}
-use Rattle.filter_item.specs.Laws.Rows.{some-here, some-on, some_end}
+use Rattle.filter_item.specs.Rows.{beside_by}
 use borrow.Author.Rules.{rules}
 use Rattle.filter_item.proofs.rows.some_ordered.Goals as goal
 
-pub loop-i-init : goal.loop-i-init
-unfolding some_row
-loop-i-init c = (omega arith, refl)
-
-pub ordered_row-requires : goal.ordered_row-requires
-ordered_row-requires c = (c.requires, c.loop-i.invariant.0, c.loop-i-test.true)
-
-pub returns-then-ordered_row : goal.returns-then-ordered_row
-returns-then-ordered_row c = sym (some-here (λ j. matchable_at c.args.held.now c.args.values.now c.args.sought.first c.args.sought.rank j && beside_by c.args.s c.args.least c.args.v.now (bytes_at c.args.d.now c.args.held.now j)) c.loop-i.i c.args.sought.end c.loop-i-test.true (sym c.ordered_row.ensures ∙ c.if-ordered_row.true)) ∙ c.loop-i.invariant.1
-
-pub loop-i-preserved : goal.loop-i-preserved
-loop-i-preserved c = (omega (arith, c.loop-i.invariant.0), sym (some-on (λ j. matchable_at c.args.held.now c.args.values.now c.args.sought.first c.args.sought.rank j && beside_by c.args.s c.args.least c.args.v.now (bytes_at c.args.d.now c.args.held.now j)) c.loop-i.i c.args.sought.end c.loop-i-test.true (sym c.ordered_row.ensures ∙ c.if-ordered_row.false)) ∙ c.loop-i.invariant.1)
-
 pub returns : goal.returns
-returns c = sym (some_end (λ j. matchable_at c.args.held.now c.args.values.now c.args.sought.first c.args.sought.rank j && beside_by c.args.s c.args.least c.args.v.now (bytes_at c.args.d.now c.args.held.now j)) c.loop-i.i c.args.sought.end c.loop-i-test.false) ∙ c.loop-i.invariant.1
+returns c = c.some_row.ensures (beside_by c.args.s c.args.least c.args.v.now) (λ u b l q. search rules)

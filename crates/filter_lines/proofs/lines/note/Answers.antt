@@ -1,15 +1,12 @@
-use Prim.Native.Nat.{ℕ, ◌+◌, ◌-◌, ◌*◌, ◌≤◌, ◌<◌}
+use Prim.Native.Nat.{ℕ, ◌+◌, ◌*◌, ◌≤◌}
 use mathlib.Core.Path.{◌≡◌, refl, sym, ap, ◌∙◌, subst}
 use mathlib.Core.Bool.{true, false}
 use mathlib.Core.List.{List}
 use native.Mathlib.Omega.{arith}
 use lib.ListN.{length, set, length-set}
-use Rattle.sheet_line.specs.Line.{taken_at}
-use Rattle.sheet_line.specs.Laws.{LineFits, lines_by, taken-lines, taken-fits-line}
-use Rattle.sheet_line.specs.declared.Taken.TheVariants as Taken
-use Rattle.filter_lines.specs.Lines.{LINES, FILTER, Beyond}
+use Rattle.sheet_line.specs.Laws.{lines_by, taken-lines, taken-fits-line}
+use Rattle.filter_lines.specs.Lines.{LINES}
 use Rattle.filter_lines.specs.Laws.Lines.{Noting, noting-start, noting-on, beyond-start, beyond-on, lines_noted, noted-length, room-left, room-on}
-use borrow.Author.Rules.{rules}
 use Rattle.filter_lines.proofs.lines.note.Goals as goal
 
 pub loop-x-init : goal.loop-x-init

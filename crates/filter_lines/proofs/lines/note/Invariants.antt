@@ -1,16 +1,9 @@
 -- The rows so far are the lines up to here; each line has at least the bytes of its columns, so that there is room for the next.
-use Prim.Native.Nat.{ℕ, ◌+◌, ◌-◌, ◌*◌, ◌≤◌, ◌<◌}
-use mathlib.Core.Path.{◌≡◌, refl, sym, ap, ◌∙◌, subst}
-use mathlib.Core.Bool.{true, false}
-use mathlib.Core.List.{List}
-use native.Mathlib.Omega.{arith}
-use lib.ListN.{length, set, length-set}
-use Rattle.sheet_line.specs.Line.{taken_at}
-use Rattle.sheet_line.specs.Laws.{LineFits, lines_by, taken-lines, taken-fits-line}
-use Rattle.sheet_line.specs.declared.Taken.TheVariants as Taken
+use Prim.Native.Nat.{◌+◌, ◌-◌, ◌*◌, ◌≤◌}
+use mathlib.Core.Path.{◌≡◌}
+use lib.ListN.{length}
 use Rattle.filter_lines.specs.Lines.{LINES, FILTER, Beyond}
-use Rattle.filter_lines.specs.Laws.Lines.{Noting, noting-start, noting-on, beyond-start, beyond-on, lines_noted, noted-length, room-left, room-on}
-use borrow.Author.Rules.{rules}
+use Rattle.filter_lines.specs.Laws.Lines.{Noting}
 use Rattle.filter_lines.proofs.lines.note.Given as goal
 
 abbrev pub invariant-loop-x : goal.invariant-loop-x

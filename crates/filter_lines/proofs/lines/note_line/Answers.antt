@@ -1,6 +1,5 @@
 use mathlib.Core.Path.{refl}
 use Rattle.filter_lines.specs.Lines.{noted}
-use borrow.Author.Rules.{rules}
 use Rattle.filter_lines.proofs.lines.note_line.Goals as goal
 
 pub returns : goal.returns

@@ -2,7 +2,6 @@
 use mathlib.Core.Path.{sym, ◌∙◌}
 use Rattle.value_blank.specs.Laws.Text.{text-within}
 use Rattle.filter_lines.specs.Laws.Pieces.{stand-tidy, stand-tidied}
-use borrow.Author.Rules.{rules}
 use Rattle.filter_lines.proofs.pieces.substrings.Goals as goal
 
 pub returns-then-tidy : goal.returns-then-tidy

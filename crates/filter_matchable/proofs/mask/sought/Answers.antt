@@ -4,7 +4,6 @@ use lib.Dec.{ltb}
 use Rattle.sheet_kind.specs.Laws.Kinds.{is-kind, not-kind}
 use Rattle.filter_lines.specs.Lines.{type_rank}
 use Rattle.filter_matchable.specs.Laws.Mask.{operator-group, operator-not, operator-none}
-use borrow.Author.Rules.{rules}
 use Rattle.filter_matchable.proofs.mask.sought.Goals as goal
 
 pub returns-then-joins : goal.returns-then-joins

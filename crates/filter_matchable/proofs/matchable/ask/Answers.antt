@@ -3,7 +3,6 @@ use Rattle.tables.specs.Laws.Book.{schema-length}
 use Rattle.tables.specs.Laws.World.{known-types}
 use Rattle.filter_matchable.specs.Laws.Matchable.{types-full}
 use Rattle.filter_matchable.specs.Laws.Candidate.{searched-known}
-use borrow.Author.Rules.{rules}
 use Rattle.filter_matchable.proofs.matchable.ask.Goals as goal
 
 pub matchable_types-requires : goal.matchable_types-requires

@@ -3,7 +3,6 @@ use native.Mathlib.Omega.{arith}
 use Prim.Native.Nat.{◌%◌, ◌^◌}
 use mathlib.Core.Bool.{Bool, cond}
 use Rattle.access_set.specs.Laws.Bit.{one_shl}
-use borrow.Author.Rules.{rules}
 use Rattle.filter_matchable.proofs.matchable.bit_if.Goals as goal
 
 pub returns-then-b : goal.returns-then-b

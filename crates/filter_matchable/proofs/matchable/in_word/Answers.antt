@@ -1,6 +1,5 @@
 use mathlib.Core.Path.{refl}
 use Rattle.access_set.specs.Member.{bit_of}
-use borrow.Author.Rules.{rules}
 use Rattle.filter_matchable.proofs.matchable.in_word.Goals as goal
 
 pub returns : goal.returns

@@ -6,7 +6,6 @@ use Rattle.tables.specs.Book.{schema}
 use Rattle.tables.specs.Held.{type_at}
 use Rattle.tables.specs.Sets.{granted_at}
 use Rattle.tables.specs.Laws.World.{types-most}
-use borrow.Author.Rules.{rules}
 use Rattle.filter_matchable.proofs.matchable.type_matchable.Goals as goal
 
 pub in_word-requires : goal.in_word-requires

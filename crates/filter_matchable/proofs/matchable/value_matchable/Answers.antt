@@ -10,7 +10,6 @@ use Rattle.tables.specs.Book.{schema}
 use Rattle.tables.specs.Held.{rank_at, bytes_at, type_at}
 use Rattle.tables.specs.Sets.{granted_at}
 use Rattle.tables.specs.Laws.World.{rows-within, rank-within, bytes-within}
-use borrow.Author.Rules.{rules}
 use Rattle.filter_matchable.proofs.matchable.value_matchable.Goals as goal
 
 pub offset_bounds-held-i : goal.offset_bounds-held-i

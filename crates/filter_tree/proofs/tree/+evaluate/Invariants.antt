@@ -14,10 +14,7 @@ use Rattle.filter_tree.proofs.tree.+evaluate.Given as goal
 abbrev pub decreases-evaluate : goal.decreases-evaluate
 decreases-evaluate l = l.depth
 
-abbrev pub invariant-loop-left : goal.invariant-loop-left
-invariant-loop-left l =
+abbrev pub invariant-loop-i : goal.invariant-loop-i
+invariant-loop-i l =
     (l.next ≤ l.lines) × ((w : ℕ) (q : Bytes) (m : Assertion → Truth) → LinesNoted w q l.rows l.lines → Truths m q l.rows l.lines l.lines l.truths
-    → parts_from (join_by l.edition l.conjunction) (evaluate_lines l.edition m (l.depth - 1)) l.left l.truth (lines_at w q (position_at l.rows l.next)) ≡ evaluate_lines l.edition m l.depth (lines_at w q (position_at l.rows l.k)))
-
-abbrev pub decreases-loop-left : goal.decreases-loop-left
-decreases-loop-left l = l.left
+    → parts_from (join_by l.edition l.conjunction) (evaluate_lines l.edition m (l.depth - 1)) (l.parts - l._i) l.truth (lines_at w q (position_at l.rows l.next)) ≡ evaluate_lines l.edition m l.depth (lines_at w q (position_at l.rows l.k)))

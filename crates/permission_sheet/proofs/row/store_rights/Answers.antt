@@ -4,7 +4,6 @@ use native.Mathlib.Omega.{arith}
 use Rattle.permission_sheet.specs.Rows.{rights_row}
 use Rattle.permission_sheet.specs.Laws.Rows.{put-stored}
 use Rattle.permission_weight.specs.Laws.{weight-small}
-use borrow.Author.Rules.{rules}
 use Rattle.permission_sheet.proofs.row.store_rights.Goals as goal
 
 pub score-requires : goal.score-requires

@@ -1,7 +1,6 @@
 -- The stores, one after the other, are the row in its place.
 use Prim.Native.Nat.{◌*◌}
 use native.Mathlib.Omega.{arith}
-use borrow.Author.Rules.{rules}
 use Rattle.permission_sheet.specs.Rows.{scopes_row}
 use Rattle.permission_sheet.specs.Laws.Rows.{put-stored}
 use Rattle.permission_sheet.proofs.row.store_scopes.Goals as goal

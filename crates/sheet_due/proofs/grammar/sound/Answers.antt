@@ -1,5 +1,4 @@
 -- By the sheet.
-use borrow.Author.Rules.{rules}
 use Rattle.sheet_due.proofs.grammar.sound.Goals as goal
 
 pub returns-in-Permissions : goal.returns-in-Permissions

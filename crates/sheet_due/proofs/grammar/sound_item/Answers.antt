@@ -3,7 +3,6 @@ use mathlib.Core.Path.{sym, ap, ◌∙◌}
 use borrow.Author.Tests.{eq-eqb, ne_eqb, lt-ltb, le-ltb}
 use Rattle.rules.specs.Name.{allowed}
 use Rattle.rules.specs.Permission.{sound_item, sound_target}
-use borrow.Author.Rules.{rules}
 use Rattle.sheet_due.proofs.grammar.sound_item.Goals as goal
 
 pub returns-then-line-lt-ONE_TYPE : goal.returns-then-line-lt-ONE_TYPE

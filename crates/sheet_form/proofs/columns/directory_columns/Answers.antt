@@ -5,7 +5,6 @@ use Rattle.rules.specs.Columns.{directory_forms}
 use Rattle.sheet_kind.specs.Laws.Kinds.{is-kind}
 use Rattle.sheet_form.specs.Columns.{in_form_of}
 use Rattle.sheet_form.specs.Laws.Columns.{one_form}
-use borrow.Author.Rules.{rules}
 use Rattle.sheet_form.proofs.columns.directory_columns.Goals as goal
 
 pub returns-then-is : goal.returns-then-is

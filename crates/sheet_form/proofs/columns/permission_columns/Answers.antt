@@ -1,19 +1,9 @@
 -- A kind of the sheet has its row; any other kind is the number of none of the forms.
-use Prim.Native.Nat.{ℕ}
-use mathlib.Core.Path.{◌≡◌, refl, sym, ap, subst, ◌∙◌}
-use mathlib.Core.Bool.{false, not}
-use mathlib.Core.List.{List, [], ◌∷◌}
+use mathlib.Core.Path.{refl, sym, ◌∙◌}
 use native.Mathlib.Omega.{arith}
-use lib.Dec.{T, eqb}
-use mir.Val.{has_key}
-use types.Run.{OneOf, miss}
-use denote.Enum.Declared.{tag_of}
-use borrow.Author.Tests.{ne_eqb}
 use Rattle.rules.specs.Columns.{permission_forms}
-use Rattle.sheet_kind.specs.declared.Kind.{Kind}
 use Rattle.sheet_kind.specs.Kinds.{kind_of}
 use Rattle.sheet_kind.specs.Laws.Kinds.{kind-is}
-use Rattle.sheet_kind.specs.contracts.Kind.{the_type}
 use Rattle.sheet_form.specs.Columns.{in_form_of}
 use Rattle.sheet_form.specs.Laws.Columns.{one_form}
 use borrow.Author.Rules.{rules}

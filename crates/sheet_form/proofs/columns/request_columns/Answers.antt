@@ -16,7 +16,6 @@ use Rattle.sheet_kind.specs.Laws.Kinds.{kind-is}
 use Rattle.sheet_kind.specs.contracts.Kind.{the_type}
 use Rattle.sheet_form.specs.Columns.{in_form_of}
 use Rattle.sheet_form.specs.Laws.Columns.{one_form}
-use borrow.Author.Rules.{rules}
 use Rattle.sheet_form.proofs.columns.request_columns.Goals as goal
 
 abbrev others : List ℕ

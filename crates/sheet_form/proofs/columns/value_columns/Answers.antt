@@ -4,7 +4,6 @@ use native.Mathlib.Omega.{arith}
 use Rattle.rules.specs.Columns.{directory_forms}
 use Rattle.sheet_form.specs.Columns.{in_form_of}
 use Rattle.sheet_form.specs.Laws.Columns.{one_form}
-use borrow.Author.Rules.{rules}
 use Rattle.sheet_form.proofs.columns.value_columns.Goals as goal
 
 pub returns : goal.returns

@@ -2,7 +2,6 @@
 use mathlib.Core.Path.{sym, ◌∙◌}
 use Rattle.value_blank.specs.Laws.Text.{text-within}
 use Rattle.value_syntax.specs.Laws.Digest.{digest-tidy, digest-tidied}
-use borrow.Author.Rules.{rules}
 use Rattle.value_syntax.proofs.digest.digest.Goals as goal
 
 pub returns-then-tidy : goal.returns-then-tidy

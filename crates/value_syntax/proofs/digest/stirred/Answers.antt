@@ -1,6 +1,5 @@
 use mathlib.Core.Path.{refl}
 use Rattle.value_syntax.specs.Digest.{stirred}
-use borrow.Author.Rules.{rules}
 use Rattle.value_syntax.proofs.digest.stirred.Goals as goal
 
 pub returns : goal.returns

@@ -2,7 +2,6 @@
 use Prim.Native.Nat.{◌<◌}
 use native.Mathlib.Omega.{arith}
 use Rattle.value_syntax.specs.Laws.Digest.{word-at-once, word_bound}
-use borrow.Author.Rules.{rules}
 use Rattle.value_syntax.proofs.digest.word.Goals as goal
 
 pub returns : goal.returns

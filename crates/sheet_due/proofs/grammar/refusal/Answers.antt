@@ -1,9 +1,0 @@
--- By the sheet.
-use borrow.Author.Rules.{rules}
-use Rattle.sheet_due.proofs.grammar.refusal.Goals as goal
-
-pub returns-in-Permissions : goal.returns-in-Permissions
-returns-in-Permissions c = rw c.in-Permissions.is
-
-pub returns-in-Request : goal.returns-in-Request
-returns-in-Request c = rw c.in-Request.is
