@@ -52,7 +52,7 @@ def statements(root):
             i += 1
             if is_comment(line):
                 continue
-            opened = re.match(r"^(\s*)(pub )?(record|data) (\S+)(.*)$", line)
+            opened = re.match(r"^(\s*)(pub )?(record|data) ([^\s{]+)(.*)$", line)
             if opened:
                 body = [line.split(" --")[0]]
                 while i < len(lines) and (not lines[i].strip() or depth(lines[i]) > depth(line)):
