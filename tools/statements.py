@@ -1,6 +1,7 @@
 #!/usr/bin/env python3
 """statements.py OLD NEW: what differs between two checkouts in the functions, types and constants of src/ and in the statements of specs/ and proofs/,
-old and new side by side, as Markdown. Goals of functions, in proof files, are left out."""
+old and new side by side, as Markdown. A statement begins with the parameters
+of the modules around it. Goals of functions, in proof files, are left out."""
 import collections
 import os
 import re
@@ -14,7 +15,7 @@ FUNCTION = re.compile(
 )
 TYPE = re.compile(r"^((?:#\[[^\n]*\n)*)(pub(?:\(crate\))? )?(struct|enum) (\w+)[^{;]*\{(.*?)^\}", re.M | re.S)
 CONSTANT = re.compile(r"^\s*((?:pub(?:\(crate\))? )?const (\w+): [^;]*;)", re.M)
-GOES_ON = ("→", "×", "≡", "∙", "⊎", "++", "(")
+MODULE = re.compile(r"^\s*module _ (.*)$")
 
 
 def files(root, ending, folders):
@@ -47,10 +48,20 @@ def statements(root):
     for crate, path, inside in files(root, ".antt", ["specs", "proofs"]):
         lines = open(path).read().split("\n")
         i = 0
+        modules = []
         while i < len(lines):
             line = lines[i]
             i += 1
-            if is_comment(line):
+            if is_comment(line) or not line.strip():
+                continue
+            modules = [it for it in modules if it[0] < depth(line)]
+            opens = MODULE.match(line)
+            if opens:
+                head = opens.group(1)
+                while not head.rstrip().endswith("where"):
+                    head += " " + lines[i].strip()
+                    i += 1
+                modules.append((depth(line), one_line(head.rstrip()[: -len("where")])))
                 continue
             opened = re.match(r"^(\s*)(pub )?(record|data) ([^\s{]+)(.*)$", line)
             if opened:
@@ -65,8 +76,9 @@ def statements(root):
             if not said or "{" in said.group(3) or line.strip().startswith(("use ", "module", "let ", "ruleset")):
                 continue
             kind, name, body = said.group(2).strip(), said.group(3), [said.group(4) + " " + said.group(5)]
-            while i < len(lines) and depth(lines[i]) > depth(line) and lines[i].strip().startswith(GOES_ON):
-                body.append(lines[i].strip())
+            while i < len(lines) and lines[i].strip() and depth(lines[i]) > depth(line):
+                if not is_comment(lines[i]):
+                    body.append(lines[i].strip())
                 i += 1
             if "goal." in body[0] and inside.startswith("proofs"):
                 continue
@@ -77,7 +89,7 @@ def statements(root):
                         break
                     if not is_comment(after) and not after.strip().startswith("unfolding"):
                         equations.append(after.strip())
-            found[crate, inside, name] = one_line(" ".join(body)) + (" := " + one_line(" ".join(equations)) if equations else "")
+            found[crate, inside, name] = one_line(" ".join([it[1] + " →" for it in modules] + body)) + (" := " + one_line(" ".join(equations)) if equations else "")
     return found
 
 

@@ -35,6 +35,11 @@ end_number (Taken.Line x) lacks = 2
 end_number Taken.NotInForm lacks = 2
 end_number Taken.End lacks = cond lacks 6 0
 
+-- the notes, or the refusal
+abbrev pub with_notes : Result (Unit {0}) Refusal → Notes → Result Notes Refusal
+with_notes (Ok u) notes = Ok notes
+with_notes (Err e) notes = Err e
+
 -- the answer of the entries; with a refusal the table is still to be emptied
 abbrev pub EntriesJudged : Format → Bytes → Result Notes Refusal → List ℕ → Type 0
 EntriesJudged f s (Ok x) held = DirectoryJudged f s (Ok x) held

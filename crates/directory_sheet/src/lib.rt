@@ -8,7 +8,7 @@ ghost use Rattle.rules.specs.Sheet.{Usable};
 ghost use Rattle.tables.specs.Held.{none_held};
 ghost use Rattle.rules.specs.Refusals.{refusal_in};
 ghost use Rattle.directory_sheet.specs.Judged.{nothing_noted, DirectoryJudged};
-ghost use Rattle.directory_sheet.specs.Entries.{Opened, end_number, EntriesJudged};
+ghost use Rattle.directory_sheet.specs.Entries.{Opened, end_number, EntriesJudged, with_notes};
 
 use directory_duplicates::MARKS;
 use directory_entry::DEPTHS;
@@ -77,20 +77,20 @@ fn level(above: usize, alias: bool) -> usize
     above + 1
 }
 
-// The entries, from the line `first` at `from` on. With a refusal, rows are left in `held`.
+// The entries, from the line `first` at `from` on. They are noted where the notes stand: some 12,800 bytes are not copied. With a refusal, what was
+// noted before it is left in `notes` and `held`.
 fn entries(
     s: &[u8],
     f: Format,
     schema: &[u64],
-    begun: Notes,
     from: usize,
     first: Taken,
+    notes: &mut Notes,
     held: &mut [u64; HELD],
-) -> Result<Notes, Refusal>
-    requires { Opened f s.now schema.now begun held.old from first }
-    ensures { EntriesJudged f s.now result held.new }
+) -> Result<(), Refusal>
+    requires { Opened f s.now schema.now notes.old held.old from first }
+    ensures { EntriesJudged f s.now (with_notes result notes.new) held.new }
 {
-    let mut notes = begun;
     let mut depths: [usize; DEPTHS] = [0; DEPTHS];
     let mut marks: [usize; MARKS] = [0; MARKS];
     let mut n: usize = 0;
@@ -100,7 +100,7 @@ fn entries(
     loop {
         let Taken::Line(line) = taken else {
             ended(taken, lacks)?;
-            return Ok(notes);
+            return Ok(());
         };
         let count = notes.count;
         let x = directory_entry::entry_line(s, f.top, schema, &depths, &marks, count, lacks, line)?;
@@ -152,8 +152,8 @@ pub fn judge(s: &[u8], f: Format, held: &mut [u64; HELD]) -> Result<Notes, Refus
     notes.types = types;
     notes.schema = schema;
     let taken = t.taken;
-    match entries(s, f, &schema[0..types], notes, t.at, taken, held) {
-        Ok(notes) => Ok(notes),
+    match entries(s, f, &schema[0..types], t.at, taken, &mut notes, held) {
+        Ok(()) => Ok(notes),
         Err(refusal) => {
             *held = [0; HELD];
             Err(refusal)

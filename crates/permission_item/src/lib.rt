@@ -29,13 +29,15 @@ pub fn item_at(p: &[u8], f: Format, schema: &[u64], at: usize) -> Result<ItemLin
     ensures { Gives result (item_refusal f p.now (schema_of schema.now) at) (item_lines f p.now (schema_of schema.now) at) }
 {
     let g = Grammar::Permissions;
-    let head = Reader::new(p, at).due(f, g, schema, Kind::Item)?;
-    let base = head.rest.group(f, g, schema, Kind::Base, Kind::NamePart)?;
+    let head = Reader::new(p, at).due(f, g, schema, Ok(()), Kind::Item)?;
+    let base = head
+        .rest
+        .group(f, g, schema, Ok(()), Kind::Base, Kind::NamePart)?;
     let user = base
         .rest
-        .group(f, g, schema, Kind::UserClass, Kind::NamePart)?;
-    let target = user.rest.due(f, g, schema, Kind::ProtectedItem)?;
-    let mask = target.rest.due(f, g, schema, Kind::Permissions)?;
+        .group(f, g, schema, Ok(()), Kind::UserClass, Kind::NamePart)?;
+    let target = user.rest.due(f, g, schema, Ok(()), Kind::ProtectedItem)?;
+    let mask = target.rest.due(f, g, schema, Ok(()), Kind::Permissions)?;
     Ok(ItemLines {
         head: head.line,
         base: base.line,

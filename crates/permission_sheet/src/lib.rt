@@ -64,7 +64,7 @@ fn misplaced_at(p: &[u8], f: Format, schema: &[u64], at: usize) -> Refusal
     requires { Usable f }
     ensures { refusal_number result ≡ misplaced_by 10 (seen_at (permission_forms f.top) f.width p.now at) }
 {
-    match due_at(p, f, Grammar::Permissions, schema, at, Kind::Item) {
+    match due_at(p, f, Grammar::Permissions, schema, Ok(at), Kind::Item) {
         Ok(_) => Refusal::PermissionsOutOfOrder,
         Err(refusal) => refusal,
     }

@@ -47,7 +47,7 @@ fn read_at(q: &[u8], f: Format, at: usize) -> Result<Body, Refusal>
         f,
         Grammar::Request,
         &[],
-        at,
+        Ok(at),
         Kind::Selection,
         Kind::SelectedType,
     )?;
@@ -65,7 +65,7 @@ fn compare_at(q: &[u8], f: Format, at: usize) -> Result<Body, Refusal>
     requires { Usable f }
     ensures { let b = compare_at (request_grammar f.top) f.width q.now at in Gives result b.refusal b.body }
 {
-    let assertion = due_at(q, f, Grammar::Request, &[], at, Kind::Assertion)?;
+    let assertion = due_at(q, f, Grammar::Request, &[], Ok(at), Kind::Assertion)?;
     Ok(Body {
         selection: no_line(),
         assertion,
@@ -93,14 +93,14 @@ fn search_lines(q: &[u8], f: Format, at: usize) -> Result<SearchLines, Refusal>
     requires { Usable f }
     ensures { let x = search_lines_at (request_grammar f.top) f.width q.now (reached_at at) in Gives result x.subset.refusal (record { ordering = x.ordering; subset = x.subset.line }) }
 {
-    match due_at(q, f, Grammar::Request, &[], at, Kind::Subset) {
+    match due_at(q, f, Grammar::Request, &[], Ok(at), Kind::Subset) {
         Ok(subset) => Ok(SearchLines {
             ordering: no_line(),
             subset,
         }),
         Err(_) => {
-            let ordering = due_at(q, f, Grammar::Request, &[], at, Kind::Ordering)?;
-            let subset = due_at(q, f, Grammar::Request, &[], ordering.next, Kind::Subset)?;
+            let ordering = due_at(q, f, Grammar::Request, &[], Ok(at), Kind::Ordering)?;
+            let subset = due_at(q, f, Grammar::Request, &[], Ok(ordering.next), Kind::Subset)?;
             Ok(SearchLines { ordering, subset })
         }
     }
@@ -116,7 +116,7 @@ fn search_at(q: &[u8], f: Format, at: usize) -> Result<Body, Refusal>
         f,
         Grammar::Request,
         &[],
-        at,
+        Ok(at),
         Kind::Selection,
         Kind::SelectedType,
     )?;

@@ -106,13 +106,13 @@ fn asked_of(q: &[u8], f: Format) -> Result<Asked, Refusal>
         return Err(Refusal::RequestTooLong);
     }
     let g = Grammar::Request;
-    let requester = group_at(q, f, g, &[], 0, Kind::Requester, Kind::NamePart)?;
+    let requester = group_at(q, f, g, &[], Ok(0), Kind::Requester, Kind::NamePart)?;
     let base = group_at(
         q,
         f,
         g,
         &[],
-        requester.next,
+        Ok(requester.next),
         Kind::Operation,
         Kind::NamePart,
     )?;

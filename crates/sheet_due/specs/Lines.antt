@@ -1,9 +1,11 @@
 -- The lines of a sheet that are due one after the other, by positions, as the code finds them: numbers, positions and refusals.
 -- All of it is over a grammar of the rules.
-use Rattle.std.specs.Prelude.{ℕ, zero, suc, ◌+◌, cond, List, eqb}
+use Rattle.std.specs.Prelude.{ℕ, zero, suc, ◌+◌, cond, List, eqb, Result, Ok, Err}
 use Rattle.rules.specs.Sheet.{Bytes}
 use Rattle.rules.specs.Columns.{Form}
 use Rattle.rules.specs.Judge.{Grammar}
+use Rattle.rules.specs.Refusals.{refusal_number}
+use Rattle.rules.specs.declared.refusals.Refusal.{Refusal}
 use Rattle.sheet_form.specs.Columns.{columns_in}
 use Rattle.sheet_line.specs.Line.{taken_at, line_of}
 use Rattle.sheet_line.specs.declared.Line.{Line}
@@ -34,6 +36,11 @@ misplaced_by n Seen.Missing = n + 3
 -- a position, without a refusal
 abbrev pub reached_at : ℕ → Reached
 reached_at at = record { refusal = 0; next = at }
+
+-- a position, or the refusal that came before
+abbrev pub reached_in : Result ℕ Refusal → Reached
+reached_in (Ok at) = reached_at at
+reached_in (Err r) = record { refusal = refusal_number r; next = 0 }
 
 -- no line: all its numbers are 0
 abbrev pub no_line : Line

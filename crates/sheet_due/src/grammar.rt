@@ -39,8 +39,24 @@ pub fn in_form(g: Grammar, line: Line, top: u64) -> bool
     }
 }
 
-// The refusal of a fault: 2, 3 or 4 after the sheet's own number. No line of a request is held to the schema: there 4 is the number of a type without order.
-pub fn refusal(g: Grammar, fault: Fault) -> Refusal
+// The numbers that the refusals of the two sheets begin after.
+pub const PERMISSIONS: u64 = 10;
+
+pub const REQUEST: u64 = 20;
+
+// The refusal number of a fault: 2, 3 or 4 after the sheet's own number.
+pub fn refusal(g: Grammar, fault: u64) -> u64
+    requires { fault ≤ 4 }
+    ensures { result ≡ refusals_of g + fault }
+{
+    match g {
+        Grammar::Permissions => PERMISSIONS + fault,
+        Grammar::Request => REQUEST + fault,
+    }
+}
+
+// The refusal of that number. No line of a request is held to the schema: there 4 is the number of a type without order.
+pub fn refused(g: Grammar, fault: Fault) -> Refusal
     ensures { refusal_number result ≡ refusals_of g + fault_number fault }
 {
     match g {

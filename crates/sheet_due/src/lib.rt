@@ -1,5 +1,5 @@
 // The lines of a permission sheet or a request, taken where they are due: one line, some of one kind, and a line with the lines
-// that it counts. After a refusal no line is read. The lines of a request are judged without a schema.
+// that it counts. A refusal is handed on: after it no line is read. The lines of a request are judged without a schema.
 #![tactic(auto)]
 
 pub mod grammar;
@@ -13,9 +13,9 @@ ghost use Rattle.sheet_kind.specs.Kinds.{number_of};
 ghost use Rattle.sheet_line.specs.Line.{taken_at};
 ghost use Rattle.sheet_due.specs.Grammars.{grammar_of};
 ghost use Rattle.sheet_due.specs.Outcomes.{Gives};
-ghost use Rattle.sheet_due.specs.Lines.{seen_at, misplaced_by, reached_at, no_line, due_at, lines_due, group_at};
+ghost use Rattle.sheet_due.specs.Lines.{seen_at, misplaced_by, reached_in, no_line, due_at, lines_due, group_at};
 
-use grammar::{Fault, Grammar, in_form, refusal, sound};
+use grammar::{Fault, Grammar, in_form, refused, sound};
 use rules::Format;
 use rules::refusals::Refusal;
 use sheet_form::columns::request_columns;
@@ -95,33 +95,34 @@ pub fn no_line() -> Line
     }
 }
 
-// The line of a kind that is due at a position.
+// The line of a kind that is due at a position, unless there is a refusal already.
 pub fn due_at(
     s: &[u8],
     f: Format,
     g: Grammar,
     schema: &[u64],
-    at: usize,
+    from: Result<usize, Refusal>,
     kind: Kind,
 ) -> Result<Line, Refusal>
     requires { Usable f }
-    ensures { let d = due_at (grammar_of f.top (schema_of schema.now) g) f.width s.now (reached_at at) (number_of kind) in Gives result d.refusal d.line }
+    ensures { let d = due_at (grammar_of f.top (schema_of schema.now) g) f.width s.now (reached_in from) (number_of kind) in Gives result d.refusal d.line }
 {
+    let at = from?;
     match taken_at(s, at, f.width) {
         Taken::Line(line) => {
             if !in_form(g, line, f.top) {
-                return Err(refusal(g, Fault::NotAllowed));
+                return Err(refused(g, Fault::NotAllowed));
             }
             if !is(line.kind, kind) {
-                return Err(refusal(g, Fault::OutOfOrder));
+                return Err(refused(g, Fault::OutOfOrder));
             }
             if sound(s, schema, g, line) {
                 return Ok(line);
             }
-            Err(refusal(g, Fault::OutsideSchema))
+            Err(refused(g, Fault::OutsideSchema))
         }
-        Taken::NotInForm => Err(refusal(g, Fault::NotAllowed)),
-        Taken::End => Err(refusal(g, Fault::OutOfOrder)),
+        Taken::NotInForm => Err(refused(g, Fault::NotAllowed)),
+        Taken::End => Err(refused(g, Fault::OutOfOrder)),
     }
 }
 
@@ -131,16 +132,17 @@ pub fn lines_due(
     f: Format,
     g: Grammar,
     schema: &[u64],
-    at: usize,
+    from: Result<usize, Refusal>,
     kind: Kind,
     count: u64,
 ) -> Result<usize, Refusal>
     requires { Usable f }
-    ensures { let r = lines_due (grammar_of f.top (schema_of schema.now) g) f.width s.now (number_of kind) count (reached_at at) in Gives result r.refusal r.next }
+    ensures { let r = lines_due (grammar_of f.top (schema_of schema.now) g) f.width s.now (number_of kind) count (reached_in from) in Gives result r.refusal r.next }
 {
-    let mut pos = at;
+    let start = from?;
+    let mut pos = start;
     for _ in 0..count {
-        pos = due_at(s, f, g, schema, pos, kind)?.next;
+        pos = due_at(s, f, g, schema, Ok(pos), kind)?.next;
     }
     Ok(pos)
 }
@@ -151,14 +153,14 @@ pub fn group_at(
     f: Format,
     g: Grammar,
     schema: &[u64],
-    at: usize,
+    from: Result<usize, Refusal>,
     kind: Kind,
     part: Kind,
 ) -> Result<Group, Refusal>
     requires { Usable f }
-    ensures { let x = group_at (grammar_of f.top (schema_of schema.now) g) f.width s.now (reached_at at) (number_of kind) (number_of part) in Gives result x.refusal (record { line = x.line; next = x.next }) }
+    ensures { let x = group_at (grammar_of f.top (schema_of schema.now) g) f.width s.now (reached_in from) (number_of kind) (number_of part) in Gives result x.refusal (record { line = x.line; next = x.next }) }
 {
-    let line = due_at(s, f, g, schema, at, kind)?;
-    let next = lines_due(s, f, g, schema, line.next, part, line.b)?;
+    let line = due_at(s, f, g, schema, from, kind)?;
+    let next = lines_due(s, f, g, schema, Ok(line.next), part, line.b)?;
     Ok(Group { line, next })
 }

@@ -5,6 +5,7 @@
 ghost use Rattle.std.specs.Prelude.{◌≡◌};
 ghost use Rattle.rules.specs.Sheet.{Usable};
 ghost use Rattle.rules.specs.Places.{schema_of};
+ghost use Rattle.rules.specs.Refusals.{refusal_in};
 ghost use Rattle.sheet_kind.specs.Kinds.{number_of};
 ghost use Rattle.sheet_due.specs.Grammars.{grammar_of};
 ghost use Rattle.sheet_reader.specs.Advances.{Reads, reader_at, due_advance, group_advance};
@@ -38,18 +39,19 @@ impl<'a> Reader<'a> {
         Reader { sheet, at }
     }
 
-    // The line of a kind that is due at the reader's position.
+    // The line of a kind that is due at the reader's position, unless there is a refusal already.
     pub fn due(
         self,
         f: Format,
         g: Grammar,
         schema: &[u64],
+        before: Result<(), Refusal>,
         kind: Kind,
     ) -> Result<Advance<'a>, Refusal>
         requires { Usable f }
-        ensures { Reads result (due_advance (grammar_of f.top (schema_of schema.now) g) f.width self.entry 0 (number_of kind)) }
+        ensures { Reads result (due_advance (grammar_of f.top (schema_of schema.now) g) f.width self.entry (refusal_in before) (number_of kind)) }
     {
-        let line = due_at(self.sheet, f, g, schema, self.at, kind)?;
+        let line = due_at(self.sheet, f, g, schema, before.and(Ok(self.at)), kind)?;
         Ok(Advance {
             line,
             rest: Reader {
@@ -65,13 +67,22 @@ impl<'a> Reader<'a> {
         f: Format,
         g: Grammar,
         schema: &[u64],
+        before: Result<(), Refusal>,
         kind: Kind,
         part: Kind,
     ) -> Result<Advance<'a>, Refusal>
         requires { Usable f }
-        ensures { Reads result (group_advance (grammar_of f.top (schema_of schema.now) g) f.width self.entry 0 (number_of kind) (number_of part)) }
+        ensures { Reads result (group_advance (grammar_of f.top (schema_of schema.now) g) f.width self.entry (refusal_in before) (number_of kind) (number_of part)) }
     {
-        let group = group_at(self.sheet, f, g, schema, self.at, kind, part)?;
+        let group = group_at(
+            self.sheet,
+            f,
+            g,
+            schema,
+            before.and(Ok(self.at)),
+            kind,
+            part,
+        )?;
         Ok(Advance {
             line: group.line,
             rest: Reader {

@@ -19,13 +19,14 @@ fn four_spaces(out: &mut [u8], at: usize)
     out[at] = 32;
 }
 
-// Spaces in the `w` bytes from `at` on.
+// Spaces in the `w` bytes from `at` on, one by one: for so few a call of the library's `fill` takes longer.
 fn single_spaces(out: &mut [u8], at: usize, w: usize)
     requires { at + w ≤ length out.old }
     ensures { out.new ≡ put_at out.old at (leading w 0) }
 {
-    let end = at + w;
-    out[at..end].fill(32);
+    for i in (0..w).rev() {
+        out[at + i] = 32;
+    }
 }
 
 // Spaces in the `w` bytes from `at` on. In columns of six bytes most often five or four are due.
@@ -71,13 +72,14 @@ fn put_column(out: &mut [u8], at: usize, w: usize, n: u64)
     put_leading(out, at, i, n / 10);
 }
 
-// `src` from `at` on.
+// `src` from `at` on, byte by byte: most values are short, and a call of the library's `copy_from_slice` takes longer.
 fn put(out: &mut [u8], at: usize, src: &[u8])
     requires { at + length src.now ≤ length out.old }
     ensures { out.new ≡ put_at out.old at src.now }
 {
-    let end = at + src.len();
-    out[at..end].copy_from_slice(src);
+    for (i, byte) in src.iter().enumerate() {
+        out[at + i] = *byte;
+    }
 }
 
 // The five columns of a line; the position after them is returned.

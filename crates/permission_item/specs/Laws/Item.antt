@@ -41,6 +41,14 @@ pub record TookItem (f : Format) (p : Bytes) (i : ItemLines) : Type 0 where
   pub value-within : i.target.place + i.target.length ≤ length p
   pub permissions : (1 ≤ i.mask.a) × (i.mask.a ≤ 63)
 
+-- the lines as a reader goes through them, each with the refusal of the one before
+pub lines_are : (f : Format) (s : Bor (List ℕ)) (S : Schema) (at : ℕ) {r : Reader} {x y z t m : Advance} → let G = permission_grammar f.top S in let w = f.width in
+    r ≡ reader_at s at → x ≡ due_advance G w r 0 4 → y ≡ group_advance G w x.rest x.refusal 5 9 → z ≡ group_advance G w y.rest y.refusal 6 9
+    → t ≡ due_advance G w z.rest z.refusal 7 → m ≡ due_advance G w t.rest t.refusal 8
+    → (m.refusal ≡ item_refusal f s.now S at) × (record { head = x.line; base = y.line; user = z.line; target = t.line; mask = m.line } ≡ item_lines f s.now S at)
+unfolding item_refusal item_lines
+lines_are f s S at er ex ey ez et em = (rw (em, et, ez, ey, ex, er), rw (em, et, ez, ey, ex, er))
+
 module _ (f : Format) (p : Bytes) (S : Schema) (at : ℕ) where
   abbrev G : Grammar
   G = permission_grammar f.top S

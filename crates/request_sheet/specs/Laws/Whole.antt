@@ -27,7 +27,7 @@ use Rattle.request_sheet.specs.Laws.Bounds.{Bounds, request-bounds}
 use Rattle.request_sheet.specs.Laws.Operations.{Leads, body-leads}
 
 -- `RequestJudged`, of any verdict and of a refusal's number
-abbrev Meets : Grammar → ℕ → Bytes → Verdict Request → Result Asked ℕ → Type 0
+abbrev pub Meets : Grammar → ℕ → Bytes → Verdict Request → Result Asked ℕ → Type 0
 Meets G w q v (Ok a) = (x : Request) × (v ≡ accept x) × RequestNoted G w q x a
 Meets G w q v (Err n) = v ≡ refuse n
 
@@ -149,8 +149,11 @@ judged_by : (f : Format) (S : Schema) (q : Bytes) (r : Result Asked Refusal) →
 judged_by f S q (Ok a) m = m
 judged_by f S q (Err n) m = m
 
-pub asked-judged : (f : Format) (S : Schema) (q : Bytes) (r : Result Asked Refusal) → numbered r ≡ ordered_of S (asked_of (request_grammar f.top) f.width q) → RequestJudged f S q r
+-- the definitions of the code are the rules, whatever they come to
+pub asked-meets : (f : Format) (S : Schema) (q : Bytes) → Meets (request_grammar f.top) f.width q (request_of f S q) (ordered_of S (asked_of (request_grammar f.top) f.width q))
 unfolding asked_of request_of
-asked-judged f S q r e =
-    judged_by f S q r
-    (rw e (ordered-meets (request_grammar f.top) (request-bounds f.top) f.width q S _ (asked_of (request_grammar f.top) f.width q) (asked_by_lem (request_grammar f.top) (request-bounds f.top) f.width q (ltb 8192 (length q)) refl)))
+asked-meets f S q =
+    ordered-meets (request_grammar f.top) (request-bounds f.top) f.width q S _ (asked_of (request_grammar f.top) f.width q) (asked_by_lem (request_grammar f.top) (request-bounds f.top) f.width q (ltb 8192 (length q)) refl)
+
+pub asked-judged : (f : Format) (S : Schema) (q : Bytes) (r : Result Asked Refusal) → numbered r ≡ ordered_of S (asked_of (request_grammar f.top) f.width q) → RequestJudged f S q r
+asked-judged f S q r e = judged_by f S q r (rw e (asked-meets f S q))

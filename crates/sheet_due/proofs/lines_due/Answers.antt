@@ -9,13 +9,19 @@ use Rattle.sheet_due.specs.Grammars.{grammar_of}
 use Rattle.sheet_due.specs.Outcomes.{Reached}
 use Rattle.sheet_due.specs.Lines.{reached_at}
 use Rattle.sheet_due.specs.Laws.Lines.{lines_none}
-use Rattle.sheet_due.specs.Laws.Outcomes.{lines-taken, lines-refused}
+use Rattle.sheet_due.specs.Laws.Outcomes.{lines-handed, lines-taken, lines-refused}
 use Rattle.sheet_due.proofs.lines_due.Goals as goal
+
+pub returns-in_err-start : goal.returns-in_err-start
+returns-in_err-start c =
+    let A = c.args in
+    let p = err_from_is_err_and c.from_residual.result c.from_residual.ensures.1 in
+    rw (p.1, p.2, c.in_err-start.was) (lines-handed (grammar_of A.f.top (schema_of A.schema.now) A.g) A.f.width A.s.now (number_of A.kind) A.count c.in_err-start.field-0.0)
 
 pub returns-in_err-pos : goal.returns-in_err-pos
 returns-in_err-pos c =
     let A = c.args in
-    let p = err_from_is_err_and c.from_residual.result c.from_residual.ensures.1 in
+    let p = err_from_is_err_and c.from_residual-in_err-pos.result c.from_residual-in_err-pos.ensures.1 in
     rw (p.1, p.2) (lines-refused (grammar_of A.f.top (schema_of A.schema.now) A.g) A.f.width A.s.now (number_of A.kind) c.loop.pos A.count c.loop.counter c.loop-test.true _ c.in_err-pos.ensures ∙ ap (λ (r : Reached). r.refusal) c.loop.invariant)
 
 pub loop-preserved : goal.loop-preserved

@@ -1,17 +1,18 @@
--- A part of the buffer is filled with spaces.
-use Rattle.std.proofs.Common.{◌≡◌, ◌+◌, ◌-◌, ◌≤◌, ◌∙◌, sym, arith, rules, replicate, length, drop, length-drop, length-take-le}
-use Rattle.std.proofs.lemmas.Slice.{put_mid-paste}
-use Rattle.rules.proofs.Laws.Sheet.{leading_length}
-use Rattle.sheet_write.specs.Laws.Put.{put-done, leading-none}
+-- One space more from the right.
+use mathlib.Core.Path.{sym, ◌∙◌}
+use native.Mathlib.Omega.{arith}
+use lib.ListN.{length-set}
+use Rattle.sheet_write.specs.Laws.Put.{column-on, column-done}
+use borrow.Author.Rules.{rules}
 use Rattle.sheet_write.proofs.single_spaces.Goals as goal
+
+pub loop-i-preserved : goal.loop-i-preserved
+loop-i-preserved c =
+    let A = c.args in
+    let L = c.loop-i in
+    (search rules, simp length-set L.invariant.1, column-on L.out A.at L.i 0 c.loop-i-test.true (omega arith) ∙ L.invariant.2)
 
 pub returns : goal.returns
 returns c =
-    let A = c.args in
-    let k = A.at + A.w - A.at in
-    let e : k ≡ A.w = omega arith in
-    let h : k ≤ length (drop A.at A.out.now) = rw (length-drop A.at A.out.now) (omega arith) in
-    let n = leading_length A.w 0 in
-    let filled : c.fill.new.self ≡ replicate k 32 = c.fill.ensures.after (search rules) ∙ rw (length-take-le k (drop A.at A.out.now) h) in
-    put_mid-paste A.at k A.out.now _ _ A.w (filled ∙ rw e (sym (leading-none A.w))) (sym e) (sym n)
-    ∙ put-done A.out.now A.at _ A.w (sym n)
+    let L = c.loop-i in
+    sym (column-done L.out c.args.at L.i 0 c.loop-i-test.false) ∙ L.invariant.2
